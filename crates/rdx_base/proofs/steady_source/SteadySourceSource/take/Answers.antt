@@ -1,0 +1,7 @@
+use Rattle.std.proofs.Common.{arith}
+use Rattle.std.proofs.lemmas.Grind.{common_steps}
+use Rattle.rdx_base.proofs.Moved.{drop-copied}
+use Rattle.rdx_base.proofs.steady_source.SteadySourceSource.take.Goals as goal
+
+pub returns-clause-taken : goal.returns-clause-taken
+returns-clause-taken c = grind (arith, common_steps, drop-copied)
