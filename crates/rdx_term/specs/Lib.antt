@@ -1,0 +1,12 @@
+pub mod Tree
+pub mod Spelling
+pub mod View
+pub mod Items
+pub mod Order
+pub mod OrderLaws
+pub mod Bare
+pub mod Symbols
+pub mod Text
+pub mod Tokens
+pub mod Weights
+pub mod Measures

@@ -1,0 +1,38 @@
+-- The one printed spelling of a tree.
+use Rattle.std.specs.Prelude.{ℕ, ◌==◌, Bool, true, false, List, [], ◌∷◌, ◌++◌, codes, if◌then◌else◌}
+use Rattle.std.specs.Fmt.{signed_decimal}
+use Rattle.rdx_term.specs.Tree.{Tree, hole, integer, truth, text, symbol, list, Trees, nil, cons}
+
+-- one byte of a string: `"` (34), `\` (92), LF (10), TAB (9) and CR (13) as escapes, and all else as it is
+abbrev pub escaped : ℕ → List ℕ
+escaped b =
+    if b == 34 then codes "\\\"" else if b == 92 then codes "\\\\" else if b == 10 then codes "\\n" else if b == 9 then codes "\\t" else if b == 13 then codes "\\r" else b ∷ []
+
+-- the bytes of a string, each so
+abbrev pub all_escaped : List ℕ → List ℕ
+all_escaped [] = []
+all_escaped (b ∷ bs) = escaped b ++ all_escaped bs
+
+abbrev pub truth_text : Bool → List ℕ
+truth_text true = codes "#t"
+truth_text false = codes "#f"
+
+-- The hole as `hole`, integers in decimal, a symbol as its text, a string in quotes, and a list in round brackets; marks are not printed.
+abbrev mutual
+  pub tree_text : Tree → List ℕ
+  tree_text hole = codes "hole"
+  tree_text (integer n) = signed_decimal n
+  tree_text (truth b) = truth_text b
+  tree_text (text s) = codes "\"" ++ all_escaped s ++ codes "\""
+  tree_text (symbol s) = s
+  tree_text (list m ts) = codes "(" ++ trees_text ts ++ codes ")"
+
+  -- the items with one space between two
+  pub trees_text : Trees → List ℕ
+  trees_text nil = []
+  trees_text (cons t ts) = tree_text t ++ spaced_text ts
+
+  -- each with a space before it
+  pub spaced_text : Trees → List ℕ
+  spaced_text nil = []
+  spaced_text (cons t ts) = codes " " ++ tree_text t ++ spaced_text ts

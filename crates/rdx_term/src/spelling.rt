@@ -1,0 +1,108 @@
+// The spelling of symbols and of names.
+ghost use Rattle.std.specs.Prelude.{◌≡◌};
+ghost use Rattle.std.specs.List.{list_any};
+ghost use Rattle.std.specs.Str.{chars};
+ghost use Rattle.rdx_term.specs.Spelling.{
+  ends_token,
+  is_token,
+  is_symbol_quote,
+  begins_with_hash,
+  begins_with_digit,
+  begins_unsigned,
+  begins_number,
+  is_reserved,
+  is_symbol_token,
+  is_name,
+};
+
+// A character before which a token ends.
+fn ends_token(c: char) -> bool
+    ensures { result ≡ ends_token c }
+{
+    c.is_whitespace()
+        || matches!(c, '(' | ')' | '[' | ']' | '{' | '}')
+        || matches!(c, '"' | ',' | '\'' | '`' | ';')
+}
+
+fn has_token_end(text: &str) -> bool
+    ensures { result ≡ list_any ends_token (chars text.now) }
+{
+    text.chars().any(ends_token)
+}
+
+// The whole text is one token.
+fn is_token(text: &str) -> bool
+    ensures { result ≡ is_token text.now }
+{
+    !text.is_empty() && !has_token_end(text)
+}
+
+fn has_symbol_quote(text: &[u8]) -> bool
+    ensures { result ≡ list_any is_symbol_quote text.now }
+{
+    text.iter().any(|byte| *byte == b'|' || *byte == b'\\')
+}
+
+fn begins_with_hash(text: &[u8]) -> bool
+    ensures { result ≡ begins_with_hash text.now }
+{
+    matches!(text, [b'#', ..])
+}
+
+fn begins_with_digit(text: &[u8]) -> bool
+    ensures { result ≡ begins_with_digit text.now }
+{
+    match text {
+        [] => false,
+        [first, ..] => first.is_ascii_digit(),
+    }
+}
+
+// A digit stands first, or a point and then a digit.
+fn begins_unsigned(text: &[u8]) -> bool
+    ensures { result ≡ begins_unsigned text.now }
+{
+    match text {
+        [] => false,
+        [first, others @ ..] => {
+            first.is_ascii_digit() || (*first == b'.' && begins_with_digit(others))
+        }
+    }
+}
+
+// The same, with or without a sign before it.
+fn begins_number(text: &[u8]) -> bool
+    ensures { result ≡ begins_number text.now }
+{
+    match text {
+        [] => false,
+        [first, others @ ..] => {
+            begins_unsigned(text) || ((*first == b'+' || *first == b'-') && begins_unsigned(others))
+        }
+    }
+}
+
+// The single point, and the numbers that are written in letters.
+fn is_reserved(text: &str) -> bool
+    ensures { result ≡ is_reserved text.now }
+{
+    text == "." || text == "+inf.0" || text == "-inf.0" || text == "+nan.0"
+}
+
+// This token is a symbol.
+fn is_symbol_token(text: &str) -> bool
+    ensures { result ≡ is_symbol_token text.now }
+{
+    let bytes = text.as_bytes();
+    !has_symbol_quote(bytes)
+        && !begins_with_hash(bytes)
+        && !begins_number(bytes)
+        && !is_reserved(text)
+}
+
+// One token that is a symbol, and not `hole`.
+pub fn is_name(text: &str) -> bool
+    ensures { result ≡ is_name text.now }
+{
+    is_token(text) && is_symbol_token(text) && text != "hole"
+}
