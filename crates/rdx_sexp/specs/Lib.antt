@@ -1,0 +1,14 @@
+pub mod Sexp
+pub mod SexpCode
+pub mod View
+pub mod Falls
+pub mod Size
+pub mod Text
+pub mod Lexeme
+pub mod Lex
+pub mod Grammar
+pub mod Reads
+pub mod Answers
+pub mod Machine
+pub mod Stack
+pub mod Cursor
