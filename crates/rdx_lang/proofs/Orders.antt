@@ -1,0 +1,18 @@
+-- Where one list of pairs has ended, the lengths decide.
+use Rattle.std.proofs.Common.{◌≡◌, ℕ, zero, suc, ◌≤◌, min, List, [], ◌∷◌, length, drop, refl, arith, nat_cmp}
+use Rattle.std.proofs.lemmas.Bool.Decides.{nat_tests}
+use Rattle.rdx_lang.specs.BindingView.{pairs_of}
+use Rattle.rdx_lang.specs.Order.{binding_cmp}
+use Rattle.rdx_lang.specs.declared.binding.Value.{Value}
+
+pub binding_cmp-ended : (xs ys : List (List ℕ × Value)) (n : ℕ) → n ≤ min (length xs) (length ys) → min (length xs) (length ys) ≤ n
+    → binding_cmp (pairs_of (drop n xs)) (pairs_of (drop n ys)) ≡ nat_cmp (length xs) (length ys)
+binding_cmp-ended [] [] zero h k = refl
+binding_cmp-ended [] (y ∷ ys) zero h k = grind (arith, nat_tests)
+binding_cmp-ended (x ∷ xs) [] zero h k = grind (arith, nat_tests)
+binding_cmp-ended (x ∷ xs) (y ∷ ys) zero h k = absurd (omega arith)
+binding_cmp-ended [] ys (suc n) h k = absurd (omega arith)
+binding_cmp-ended (x ∷ xs) [] (suc n) h k = absurd (omega arith)
+binding_cmp-ended (x ∷ xs) (y ∷ ys) (suc n) h k =
+    let e : binding_cmp (pairs_of (drop n xs)) (pairs_of (drop n ys)) ≡ nat_cmp (length xs) (length ys) = binding_cmp-ended xs ys n (omega arith) (omega arith) in
+    grind (arith, nat_tests)

@@ -1,0 +1,21 @@
+-- The values and bindings that the code's stand for.
+use Rattle.std.specs.Prelude.{ℕ, List, map, Option, Some, None}
+use Rattle.std.specs.Borrow.{Bor}
+use Rattle.rdx_term.specs.View.{tree_of}
+use Rattle.rdx_lang.specs.Bindings.{Value, one, Pair, Binding}
+use Rattle.rdx_lang.specs.declared.binding.Value as code_value
+use Rattle.rdx_lang.specs.declared.binding.Value.TheVariants.{One}
+
+abbrev pub value_of : code_value.Value → Value
+value_of (One t) = one (tree_of t)
+
+abbrev pub pair_of : List ℕ × code_value.Value → Pair
+pair_of p = (p.0, value_of p.1)
+
+abbrev pub pairs_of : List (List ℕ × code_value.Value) → Binding
+pairs_of ps = map pair_of ps
+
+-- what a value found stands for
+abbrev pub found_value : Option (Bor code_value.Value) → Option Value
+found_value None = None
+found_value (Some v) = Some (value_of v.now)

@@ -1,0 +1,34 @@
+-- What names stand for: bindings are finite maps from names to values, ascending by the bytes of the names.
+use Rattle.std.specs.Prelude.{ℕ, List, [], ◌∷◌, Option, Some, None, map, bytes_eq, if◌then◌else◌}
+use Rattle.std.specs.declared.cmp.Ordering.{Ordering}
+use Rattle.std.specs.Ordering.{nat_cmp}
+use Rattle.std.specs.Cmp.Lexicographic.{slice_cmp}
+use Rattle.rdx_term.specs.Tree.{Tree}
+use Rattle.rdx_lang.specs.Ascending.{IsAscending, IsAscending-prop}
+
+pub data Value : Type 0 where
+  one : Tree → Value
+
+abbrev pub Pair : Type 0
+Pair = List ℕ × Value
+
+abbrev pub Binding : Type 0
+Binding = List Pair
+
+-- names in the order of their bytes
+abbrev pub name_cmp : List ℕ → List ℕ → Ordering
+name_cmp = slice_cmp nat_cmp
+
+abbrev pub bound_names : Binding → List (List ℕ)
+bound_names b = map (λ p. p.0) b
+
+abbrev pub HasAscendingNames : Binding → Type 0
+HasAscendingNames b = IsAscending name_cmp (bound_names b)
+
+pub HasAscendingNames-prop : (b : Binding) → IsProp (HasAscendingNames b)
+HasAscendingNames-prop b = IsAscending-prop name_cmp (bound_names b)
+
+-- what a name stands for, if it is bound
+abbrev pub value_at : Binding → List ℕ → Option Value
+value_at [] x = None
+value_at (p ∷ b) x = if bytes_eq p.0 x then Some p.1 else value_at b x

@@ -1,0 +1,11 @@
+-- What checked languages and patterns hold.
+use Rattle.rdx_lang.specs.Patterns.{Pattern, Language}
+use Rattle.rdx_lang.specs.PatternView.{pattern_of, language_of}
+use Rattle.rdx_lang.specs.declared.checked.CheckedLang.{CheckedLang}
+use Rattle.rdx_lang.specs.declared.checked.CheckedPat.{CheckedPat}
+
+abbrev pub language_in : CheckedLang → Language
+language_in c = language_of c.language
+
+abbrev pub pattern_in : CheckedPat → Pattern
+pattern_in c = pattern_of c.pat

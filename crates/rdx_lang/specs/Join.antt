@@ -1,0 +1,11 @@
+-- The join of two bindings: the finite map with exactly the pairs of both. There is one exactly where the names that both bind
+-- have equal values, marks included, since a map gives a name one value.
+use Rattle.std.specs.Prelude.{◌⊎◌}
+use Rattle.rdx_lang.specs.Members.{In}
+use Rattle.rdx_lang.specs.Bindings.{Pair, Binding, HasAscendingNames}
+
+pub record IsJoin (a b c : Binding) : Type 0 where
+  pub map : HasAscendingNames c
+  pub sound : (p : Pair) → In p c → In p a ⊎ In p b
+  pub left : (p : Pair) → In p a → In p c
+  pub right : (p : Pair) → In p b → In p c

@@ -1,0 +1,20 @@
+-- Listings: the strictly ascending list of exactly the members of a set.
+use Rattle.std.specs.Prelude.{List}
+use Rattle.std.specs.declared.cmp.Ordering.{Ordering}
+use Rattle.rdx_term.specs.Tree.{Tree}
+use Rattle.rdx_lang.specs.Members.{In}
+use Rattle.rdx_lang.specs.Ascending.{IsAscending}
+use Rattle.rdx_lang.specs.Bindings.{Binding}
+use Rattle.rdx_lang.specs.Order.{binding_cmp}
+use Rattle.rdx_lang.specs.Patterns.{Pattern, Language}
+use Rattle.rdx_lang.specs.Rules.{Match}
+
+-- in this order, xs ascends, and its members are exactly those of which R holds
+pub record IsListing {A : Type 0} (cmp : A → A → Ordering) (xs : List A) (R : A → Type 0) : Type 0 where
+  pub ascending : IsAscending cmp xs
+  pub sound : (x : A) → In x xs → R x
+  pub complete : (x : A) → R x → In x xs
+
+-- bs lists the bindings by which p matches t in the language L
+abbrev pub Matches : Language → Pattern → Tree → List Binding → Type 0
+Matches L p t bs = IsListing binding_cmp bs (Match L p t)

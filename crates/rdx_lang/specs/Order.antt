@@ -1,0 +1,16 @@
+-- The order of values and of bindings: bindings compare pair by pair, by the bytes of the name and then by the value, a proper
+-- prefix first; values compare as terms do, marks included.
+use Rattle.std.specs.declared.cmp.Ordering.{Ordering}
+use Rattle.std.specs.Ordering.{ordering_then}
+use Rattle.std.specs.Cmp.Lexicographic.{slice_cmp}
+use Rattle.rdx_term.specs.Order.{tree_cmp}
+use Rattle.rdx_lang.specs.Bindings.{Value, one, Pair, Binding, name_cmp}
+
+abbrev pub value_cmp : Value → Value → Ordering
+value_cmp (one t) (one u) = tree_cmp t u
+
+abbrev pub pair_cmp : Pair → Pair → Ordering
+pair_cmp p q = ordering_then (name_cmp p.0 q.0) (value_cmp p.1 q.1)
+
+abbrev pub binding_cmp : Binding → Binding → Ordering
+binding_cmp = slice_cmp pair_cmp

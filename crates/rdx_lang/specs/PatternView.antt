@@ -1,0 +1,44 @@
+-- The patterns and languages that the code's values stand for.
+use Rattle.std.specs.Prelude.{List, [], ◌∷◌, map}
+use Rattle.rdx_term.specs.View.{tree_of}
+use Rattle.rdx_lang.specs.Patterns.{Pattern, of_kind, lit, nt, named, seq, Items, nil, one, Definition, Language}
+use Rattle.rdx_lang.specs.declared.language.Language as code_language
+use Rattle.rdx_lang.specs.declared.pattern.Item as code_item
+use Rattle.rdx_lang.specs.declared.pattern.Item.TheOpen as layer
+use Rattle.rdx_lang.specs.declared.pattern.Pat as code_pattern
+use Rattle.rdx_lang.specs.declared.pattern.Ref as code_ref
+use Rattle.std.specs.Prelude.{Vec}
+use Rattle.std.specs.declared.alloc.Global.{Global}
+
+-- an item of a list pattern
+pub data Slot : Type 0 where
+  just : Pattern → Slot
+
+abbrev pub items_of : List Slot → Items
+items_of [] = nil
+items_of (just p ∷ slots) = one p (items_of slots)
+
+abbrev pub pattern_step : layer.Pat-F Slot Pattern → Pattern
+pattern_step (layer.Kind k) = of_kind k
+pattern_step (layer.Lit u) = lit (tree_of u)
+pattern_step (layer.Nt x) = nt x
+pattern_step (layer.Named x q) = named x q.value
+pattern_step (layer.Seq slots) = seq (items_of slots.items)
+
+abbrev pub slot_step : layer.Item-F Slot Pattern → Slot
+slot_step (layer.One p) = just p
+
+abbrev pub pattern_of : code_pattern.Pat → Pattern
+pattern_of = code_pattern.fold-Pat Slot Pattern slot_step pattern_step
+
+abbrev pub slot_of : code_item.Item → Slot
+slot_of = code_item.fold-Item Slot Pattern slot_step pattern_step
+
+abbrev pub patterns_of : List code_pattern.Pat → List Pattern
+patterns_of ps = map pattern_of ps
+
+abbrev pub definition_of : code_ref.Ref × Vec code_pattern.Pat Global → Definition
+definition_of d = (d.0, patterns_of d.1.items)
+
+abbrev pub language_of : code_language.Language → Language
+language_of l = record { name = l.name; nonterminals = map definition_of l.nts.items }

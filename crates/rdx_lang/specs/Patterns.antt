@@ -1,0 +1,26 @@
+-- Patterns and languages, as plain data (after the Redex reference manual, "Patterns").
+use Rattle.std.specs.Prelude.{ℕ, List}
+use Rattle.rdx_term.specs.Tree.{Tree}
+use Rattle.rdx_lang.specs.declared.pattern.Kind.{Kind}
+use Rattle.rdx_lang.specs.declared.pattern.Ref.{Ref}
+
+mutual
+  pub data Pattern : Type 0 where
+    of_kind : Kind → Pattern
+    lit : Tree → Pattern
+    nt : Ref → Pattern
+    named : List ℕ → Pattern → Pattern
+    seq : Items → Pattern
+
+  -- the items of a list pattern, each by its pattern
+  pub data Items : Type 0 where
+    nil : Items
+    one : Pattern → Items → Items
+
+-- a nonterminal with its alternatives
+abbrev pub Definition : Type 0
+Definition = Ref × List Pattern
+
+pub record Language : Type 0 where
+  pub name : List ℕ
+  pub nonterminals : List Definition

@@ -1,0 +1,42 @@
+-- When a pattern of a language matches a term, and with which binding: the least relation with these rules, a constructor for
+-- each (Klein, McCarthy, Jaconette and Findler, "A semantics for context-sensitive reduction semantics", APLAS 2011).
+use Rattle.std.specs.Prelude.{◌≡◌, ℕ, Bool, true, false, List, [], ◌∷◌, Option}
+use Rattle.rdx_term.specs.Tree.{Tree, integer, symbol, list, Trees, cons}
+use Rattle.rdx_term.specs.Tree.{nil as no_trees}
+use Rattle.rdx_term.specs.Bare.{bare}
+use Rattle.rdx_lang.specs.Members.{In}
+use Rattle.rdx_lang.specs.Bindings.{Binding}
+use Rattle.rdx_lang.specs.Bindings.{one as one_term}
+use Rattle.rdx_lang.specs.Join.{IsJoin}
+use Rattle.rdx_lang.specs.Patterns.{Pattern, of_kind, lit, nt, named, seq, Items, nil, one, Language}
+use Rattle.rdx_lang.specs.declared.pattern.Kind.{Kind}
+use Rattle.rdx_lang.specs.declared.pattern.Kind.TheVariants.{Any, Number, Variable}
+use Rattle.rdx_lang.specs.declared.pattern.Ref.{Ref}
+
+-- the terms that a built-in name stands for
+abbrev pub is_of_kind : Kind → Tree → Bool
+is_of_kind Any t = true
+is_of_kind Number (integer z) = true
+is_of_kind Variable (symbol s) = true
+is_of_kind k t = false
+
+-- p is an alternative of the nonterminal x
+pub record IsAlternative (L : Language) (x : Ref) (p : Pattern) : Type 0 where
+  pub all : List Pattern
+  pub defined : In (x, all) L.nonterminals
+  pub among : In p all
+
+mutual
+  -- p matches t and binds b
+  pub data Match (L : Language) : Pattern → Tree → Binding → Type 0 where
+    match_kind : {k : Kind} {t : Tree} → is_of_kind k t ≡ true → Match L (of_kind k) t []
+    match_lit : {u t : Tree} → bare t ≡ bare u → Match L (lit u) t []
+    match_nt : {x : Ref} {p : Pattern} {t : Tree} {c : Binding} → IsAlternative L x p → Match L p t c → Match L (nt x) t []
+    match_named : {x : List ℕ} {q : Pattern} {t : Tree} {c b : Binding} → Match L q t c → IsJoin c ((x, one_term t) ∷ []) b → Match L (named x q) t b
+    match_seq : {ps : Items} {m : Option ℕ} {ts : Trees} {b : Binding} → MatchItems L ps ts b → Match L (seq ps) (list m ts) b
+
+  -- the items of a list pattern match the terms of a list one by one, and bind b together
+  pub data MatchItems (L : Language) : Items → Trees → Binding → Type 0 where
+    match_none : MatchItems L nil no_trees []
+    match_one : {p : Pattern} {ps : Items} {t : Tree} {ts : Trees} {c d b : Binding} →
+        Match L p t c → MatchItems L ps ts d → IsJoin c d b → MatchItems L (one p ps) (cons t ts) b

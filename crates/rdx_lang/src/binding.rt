@@ -1,0 +1,79 @@
+// What names stand for.
+ghost use Rattle.rdx_lang.specs.Bindings.{HasAscendingNames, HasAscendingNames-prop};
+ghost use Rattle.rdx_lang.specs.BindingView.{pairs_of};
+
+use rdx_term::{Name, NoMemory, Term};
+
+/// What a name stands for.
+#[derive(Drop)]
+pub enum Value {
+    /// One term.
+    One(Term),
+}
+
+impl Value {
+    ghost use Rattle.std.specs.Prelude.{◌≡◌, IfOk};
+    ghost use Rattle.rdx_lang.specs.BindingView.{value_of};
+
+    /// The same value.
+    pub fn share(&self) -> Result<Value, NoMemory>
+        ensures { IfOk result (λ v. value_of v ≡ value_of self.now) }
+    {
+        match self {
+            Value::One(t) => Ok(Value::One(t.share()?)),
+        }
+    }
+}
+
+/// A finite map from names to values: pairs, strictly ascending by the bytes of the names.
+#[derive(Drop)]
+pub struct Binding {
+    pairs: Vec<(Name, Value)>,
+    pub ghost ascending: { HasAscendingNames (pairs_of pairs.items) } by { HasAscendingNames-prop (pairs_of pairs.items) },
+}
+
+impl Binding {
+    ghost use Rattle.std.specs.Prelude.{◌≡◌, IfOk, [], length};
+    ghost use Rattle.rdx_lang.specs.Bindings.{value_at};
+    ghost use Rattle.rdx_lang.specs.BindingView.{found_value};
+    ghost use Rattle.rdx_lang.specs.Shown.{binding_of};
+
+    /// The binding of these pairs.
+    pub fn new(pairs: Vec<(Name, Value)>) -> Binding
+        requires { HasAscendingNames (pairs_of pairs.items) }
+        ensures { binding_of result ≡ pairs_of pairs.items }
+    {
+        Binding { pairs }
+    }
+
+    /// The pairs, in the order of their names.
+    pub fn pairs(&self) -> &[(Name, Value)]
+        ensures value { pairs_of result.now ≡ binding_of self.now }
+        ensures ascending { HasAscendingNames (binding_of self.now) }
+    {
+        &self.pairs
+    }
+
+    /// What the name stands for; `None` where it isn't bound.
+    pub fn get(&self, name: &Name) -> Option<&Value>
+        ensures { found_value result ≡ value_at (binding_of self.now) name.now }
+    {
+        for (other, value) in &self.pairs {
+            if other.text() == name.text() {
+                return Some(value);
+            }
+        }
+        None
+    }
+
+    /// The same binding.
+    pub fn share(&self) -> Result<Binding, NoMemory>
+        ensures { IfOk result (λ b. binding_of b ≡ binding_of self.now) }
+    {
+        let mut pairs = Vec::with_capacity(*self.pairs.allocator(), self.pairs.len())?;
+        for (name, value) in &self.pairs {
+            pairs.push((name.share()?, value.share()?))?;
+        }
+        Ok(Binding { pairs })
+    }
+}

@@ -1,0 +1,12 @@
+// Languages, as the code has them.
+
+use crate::{Pat, Ref};
+use rdx_term::Name;
+
+/// A language: its name, and its nonterminals in the order of their definition, each with its
+/// alternatives as they are written.
+#[derive(Drop)]
+pub struct Language {
+    pub name: Name,
+    pub nts: Vec<(Ref, Vec<Pat>)>,
+}

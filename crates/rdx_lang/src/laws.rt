@@ -1,0 +1,28 @@
+//! Laws of the definitions: functions that do nothing, whose contracts are the laws.
+ghost use Rattle.std.specs.Cmp.{IsTotalOrder};
+ghost use Rattle.rdx_lang.specs.Order.{value_cmp, binding_cmp};
+ghost use Rattle.rdx_lang.specs.OrderLaws.{TellsApart};
+ghost use Rattle.rdx_lang.specs.Laws.{OneListing, OneJoin};
+
+/// The order of values is total, and values that it doesn't tell apart are equal.
+pub fn values_are_ordered()
+    ensures total { IsTotalOrder value_cmp }
+    ensures equal { TellsApart value_cmp }
+{}
+
+/// The order of bindings is total, and bindings that it doesn't tell apart are equal.
+pub fn bindings_are_ordered()
+    ensures total { IsTotalOrder binding_cmp }
+    ensures equal { TellsApart binding_cmp }
+{}
+
+/// A pattern has one listing of the bindings by which it matches a term, since a strictly ascending
+/// list is fixed by its members.
+pub fn one_listing()
+    ensures { OneListing }
+{}
+
+/// Two bindings have one join at most.
+pub fn one_join()
+    ensures { OneJoin }
+{}

@@ -1,0 +1,106 @@
+// The order of values and of bindings.
+ghost use Rattle.std.specs.Prelude.{◌≡◌};
+ghost use Rattle.rdx_lang.specs.Order.{value_cmp, pair_cmp, binding_cmp};
+ghost use Rattle.rdx_lang.specs.BindingView.{value_of, pair_of};
+ghost use Rattle.rdx_lang.specs.Shown.{binding_of};
+
+use crate::{Binding, Value};
+use rdx_term::Name;
+use std::cmp::Ordering;
+
+impl Value {
+    /// Values compare as their terms do, marks included.
+    pub fn compare(&self, other: &Value) -> Ordering
+        ensures { result ≡ value_cmp (value_of self.now) (value_of other.now) }
+    {
+        match (self, other) {
+            (Value::One(a), Value::One(b)) => a.compare(b),
+        }
+    }
+}
+
+fn compare_pairs(a: &(Name, Value), b: &(Name, Value)) -> Ordering
+    ensures { result ≡ pair_cmp (pair_of a.now) (pair_of b.now) }
+{
+    a.0.text().cmp(b.0.text()).then(a.1.compare(&b.1))
+}
+
+impl Binding {
+    /// Bindings compare pair by pair, by the bytes of the name and then by the value, a proper
+    /// prefix first.
+    pub fn compare(&self, other: &Binding) -> Ordering
+        ensures { result ≡ binding_cmp (binding_of self.now) (binding_of other.now) }
+    {
+        let pairs = self.pairs();
+        let others = other.pairs();
+        let shorter = pairs.len().min(others.len());
+        for i in 0..shorter {
+            let order = compare_pairs(&pairs[i], &others[i]);
+            if order != Ordering::Equal {
+                return order;
+            }
+        }
+        pairs.len().cmp(&others.len())
+    }
+}
+
+impl PartialEq for Binding {
+    ghost use Rattle.std.specs.Ordering.{on, eq_by_cmp};
+    ghost use Rattle.std.specs.Cmp.{partial_equiv_from_equiv, on_equiv, eq_by_cmp_equiv};
+    ghost use Rattle.rdx_lang.specs.Order.{binding_cmp};
+    ghost use Rattle.rdx_lang.specs.OrderLaws.{binding_cmp-total};
+    ghost use Rattle.rdx_lang.specs.Shown.{binding_of};
+
+    ghost eq = { on binding_of (eq_by_cmp binding_cmp) };
+
+    ghost laws = { partial_equiv_from_equiv (on_equiv binding_of (eq_by_cmp_equiv binding_cmp-total)) };
+
+    fn eq(&self, other: &Binding) -> bool {
+        self.compare(other) == Ordering::Equal
+    }
+}
+
+impl Eq for Binding {
+    ghost use Rattle.std.specs.Cmp.{on_equiv, eq_by_cmp_equiv};
+    ghost use Rattle.rdx_lang.specs.OrderLaws.{binding_cmp-total};
+    ghost use Rattle.rdx_lang.specs.Shown.{binding_of};
+
+    ghost laws = { on_equiv binding_of (eq_by_cmp_equiv binding_cmp-total) };
+}
+
+impl PartialOrd for Binding {
+    ghost use Rattle.std.specs.Ordering.{on, as_partial_cmp};
+    ghost use Rattle.std.specs.Cmp.{on_po, partial_order_from_total};
+    ghost use Rattle.rdx_lang.specs.Order.{binding_cmp};
+    ghost use Rattle.rdx_lang.specs.OrderLaws.{binding_cmp-total};
+    ghost use Rattle.rdx_lang.specs.Shown.{binding_of};
+
+    ghost partial_cmp = { on binding_of (as_partial_cmp binding_cmp) };
+
+    ghost laws = { on_po binding_of (partial_order_from_total binding_cmp-total) };
+
+    fn partial_cmp(&self, other: &Binding) -> Option<Ordering> {
+        Some(self.compare(other))
+    }
+}
+
+impl Ord for Binding {
+    ghost use Rattle.std.proofs.Common.{refl};
+    ghost use Rattle.std.specs.Ordering.{on};
+    ghost use Rattle.std.specs.Cmp.{on_total};
+    ghost use Rattle.rdx_lang.specs.Order.{binding_cmp};
+    ghost use Rattle.rdx_lang.specs.OrderLaws.{binding_cmp-total};
+    ghost use Rattle.rdx_lang.specs.Shown.{binding_of};
+
+    ghost cmp = { on binding_of binding_cmp };
+
+    ghost total = { on_total binding_of binding_cmp-total };
+
+    ghost matches_partial_cmp = { λ _ _. refl };
+
+    ghost matches_eq = { λ _ _. refl };
+
+    fn cmp(&self, other: &Binding) -> Ordering {
+        self.compare(other)
+    }
+}

@@ -1,0 +1,45 @@
+// Patterns, as the code has them.
+
+use rdx_term::{Name, Term};
+
+/// The terms that a built-in pattern name stands for.
+#[derive(Clone, Copy, Debug, PartialEq, Eq)]
+pub enum Kind {
+    /// `any`: each term.
+    Any,
+    /// `number`: each integer.
+    Number,
+    /// `variable`: each symbol.
+    Variable,
+}
+
+/// What a nonterminal goes by.
+#[derive(Drop)]
+pub enum Ref {
+    /// A nonterminal of this name.
+    Nt(Name),
+}
+
+/// A pattern.
+#[cycle(pattern)]
+#[derive(Drop)]
+pub enum Pat {
+    /// The terms of a built-in name.
+    Kind(Kind),
+    /// This term alone, marks forgotten.
+    Lit(Term),
+    /// What an alternative of the nonterminal matches.
+    Nt(Ref),
+    /// What the inner pattern matches; the name stands for it.
+    Named(Name, Box<Pat>),
+    /// A list, each item by its pattern.
+    Seq(Vec<Item>),
+}
+
+/// An item of a list pattern.
+#[cycle(pattern)]
+#[derive(Drop)]
+pub enum Item {
+    /// One term, by this pattern.
+    One(Pat),
+}
