@@ -1,0 +1,10 @@
+pub mod Pieces
+pub mod OneWord
+pub mod Inserting
+pub mod Joins
+pub mod Collecting
+pub mod Keys
+pub mod Measures
+pub mod AnyOf
+pub mod RuleSteps
+pub mod WellFormed

@@ -1,0 +1,145 @@
+use Rattle.std.proofs.Common.{rules, arith, ◌≡◌, ℕ, ◌+◌, ◌-◌, ◌<◌, ◌≤◌, true, false, if◌then◌else◌, List, [], ◌∷◌, length, drop, get_or, map, refl, ap, sym, ◌∙◌, subst}
+use Rattle.std.specs.Prelude.{IsTrue, IfOk}
+use Rattle.std.proofs.lemmas.Grind.{common_steps}
+use Rattle.std.proofs.lemmas.Result.{IfOk-weaker}
+use Rattle.rdx_term.specs.Tree.{Tree, Trees, tree_nodes, trees_nodes, list, trees, Listing}
+use Rattle.rdx_term.specs.View.{tree_of, trees_of}
+use Rattle.rdx_lang.specs.Bindings.{Binding}
+use Rattle.rdx_lang.specs.Checked.{language_in}
+use Rattle.rdx_lang.specs.Listing.{IsListing, Matches}
+use Rattle.rdx_lang.specs.Members.{In}
+use Rattle.rdx_lang.specs.Order.{binding_cmp}
+use Rattle.rdx_lang.specs.PatternEquations.{pattern_kind, pattern_lit, pattern_nt, pattern_named, pattern_seq, slot_one}
+use Rattle.rdx_lang.specs.Patterns.{Pattern, Items, Language, of_kind, lit, nt, named, seq}
+use Rattle.rdx_lang.specs.PatternView.{pattern_of, patterns_of, slot_of, items_of, just}
+use Rattle.rdx_lang.specs.Rest.{rest_at, rest_none}
+use Rattle.rdx_lang.specs.Rules.{Match, MatchItems, IsAlternative}
+use Rattle.rdx_lang.specs.Shown.{bindings_of}
+use Rattle.rdx_cli.specs.Combining.{Joined, Named}
+use Rattle.rdx_cli.specs.Searching.{AnyAlternative, item_pattern}
+use Rattle.rdx_cli.proofs.AnyOf.{untried-start, untried_first, untried_next, untried_none}
+use Rattle.rdx_cli.proofs.Measures.{falls-alternative, falls-named, falls-items, falls-item, size, size_of}
+use Rattle.rdx_cli.proofs.RuleSteps.{listing_kind, listing_lit, listing_nt, listing_named, listing_seq, listing_elsewhere, items_differ, items_end, items_before, some_of_listing, none_of_listing, nodes_at, size_at}
+use Rattle.rdx_cli.proofs.matcher.search.+search.Goals as goal
+
+pub any_alternative-matches-requires : goal.any_alternative-matches-requires
+any_alternative-matches-requires t c =
+    let L : Language = language_in c.args.language.now in
+    let xs = c.alternatives-alternative-items.result.now in
+    let i : ℕ = c.loop-alternative.alternative-index in
+    let p = c.alternative-item.result in
+    let e : patterns_of (drop i xs) ≡ pattern_of p ∷ patterns_of (drop (i + 1) xs) = rest_at pattern_of xs i p c.loop-alternative-test.true c.alternative-item.is in
+    let a : IsAlternative L c.args.name.now (pattern_of p) = (c.alternatives-alternative-items.ensures.all (pattern_of p)).0
+    (untried_first L (patterns_of xs) (tree_of c.args.t.now) (pattern_of p) (patterns_of (drop (i + 1) xs)) (patterns_of (drop i xs)) e c.loop-alternative.invariant) in
+    omega (arith, falls-alternative L c.args.name.now (pattern_of p) (tree_of c.args.t.now) c.alternatives-alternative-items.ensures.checked a)
+
+pub any_alternative-returns-then-not-is_empty : goal.any_alternative-returns-then-not-is_empty
+any_alternative-returns-then-not-is_empty t c =
+    let L : Language = language_in c.args.language.now in
+    let xs = c.alternatives-alternative-items.result.now in
+    let i : ℕ = c.loop-alternative.alternative-index in
+    let p = c.alternative-item.result in
+    let e : patterns_of (drop i xs) ≡ pattern_of p ∷ patterns_of (drop (i + 1) xs) = rest_at pattern_of xs i p c.loop-alternative-test.true c.alternative-item.is in
+    let a : IsAlternative L c.args.name.now (pattern_of p) = (c.alternatives-alternative-items.ensures.all (pattern_of p)).0
+    (untried_first L (patterns_of xs) (tree_of c.args.t.now) (pattern_of p) (patterns_of (drop (i + 1) xs)) (patterns_of (drop i xs)) e c.loop-alternative.invariant) in
+    let n : length c.in_ok-found.found.items ≡ 0 → ⊥ = λ h. absurd (grind (arith, common_steps)) in
+    let b : (b : Binding) × Match L (pattern_of p) (tree_of c.args.t.now) b = some_of_listing c.in_ok-found.found.items n c.in_ok-found.ensures in
+    (λ _. record { pattern = pattern_of p; alternative = a; binding = b.0; matched = b.1 }, λ _. refl)
+
+pub any_alternative-loop-alternative-preserved : goal.any_alternative-loop-alternative-preserved
+any_alternative-loop-alternative-preserved t c =
+    let L : Language = language_in c.args.language.now in
+    let xs = c.alternatives-alternative-items.result.now in
+    let i : ℕ = c.loop-alternative.alternative-index in
+    let p = c.alternative-item.result in
+    let e : patterns_of (drop i xs) ≡ pattern_of p ∷ patterns_of (drop (i + 1) xs) = rest_at pattern_of xs i p c.loop-alternative-test.true c.alternative-item.is in
+    let n : length c.in_ok-found.found.items ≡ 0 = grind (arith, common_steps) in
+    untried_next L (patterns_of xs) (tree_of c.args.t.now) (pattern_of p) (patterns_of (drop (i + 1) xs)) (patterns_of (drop i xs)) e
+    (none_of_listing c.in_ok-found.found.items n c.in_ok-found.ensures) c.loop-alternative.invariant
+
+pub any_alternative-returns : goal.any_alternative-returns
+any_alternative-returns t c =
+    let L : Language = language_in c.args.language.now in
+    let xs = c.alternatives-alternative-items.result.now in
+    let i : ℕ = c.loop-alternative.alternative-index in (
+      λ h. absurd cc,
+      λ a. absurd (untried_none L (patterns_of xs) (tree_of c.args.t.now) (patterns_of (drop i xs)) (rest_none pattern_of xs i c.loop-alternative-test.false) c.loop-alternative.invariant
+          a.pattern a.binding ((c.alternatives-alternative-items.ensures.all a.pattern).1 a.alternative) a.matched),
+    )
+
+pub match_items-returns-then-items-ts : goal.match_items-returns-then-items-ts
+match_items-returns-then-items-ts t c =
+    IfOk-weaker c.empty_where.result _ _ (λ v e. items_differ c.args.items.now c.args.ts.now c.if-items-ts.true e) c.empty_where.ensures
+
+pub match_items-loop-i-init : goal.match_items-loop-i-init
+match_items-loop-i-init t c =
+    items_end (length c.args.items.now) c.args.items.now c.args.ts.now (omega arith) (omega arith) c.in_ok-found.ensures
+
+pub match_items-matches-requires : goal.match_items-matches-requires
+match_items-matches-requires t c =
+    let L : Language = language_in c.args.language.now in
+    let a = nodes_at c.args.ts.now (c.loop-i.i - 1) c.index-ts-i.result (omega arith) c.index-ts-i.is in
+    let b = size_at c.args.items.now (c.loop-i.i - 1) c.index-items-i.result (omega arith) c.index-items-i.is in
+    let e : size (pattern_of c.pattern_in.result.now) ≡ size (item_pattern (slot_of c.index-items-i.result)) = ap size c.pattern_in.ensures in
+    omega (arith, falls-item L (pattern_of c.pattern_in.result.now) (tree_of c.index-ts-i.result) (size_of (items_of (map slot_of c.args.items.now))) (trees_of c.args.ts.now) a (omega arith))
+
+pub match_items-loop-i-preserved : goal.match_items-loop-i-preserved
+match_items-loop-i-preserved t c =
+    let L : Language = language_in c.args.language.now in
+    let j : IsListing binding_cmp (bindings_of c.in_ok-found-2.found.items) (Joined (bindings_of c.in_ok-firsts.firsts.items) (bindings_of c.loop-i.found.items)) =
+    rw (c.deref.ensures.value, c.deref-in-loop-i.ensures.value) at c.in_ok-found-2.ensures in
+    let k : IsListing binding_cmp (bindings_of c.in_ok-firsts.firsts.items) (Match L (item_pattern (slot_of c.index-items-i.result)) (tree_of c.index-ts-i.result)) =
+    subst (λ p. IsListing binding_cmp (bindings_of c.in_ok-firsts.firsts.items) (Match L p (tree_of c.index-ts-i.result))) c.pattern_in.ensures c.in_ok-firsts.ensures in
+    items_before c.loop-i.i c.args.items.now c.args.ts.now c.index-items-i.result c.index-ts-i.result (bindings_of c.in_ok-firsts.firsts.items) (bindings_of c.loop-i.found.items)
+    (omega arith) (omega arith) (omega arith) c.index-items-i.is c.index-ts-i.is k c.loop-i.invariant j
+
+pub match_items-returns : goal.match_items-returns
+match_items-returns t c =
+    let e : c.loop-i.i ≡ 0 = omega arith in
+    let P : ℕ → Type 0 = λ i. IsListing binding_cmp (bindings_of c.loop-i.found.items) (MatchItems (language_in c.args.language.now) (items_of (map slot_of (drop i c.args.items.now))) (trees_of (drop i c.args.ts.now))) in
+    subst P e c.loop-i.invariant
+
+pub matches-returns-in-Kind : goal.matches-returns-in-Kind
+matches-returns-in-Kind t c =
+    let L : Language = language_in c.args.language.now in
+    let e : pattern_of c.args.pat.now ≡ of_kind c.in-Kind.kind = ap pattern_of c.in-Kind.is ∙ pattern_kind c.in-Kind.kind in
+    IfOk-weaker c.empty_where.result _ _ (λ v f. subst (λ p. Matches L p (tree_of c.args.t.now) (bindings_of v.items)) (sym e) (listing_kind c.is_of_kind.result f c.is_of_kind.ensures)) c.empty_where.ensures
+
+pub matches-returns-in-Lit : goal.matches-returns-in-Lit
+matches-returns-in-Lit t c =
+    let L : Language = language_in c.args.language.now in
+    let e : pattern_of c.args.pat.now ≡ lit (tree_of c.in-Lit.literal) = ap pattern_of c.in-Lit.is ∙ pattern_lit c.in-Lit.literal in
+    IfOk-weaker c.empty_where-in-Lit.result _ _ (λ v f. subst (λ p. Matches L p (tree_of c.args.t.now) (bindings_of v.items)) (sym e) (listing_lit c.same_bare.result f c.same_bare.ensures)) c.empty_where-in-Lit.ensures
+
+pub matches-returns-in_ok-any-in-Nt : goal.matches-returns-in_ok-any-in-Nt
+matches-returns-in_ok-any-in-Nt t c =
+    let L : Language = language_in c.args.language.now in
+    let e : pattern_of c.args.pat.now ≡ nt c.in-Nt.name = ap pattern_of c.in-Nt.is ∙ pattern_nt c.in-Nt.name in
+    IfOk-weaker c.empty_where-in-Nt.result _ _ (λ v f. subst (λ p. Matches L p (tree_of c.args.t.now) (bindings_of v.items)) (sym e) (listing_nt c.in_ok-any-in-Nt.any f c.in_ok-any-in-Nt.ensures)) c.empty_where-in-Nt.ensures
+
+pub matches-returns-in_ok-firsts-in-Named : goal.matches-returns-in_ok-firsts-in-Named
+matches-returns-in_ok-firsts-in-Named t c =
+    let L : Language = language_in c.args.language.now in
+    let e : pattern_of c.args.pat.now ≡ named c.in-Named.name (pattern_of c.in-Named.inner.value) = ap pattern_of c.in-Named.is ∙ pattern_named c.in-Named.name c.in-Named.inner in
+    let k : IsListing binding_cmp (bindings_of c.deref-in-Named.result.now) (Match L (pattern_of c.in-Named.inner.value) (tree_of c.args.t.now)) =
+    rw (c.deref-in-Named.ensures.value, ← c.deref.ensures) c.in_ok-firsts-in-Named.ensures in
+    IfOk-weaker c.with_name.result _ _ (λ v l. subst (λ p. Matches L p (tree_of c.args.t.now) (bindings_of v.items)) (sym e) (listing_named (bindings_of c.deref-in-Named.result.now) k l)) c.with_name.ensures
+
+pub matches-returns-in-List : goal.matches-returns-in-List
+matches-returns-in-List t c =
+    let L : Language = language_in c.args.language.now in
+    let e : pattern_of c.args.pat.now ≡ seq (items_of (map slot_of c.in-Seq.items.items)) = ap pattern_of c.in-Seq.is ∙ pattern_seq c.in-Seq.items in
+    let ps : Items = items_of (map slot_of c.in-Seq.items.items) in
+    let ts : Trees = trees_of c.items.result.now in
+    let f : tree_of c.args.t.now ≡ list c.in-List.node.value.mark ts =
+    ap tree_of c.in-List.is ∙ ap (λ (us : List Tree). list c.in-List.node.value.mark (trees us)) (ap (λ (l : Listing). l.items) (sym c.deref-in-List-2.ensures) ∙ sym c.items.ensures.value) in
+    IfOk-weaker c.match_items.result _ _ (λ v l.
+    let m : IsListing binding_cmp (bindings_of v.items) (MatchItems L ps ts) = rw c.deref-in-List.ensures.value at l in
+    subst (λ p. Matches L p (tree_of c.args.t.now) (bindings_of v.items)) (sym e)
+    (subst (λ u. Matches L (seq ps) u (bindings_of v.items)) (sym f) (listing_seq m))) c.match_items.ensures
+
+pub matches-returns-in_default : goal.matches-returns-in_default
+matches-returns-in_default t c =
+    let L : Language = language_in c.args.language.now in
+    let e : pattern_of c.args.pat.now ≡ seq (items_of (map slot_of c.in-Seq.items.items)) = ap pattern_of c.in-Seq.is ∙ pattern_seq c.in-Seq.items in
+    IfOk-weaker c.empty_where-in_default.result _ _ (λ v f. subst (λ p. Matches L p (tree_of c.args.t.now) (bindings_of v.items)) (sym e) (listing_elsewhere c.args.t.now c.in_default.not-List f)) c.empty_where-in_default.ensures

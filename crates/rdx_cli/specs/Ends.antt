@@ -1,0 +1,60 @@
+-- How a run ends.
+use Rattle.std.specs.Prelude.{◌≡◌, ℕ, List}
+use Rattle.std.specs.declared.option.Option.{Option}
+use Rattle.rdx_base.specs.Putting.{Gains, GainsPrefix}
+use Rattle.rdx_cli.specs.Reading.{IsRead}
+use Rattle.rdx_cli.specs.Words.{ReadsAs}
+use Rattle.rdx_cli.specs.Transcript.{IsTranscript}
+use Rattle.rdx_cli.specs.declared.words.Mode.{Mode}
+use Rattle.rdx_cli.specs.declared.transcript.Verdict.{Verdict}
+use Rattle.rdx_cli.specs.declared.transcript.Verdict.TheVariants as verdict
+use Rattle.rdx_cli.specs.declared.top.Status.{Status}
+use Rattle.rdx_cli.specs.declared.top.Status.TheVariants.{Done, Unmet, Refused, Usage, ReadFault, WriteFault, NoMemory}
+
+-- the number of a status
+abbrev pub code_of : Status → ℕ
+code_of Done = 0
+code_of Unmet = 1
+code_of Refused = 2
+code_of Usage = 3
+code_of ReadFault = 4
+code_of WriteFault = 5
+code_of NoMemory = 6
+
+-- the status of a verdict
+abbrev pub status_of : Verdict → Status
+status_of verdict.Done = Done
+status_of verdict.Refused = Refused
+
+-- the run came to its end: a whole transcript was written
+abbrev pub IsFinished : Status → Type 0
+IsFinished Done = Unit {0}
+IsFinished Unmet = Unit {0}
+IsFinished Refused = Unit {0}
+IsFinished Usage = ⊥
+IsFinished ReadFault = ⊥
+IsFinished WriteFault = ⊥
+IsFinished NoMemory = ⊥
+
+-- the words have a row, a file was read, and this is its transcript
+pub record Transcribes (words : List (List ℕ)) (left rest : Option (List ℕ)) (text : List ℕ) (verdict : Verdict) : Type 0 where
+  pub mode : Mode
+  pub bytes : List ℕ
+  pub row : ReadsAs words mode
+  pub read : IsRead left rest bytes
+  pub transcript : IsTranscript bytes text verdict
+
+-- the whole transcript of the file was written, and the status is that of its verdict
+pub record WroteWhole (words : List (List ℕ)) (left rest before after : Option (List ℕ)) (status : Status) : Type 0 where
+  pub text : List ℕ
+  pub verdict : Verdict
+  pub transcribed : Transcribes words left rest text verdict
+  pub gained : Gains before after text
+  pub status_is : status ≡ status_of verdict
+
+-- a prefix of the transcript of the file was written
+pub record WrotePrefix (words : List (List ℕ)) (left rest before after : Option (List ℕ)) : Type 0 where
+  pub text : List ℕ
+  pub verdict : Verdict
+  pub transcribed : Transcribes words left rest text verdict
+  pub gained : GainsPrefix before after text

@@ -1,0 +1,9 @@
+pub mod Reading
+pub mod Words
+pub mod Transcript
+pub mod Ends
+pub mod Inserting
+pub mod Combining
+pub mod Searching
+pub mod Nonterminals
+pub mod AnswerText

@@ -1,0 +1,94 @@
+// The top call: a file is read, and its transcript is written.
+ghost use Rattle.std.specs.Prelude.{◌≡◌, ◌≢◌, ◌⊎◌, ◌↔◌};
+ghost use Rattle.rdx_base.specs.Faults.{Rose};
+ghost use Rattle.rdx_cli.specs.Reading.{LosesFront};
+ghost use Rattle.rdx_cli.specs.Words.{FitsNoRow, texts};
+ghost use Rattle.rdx_cli.specs.Ends.{WroteWhole, WrotePrefix, IsFinished, code_of};
+
+use crate::reading::{ReadFailure, read_file};
+use crate::transcript::{Verdict, transcript_of};
+use crate::words::mode_of;
+use crate::writing::write_text;
+use rdx_base::{Sink, Source};
+use std::alloc::Global;
+
+/// How a run ended.
+#[derive(Clone, Copy, Debug, PartialEq, Eq)]
+pub enum Status {
+    /// Each form of the file was answered.
+    Done,
+    /// Each form was answered, and something that the file states is not met.
+    Unmet,
+    /// The file was refused.
+    Refused,
+    /// The words are no row of the table.
+    Usage,
+    /// The source failed.
+    ReadFault,
+    /// The sink failed.
+    WriteFault,
+    /// There was no memory.
+    NoMemory,
+}
+
+impl Status {
+    /// The number that the program ends with.
+    pub fn code(&self) -> u8
+        ensures { result ≡ code_of self.now }
+    {
+        *self as u8
+    }
+}
+
+/// Reads a file, and writes its transcript.
+pub fn run<S: Source, K: Sink>(
+    alloc: Global,
+    words: &[String],
+    source: &mut S,
+    sink: &mut K,
+) -> Status
+    // The words decide about the usage, and then nothing is read or written.
+    ensures usage { (result ≡ Status.Usage) ↔ FitsNoRow (texts words.now) }
+    ensures untouched { result ≡ Status.Usage → (source.new ≡ source.old) × (sink.new ≡ sink.old) }
+
+    // What was read has this transcript, and all of it was written.
+    ensures whole { IsFinished result
+        → WroteWhole (texts words.now) (S.left source.old) (S.left source.new)
+        (K.written sink.old) (K.written sink.new) result }
+
+    // Each other end has its cause, and says what was lost and what was written.
+    ensures read { result ≡ Status.ReadFault
+        → Rose (S.faults source.old) (S.faults source.new) × (sink.new ≡ sink.old) }
+    ensures write { result ≡ Status.WriteFault → Rose (K.faults sink.old) (K.faults sink.new) }
+    ensures front { result ≡ Status.WriteFault
+        → WrotePrefix (texts words.now) (S.left source.old) (S.left source.new)
+        (K.written sink.old) (K.written sink.new) }
+    ensures no_memory { result ≡ Status.NoMemory → sink.new ≡ sink.old }
+    ensures lost { LosesFront (S.left source.old) (S.left source.new) }
+
+    // Nothing can be unmet yet, and only a fault or want of memory keeps a run from its end.
+    ensures met { result ≢ Status.Unmet }
+    ensures complete { ¬ FitsNoRow (texts words.now)
+        → ¬ Rose (S.faults source.old) (S.faults source.new)
+        → ¬ Rose (K.faults sink.old) (K.faults sink.new)
+        → IsFinished result ⊎ (result ≡ Status.NoMemory) }
+{
+    let Some(_mode) = mode_of(words) else {
+        return Status::Usage;
+    };
+    let bytes = match read_file(alloc, source) {
+        Ok(bytes) => bytes,
+        Err(ReadFailure::Failed) => return Status::ReadFault,
+        Err(ReadFailure::NoMemory) => return Status::NoMemory,
+    };
+    let Ok(transcript) = transcript_of(alloc, &bytes) else {
+        return Status::NoMemory;
+    };
+    if !write_text(sink, &transcript.text) {
+        return Status::WriteFault;
+    }
+    match transcript.verdict {
+        Verdict::Done => Status::Done,
+        Verdict::Refused => Status::Refused,
+    }
+}
