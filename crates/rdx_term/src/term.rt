@@ -124,7 +124,7 @@ impl Term {
         }
     }
 
-    /// How many lists stand around the deepest part: 0 for an atom and for the hole.
+    /// The depth: 0 for an atom and for the hole, and that of its `Node` for a list.
     pub fn depth(&self) -> u32
         ensures value { result ≡ tree_depth (tree_of self.now) }
         ensures valid { IsTerm (tree_of self.now) }
