@@ -1,108 +1,97 @@
--- The alternatives of a nonterminal, found along the definitions.
-use Rattle.std.proofs.Common.{◌≡◌, Bool, true, false, List, [], ◌∷◌, map, refl, sym, ap, subst}
-use Rattle.std.specs.Prelude.{◌↔◌, not, ◌&&◌, ◌||◌}
+-- Where no two definitions are of the same nonterminal, what is looked up are the alternatives.
+use Rattle.std.proofs.Common.{◌≡◌, Bool, true, false, List, [], ◌∷◌, map, refl, ap, subst, if◌then◌else◌}
+use Rattle.std.specs.Prelude.{◌↔◌, not, ◌||◌}
 use Rattle.std.specs.Cmp.{first_so, second_so}
 use Rattle.std.specs.Cmp.Lexicographic.{bytes_decides}
+use Rattle.rdx_lang.specs.Lookup.{alternatives_among, alternatives_of}
 use Rattle.rdx_lang.specs.Members.{In, here, there}
 use Rattle.rdx_lang.specs.Patterns.{Pattern, Definition, Language}
 use Rattle.rdx_lang.specs.Rules.{IsAlternative}
-use Rattle.rdx_lang.specs.WellFormed.{is_same, is_among, are_distinct}
+use Rattle.rdx_lang.specs.WellFormed.{is_same, is_among, are_distinct, defined}
 use Rattle.rdx_lang.specs.declared.pattern.Ref.{Ref}
 use Rattle.rdx_lang.specs.declared.pattern.Ref.TheVariants.{Nt}
 
 -- p is an alternative of x in these definitions
-pub record Among (ds : List Definition) (x : Ref) (p : Pattern) : Type 0 where
+record Among (ds : List Definition) (x : Ref) (p : Pattern) : Type 0 where
   pub all : List Pattern
   pub defined : In (x, all) ds
   pub among : In p all
 
--- all that x has among all definitions it has among the rest
-pub record Remaining (x : Ref) (all rest : List Definition) : Type 0 where
-  pub part : (d : Definition) → In d rest → In d all
-  pub still : (p : Pattern) → Among all x p → Among rest x p
-  pub distinct : are_distinct (map (λ d. d.0) rest) ≡ true
+-- what is the same is equal
+is_same-equal : (x y : Ref) → is_same x y ≡ true → x ≡ y
+is_same-equal (Nt x) (Nt y) h = ap Nt ((bytes_decides x y).0 h)
 
-pub same-equal : (x y : Ref) → is_same x y ≡ true → x ≡ y
-same-equal (Nt x) (Nt y) h = ap Nt ((bytes_decides x y).0 h)
+-- a nonterminal is the same as itself
+is_same-itself : (x : Ref) → is_same x x ≡ true
+is_same-itself (Nt x) = (bytes_decides x x).1 refl
 
-pub same_itself : (x : Ref) → is_same x x ≡ true
-same_itself (Nt x) = (bytes_decides x x).1 refl
+-- what its second part makes true
+or_right : (a b : Bool) → b ≡ true → (a || b) ≡ true
+or_right true b h = refl
+or_right false b h = h
 
-either_true : (a b : Bool) → b ≡ true → (a || b) ≡ true
-either_true true b h = refl
-either_true false b h = h
+-- what its first part makes true
+or_left : (a b : Bool) → a ≡ true → (a || b) ≡ true
+or_left true b h = refl
+or_left false b h = cc
 
-left_true : (a b : Bool) → a ≡ true → (a || b) ≡ true
-left_true true b h = refl
-left_true false b h = cc
-
+-- what is not so is not true
 not_true : (a : Bool) → not a ≡ true → a ≡ true → ⊥
 not_true true h k = cc
 not_true false h k = cc
 
-among_defined : (x : Ref) (ps : List Pattern) (ds : List Definition) → In (x, ps) ds → is_among x (map (λ d. d.0) ds) ≡ true
-among_defined x ps [] h = elim h [ ]
-among_defined x ps (d ∷ ds) (here e) =
+-- what has a definition is among the defined
+is_among-defined : (x : Ref) (ps : List Pattern) (ds : List Definition) → In (x, ps) ds → is_among x (map (λ d. d.0) ds) ≡ true
+is_among-defined x ps [] h = elim h [ ]
+is_among-defined x ps (d ∷ ds) (here e) =
     let f : x ≡ d.0 = ap (λ (c : Definition). c.0) e in
-    left_true (is_same x d.0) (is_among x (map (λ c. c.0) ds)) (subst (λ (y : Ref). is_same x y ≡ true) f (same_itself x))
-among_defined x ps (d ∷ ds) (there h) = either_true (is_same x d.0) (is_among x (map (λ c. c.0) ds)) (among_defined x ps ds h)
+    or_left (is_same x d.0) (is_among x (map (λ c. c.0) ds)) (subst (λ (y : Ref). is_same x y ≡ true) f (is_same-itself x))
+is_among-defined x ps (d ∷ ds) (there h) = or_right (is_same x d.0) (is_among x (map (λ c. c.0) ds)) (is_among-defined x ps ds h)
 
--- what x has, where the first definition is that of x
-found : (x : Ref) (d : Definition) (ds : List Definition) (p : Pattern) → x ≡ d.0 → are_distinct (map (λ c. c.0) (d ∷ ds)) ≡ true → Among (d ∷ ds) x p → In p d.1
-found x d ds p e h a = by a.defined
+-- what is looked up is an alternative
+looked_up : (ds : List Definition) (x : Ref) (p : Pattern) → In p (alternatives_among ds x) → Among ds x p
+looked_up [] x p h = elim h [ ]
+looked_up (d ∷ ds) x p h = by_test (is_same x d.0) refl (looked_up ds x p) h
   where
-    by : In (x, a.all) (d ∷ ds) → In p d.1
-    by (here f) = subst (λ (ps : List Pattern). In p ps) (ap (λ (c : Definition). c.1) f) a.among
-    by (there i) =
-        let k : is_among d.0 (map (λ c. c.0) ds) ≡ true = subst (λ (y : Ref). is_among y (map (λ c. c.0) ds) ≡ true) e (among_defined x a.all ds i) in
-        absurd (not_true (is_among d.0 (map (λ c. c.0) ds)) (first_so (not (is_among d.0 (map (λ c. c.0) ds))) (are_distinct (map (λ c. c.0) ds)) h) k)
+    later : Among ds x p → Among (d ∷ ds) x p
+    later a = record { all = a.all; defined = there a.defined; among = a.among }
 
-pub found_all : (L : Language) (x : Ref) (d : Definition) (ds rest : List Definition) → rest ≡ d ∷ ds → x ≡ d.0 → Remaining x L.nonterminals rest
-    → (p : Pattern) → (In p d.1 ↔ IsAlternative L x p)
-found_all L x d ds rest e f r p = (to, from)
+    by_test : (s : Bool) → is_same x d.0 ≡ s → (In p (alternatives_among ds x) → Among ds x p) → In p (if s then d.1 else alternatives_among ds x) → Among (d ∷ ds) x p
+    by_test true e f i = let n : x ≡ d.0 = is_same-equal x d.0 e in record { all = d.1; defined = here (λ j. (n j, d.1)); among = i }
+    by_test false e f i = later (f i)
+
+-- each alternative is looked up
+each_looked_up : (ds : List Definition) (x : Ref) (p : Pattern) → are_distinct (map (λ d. d.0) ds) ≡ true → Among ds x p → In p (alternatives_among ds x)
+each_looked_up [] x p h a = elim a.defined [ ]
+each_looked_up (d ∷ ds) x p h a = by_test (is_same x d.0) refl (each_looked_up ds x p rest) a.defined
   where
-    member : In (x, d.1) L.nonterminals
-    member = r.part (x, d.1) (subst (λ (es : List Definition). In (x, d.1) es) (sym e) (here (λ i. (f i, d.1))))
+    rest : are_distinct (map (λ c. c.0) ds) ≡ true
+    rest = second_so (not (is_among d.0 (map (λ c. c.0) ds))) (are_distinct (map (λ c. c.0) ds)) h
 
-    to : In p d.1 → IsAlternative L x p
-    to h = record { all = d.1; defined = member; among = h }
+    -- the first definition's nonterminal has no other
+    alone : x ≡ d.0 → In (x, a.all) ds → ⊥
+    alone e i =
+        let k : is_among d.0 (map (λ c. c.0) ds) ≡ true = subst (λ (y : Ref). is_among y (map (λ c. c.0) ds) ≡ true) e (is_among-defined x a.all ds i) in
+        not_true (is_among d.0 (map (λ c. c.0) ds)) (first_so (not (is_among d.0 (map (λ c. c.0) ds))) (are_distinct (map (λ c. c.0) ds)) h) k
 
-    at_front : Among rest x p → Among (d ∷ ds) x p
-    at_front a = subst (λ (es : List Definition). Among es x p) e a
-
-    distinct : are_distinct (map (λ c. c.0) (d ∷ ds)) ≡ true
-    distinct = subst (λ (es : List Definition). are_distinct (map (λ c. c.0) es) ≡ true) e r.distinct
-
-    from : IsAlternative L x p → In p d.1
-    from a = found x d ds p f distinct (at_front (r.still p (record { all = a.all; defined = a.defined; among = a.among })))
-
-pub start : (L : Language) (x : Ref) → are_distinct (map (λ d. d.0) L.nonterminals) ≡ true → Remaining x L.nonterminals L.nonterminals
-start L x h = record { part = λ d i. i; still = λ p a. a; distinct = h }
-
-pub next : (x : Ref) (all : List Definition) (d : Definition) (ds rest : List Definition) → rest ≡ d ∷ ds → is_same x d.0 ≡ false → Remaining x all rest → Remaining x all ds
-next x all d ds rest e f r = record { part = λ c i. r.part c (subst (λ (es : List Definition). In c es) (sym e) (there i)); still = λ p a. later p (at_front p (r.still p a)); distinct = distinct }
-  where
-    at_front : (p : Pattern) → Among rest x p → Among (d ∷ ds) x p
-    at_front p a = subst (λ (es : List Definition). Among es x p) e a
-
-    distinct : are_distinct (map (λ c. c.0) ds) ≡ true
-    distinct = second_so (not (is_among d.0 (map (λ c. c.0) ds))) (are_distinct (map (λ c. c.0) ds)) (subst (λ (es : List Definition). are_distinct (map (λ c. c.0) es) ≡ true) e r.distinct)
-
-    other : (ps : List Pattern) → (x, ps) ≡ d → ⊥
-    other ps g =
-        let k : x ≡ d.0 = ap (λ (c : Definition). c.0) g in
-        let s : is_same x d.0 ≡ true = subst (λ (y : Ref). is_same x y ≡ true) k (same_itself x) in
+    differs : (x, a.all) ≡ d → is_same x d.0 ≡ false → ⊥
+    differs f e =
+        let n : x ≡ d.0 = ap (λ (c : Definition). c.0) f in
+        let s : is_same x d.0 ≡ true = subst (λ (y : Ref). is_same x y ≡ true) n (is_same-itself x) in
         absurd cc
 
-    later : (p : Pattern) → Among (d ∷ ds) x p → Among ds x p
-    later p a = record { all = a.all; defined = by a.defined; among = a.among }
-      where
-        by : In (x, a.all) (d ∷ ds) → In (x, a.all) ds
-        by (here g) = absurd (other a.all g)
-        by (there i) = i
+    by_test : (s : Bool) → is_same x d.0 ≡ s → (Among ds x p → In p (alternatives_among ds x)) → In (x, a.all) (d ∷ ds) → In p (if s then d.1 else alternatives_among ds x)
+    by_test true e g (here f) = subst (λ (ps : List Pattern). In p ps) (ap (λ (c : Definition). c.1) f) a.among
+    by_test true e g (there i) = absurd (alone (is_same-equal x d.0 e) i)
+    by_test false e g (here f) = absurd (differs f e)
+    by_test false e g (there i) = g (record { all = a.all; defined = i; among = a.among })
 
-pub none_left : (L : Language) (x : Ref) (rest : List Definition) → rest ≡ [] → Remaining x L.nonterminals rest → (p : Pattern) → IsAlternative L x p → ⊥
-none_left L x rest e r p a = elim (subst (λ (es : List Definition). In (x, b.all) es) e b.defined) [ ]
+-- where no two definitions are of the same nonterminal, what is looked up are exactly the alternatives
+pub alternatives_of-all : (L : Language) (x : Ref) → are_distinct (defined L) ≡ true → (p : Pattern) → (In p (alternatives_of L x) ↔ IsAlternative L x p)
+alternatives_of-all L x h p = (to, from)
   where
-    b : Among rest x p
-    b = r.still p (record { all = a.all; defined = a.defined; among = a.among })
+    to : In p (alternatives_of L x) → IsAlternative L x p
+    to i = let a : Among L.nonterminals x p = looked_up L.nonterminals x p i in record { all = a.all; defined = a.defined; among = a.among }
+
+    from : IsAlternative L x p → In p (alternatives_of L x)
+    from a = each_looked_up L.nonterminals x p h (record { all = a.all; defined = a.defined; among = a.among })

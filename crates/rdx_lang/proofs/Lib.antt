@@ -1,2 +1,3 @@
 pub mod Orders
 pub mod Alternatives
+pub mod Joins

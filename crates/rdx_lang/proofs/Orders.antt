@@ -5,6 +5,7 @@ use Rattle.rdx_lang.specs.BindingView.{pairs_of}
 use Rattle.rdx_lang.specs.Order.{binding_cmp}
 use Rattle.rdx_lang.specs.declared.binding.Value.{Value}
 
+-- behind the end of a list the lengths decide
 pub binding_cmp-ended : (xs ys : List (List ℕ × Value)) (n : ℕ) → n ≤ min (length xs) (length ys) → min (length xs) (length ys) ≤ n
     → binding_cmp (pairs_of (drop n xs)) (pairs_of (drop n ys)) ≡ nat_cmp (length xs) (length ys)
 binding_cmp-ended [] [] zero h k = refl

@@ -15,6 +15,7 @@ abbrev pub IsAscending : {A : Type 0} → (A → A → Ordering) → List A → 
 IsAscending cmp [] = Unit {0}
 IsAscending cmp (x ∷ xs) = IsBelow cmp x xs × IsAscending cmp xs
 
+-- x is below ys in one way at most
 IsBelow-prop : {A : Type 0} (cmp : A → A → Ordering) (x : A) (ys : List A) → IsProp (IsBelow cmp x ys)
 IsBelow-prop cmp x [] = Unit-prop
 IsBelow-prop cmp x (y ∷ ys) = ×_prop (Ordering-set (cmp x y) Less) (IsBelow-prop cmp x ys)

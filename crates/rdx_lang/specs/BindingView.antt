@@ -6,12 +6,15 @@ use Rattle.rdx_lang.specs.Bindings.{Value, one, Pair, Binding}
 use Rattle.rdx_lang.specs.declared.binding.Value as code_value
 use Rattle.rdx_lang.specs.declared.binding.Value.TheVariants.{One}
 
+-- the value that a value of the code stands for
 abbrev pub value_of : code_value.Value → Value
 value_of (One t) = one (tree_of t)
 
+-- the pair that a pair of the code stands for
 abbrev pub pair_of : List ℕ × code_value.Value → Pair
 pair_of p = (p.0, value_of p.1)
 
+-- the pairs that pairs of the code stand for, in their order
 abbrev pub pairs_of : List (List ℕ × code_value.Value) → Binding
 pairs_of ps = map pair_of ps
 

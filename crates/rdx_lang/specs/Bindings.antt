@@ -6,12 +6,15 @@ use Rattle.std.specs.Cmp.Lexicographic.{slice_cmp}
 use Rattle.rdx_term.specs.Tree.{Tree}
 use Rattle.rdx_lang.specs.Ascending.{IsAscending, IsAscending-prop}
 
+-- what a name stands for: one term
 pub data Value : Type 0 where
   one : Tree → Value
 
+-- a name with its value
 abbrev pub Pair : Type 0
 Pair = List ℕ × Value
 
+-- pairs; a finite map where their names ascend
 abbrev pub Binding : Type 0
 Binding = List Pair
 
@@ -19,12 +22,15 @@ Binding = List Pair
 abbrev pub name_cmp : List ℕ → List ℕ → Ordering
 name_cmp = slice_cmp nat_cmp
 
+-- the names, in the order of the pairs
 abbrev pub bound_names : Binding → List (List ℕ)
 bound_names b = map (λ p. p.0) b
 
+-- the names ascend strictly: a finite map, written in one way
 abbrev pub HasAscendingNames : Binding → Type 0
 HasAscendingNames b = IsAscending name_cmp (bound_names b)
 
+-- the names ascend in one way at most
 pub HasAscendingNames-prop : (b : Binding) → IsProp (HasAscendingNames b)
 HasAscendingNames-prop b = IsAscending-prop name_cmp (bound_names b)
 

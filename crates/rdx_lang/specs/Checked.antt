@@ -4,8 +4,10 @@ use Rattle.rdx_lang.specs.PatternView.{pattern_of, language_of}
 use Rattle.rdx_lang.specs.declared.checked.CheckedLang.{CheckedLang}
 use Rattle.rdx_lang.specs.declared.checked.CheckedPat.{CheckedPat}
 
+-- the language that was checked
 abbrev pub language_in : CheckedLang → Language
 language_in c = language_of c.language
 
+-- the pattern that was checked
 abbrev pub pattern_in : CheckedPat → Pattern
 pattern_in c = pattern_of c.pat

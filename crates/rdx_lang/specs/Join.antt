@@ -1,9 +1,14 @@
 -- The join of two bindings: the finite map with exactly the pairs of both. There is one exactly where the names that both bind
 -- have equal values, marks included, since a map gives a name one value.
-use Rattle.std.specs.Prelude.{◌⊎◌}
+use Rattle.std.specs.Prelude.{◌≡◌, ℕ, List, ◌⊎◌}
 use Rattle.rdx_lang.specs.Members.{In}
-use Rattle.rdx_lang.specs.Bindings.{Pair, Binding, HasAscendingNames}
+use Rattle.rdx_lang.specs.Bindings.{Value, Pair, Binding, HasAscendingNames}
 
+-- the names that both bind have equal values
+abbrev pub Agree : Binding → Binding → Type 0
+Agree a b = (x : List ℕ) (v w : Value) → In (x, v) a → In (x, w) b → v ≡ w
+
+-- c is the join of a and b
 pub record IsJoin (a b c : Binding) : Type 0 where
   pub map : HasAscendingNames c
   pub sound : (p : Pair) → In p c → In p a ⊎ In p b

@@ -1,10 +1,13 @@
 -- What follows from the definitions, stated for the contracts of the module of laws.
 use Rattle.std.specs.Prelude.{◌≡◌, List}
 use Rattle.rdx_term.specs.Tree.{Tree}
-use Rattle.rdx_lang.specs.Bindings.{Binding}
-use Rattle.rdx_lang.specs.Join.{IsJoin}
+use Rattle.rdx_lang.specs.Ascending.{IsAscending}
+use Rattle.rdx_lang.specs.Bindings.{Binding, name_cmp, bound_names, HasAscendingNames}
+use Rattle.rdx_lang.specs.Join.{IsJoin, Agree}
 use Rattle.rdx_lang.specs.Listing.{Matches}
+use Rattle.rdx_lang.specs.Names.{names}
 use Rattle.rdx_lang.specs.Patterns.{Pattern, Language}
+use Rattle.rdx_lang.specs.Rules.{Match}
 
 -- a pattern has one listing of its bindings at most
 abbrev pub OneListing : Type 0
@@ -13,3 +16,23 @@ OneListing = (L : Language) (p : Pattern) (t : Tree) (bs cs : List Binding) → 
 -- two bindings have one join at most
 abbrev pub OneJoin : Type 0
 OneJoin = (a b c d : Binding) → IsJoin a b c → IsJoin a b d → c ≡ d
+
+-- bindings that have a join agree
+abbrev pub JoinAgrees : Type 0
+JoinAgrees = (a b c : Binding) → IsJoin a b c → Agree a b
+
+-- finite maps that agree have a join
+abbrev pub JoinExists : Type 0
+JoinExists = (a b : Binding) → HasAscendingNames a → HasAscendingNames b → Agree a b → (c : Binding) × IsJoin a b c
+
+-- the names of a pattern ascend, so each comes once
+abbrev pub NamesAscend : Type 0
+NamesAscend = (p : Pattern) → IsAscending name_cmp (names p)
+
+-- a match binds a finite map
+abbrev pub BindsAMap : Type 0
+BindsAMap = (L : Language) (p : Pattern) (t : Tree) (b : Binding) → Match L p t b → HasAscendingNames b
+
+-- a match binds exactly the names of its pattern
+abbrev pub BindsItsNames : Type 0
+BindsItsNames = (L : Language) (p : Pattern) (t : Tree) (b : Binding) → Match L p t b → bound_names b ≡ names p

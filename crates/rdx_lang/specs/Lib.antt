@@ -3,6 +3,7 @@ pub mod Ascending
 pub mod Patterns
 pub mod PatternView
 pub mod WellFormed
+pub mod Lookup
 pub mod Bindings
 pub mod BindingView
 pub mod Shown
@@ -11,8 +12,10 @@ pub mod Order
 pub mod Join
 pub mod Rules
 pub mod Listing
+pub mod Names
 pub mod OrderLaws
 pub mod Laws
 pub mod JoinLaws
+pub mod NameLaws
 pub mod Rest
 pub mod PatternEquations

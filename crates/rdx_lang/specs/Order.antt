@@ -6,11 +6,14 @@ use Rattle.std.specs.Cmp.Lexicographic.{slice_cmp}
 use Rattle.rdx_term.specs.Order.{tree_cmp}
 use Rattle.rdx_lang.specs.Bindings.{Value, one, Pair, Binding, name_cmp}
 
+-- values by their terms
 abbrev pub value_cmp : Value → Value → Ordering
 value_cmp (one t) (one u) = tree_cmp t u
 
+-- pairs by their names, then by their values
 abbrev pub pair_cmp : Pair → Pair → Ordering
 pair_cmp p q = ordering_then (name_cmp p.0 q.0) (value_cmp p.1 q.1)
 
+-- bindings pair by pair, a proper prefix first
 abbrev pub binding_cmp : Binding → Binding → Ordering
 binding_cmp = slice_cmp pair_cmp

@@ -1,10 +1,10 @@
 -- The orders of values and of bindings are total, and tell apart what is not equal; and strictly ascending lists are fixed by
 -- their members.
-use Rattle.std.specs.Prelude.{◌≡◌, ℕ, List, [], ◌∷◌}
+use Rattle.std.specs.Prelude.{◌≡◌, List, [], ◌∷◌}
 use Rattle.std.proofs.Common.{refl, sym, ◌∙◌, ap, subst}
 use Rattle.std.specs.declared.cmp.Ordering.{Ordering}
 use Rattle.std.specs.declared.cmp.Ordering.TheVariants.{Less, Equal, Greater}
-use Rattle.std.specs.Ordering.{ordering_then, on, nat_cmp, is_eq, ordering_reverse}
+use Rattle.std.specs.Ordering.{ordering_then, is_eq}
 use Rattle.std.specs.Cmp.{IsTotalOrder, on_total, then_total}
 use Rattle.std.specs.Cmp.Lexicographic.{slice_cmp, lists_total, nat_list_cmp_total, texts_ties, bytes_decides}
 use Rattle.std.proofs.lemmas.Cmp.{tied_itself}
@@ -12,7 +12,7 @@ use Rattle.rdx_term.specs.Tree.{Tree}
 use Rattle.rdx_term.specs.Order.{tree_cmp}
 use Rattle.rdx_term.specs.OrderLaws.{tree_cmp-total, tree_cmp-equal}
 use Rattle.rdx_lang.specs.Ascending.{IsBelow, IsAscending}
-use Rattle.rdx_lang.specs.Bindings.{Value, one, Pair, Binding, name_cmp}
+use Rattle.rdx_lang.specs.Bindings.{Value, one, Pair, name_cmp}
 use Rattle.rdx_lang.specs.Listing.{IsListing}
 use Rattle.rdx_lang.specs.Members.{In, here, there}
 use Rattle.rdx_lang.specs.Order.{value_cmp, pair_cmp, binding_cmp}
@@ -23,16 +23,19 @@ TellsApart {A} cmp = (x y : A) → cmp x y ≡ Equal → x ≡ y
 
 -- ---- orders made of others
 
+-- what ties in two steps ties in the first
 first_Equal : (o p : Ordering) → ordering_then o p ≡ Equal → o ≡ Equal
 first_Equal Less p h = cc
 first_Equal Equal p h = refl
 first_Equal Greater p h = cc
 
+-- what ties in two steps ties in the second
 second_Equal : (o p : Ordering) → ordering_then o p ≡ Equal → p ≡ Equal
 second_Equal Less p h = cc
 second_Equal Equal p h = h
 second_Equal Greater p h = cc
 
+-- lists are told apart where their members are
 pub lists_tell : {A : Type 0} (cmp : A → A → Ordering) → TellsApart cmp → TellsApart (slice_cmp cmp)
 lists_tell cmp tells [] [] h = refl
 lists_tell cmp tells [] (y ∷ ys) h = cc
@@ -44,51 +47,64 @@ lists_tell cmp tells (x ∷ xs) (y ∷ ys) h =
 
 -- ---- names, values, pairs, bindings
 
+-- the order of names is total
 pub name_cmp-total : IsTotalOrder name_cmp
 name_cmp-total = nat_list_cmp_total
 
+-- names that tie are equal
 pub name_cmp-tells : TellsApart name_cmp
 name_cmp-tells x y h = (bytes_decides x y).0 (texts_ties x y ∙ ap is_eq h)
 
+-- the term of a value
 abbrev term_in : Value → Tree
 term_in (one t) = t
 
+-- values compare as their terms do
 term_in-cmp : (v w : Value) → tree_cmp (term_in v) (term_in w) ≡ value_cmp v w
 term_in-cmp (one t) (one u) = refl
 
+-- the order of values is total
 pub value_cmp-total : IsTotalOrder value_cmp
 value_cmp-total = subst IsTotalOrder (λ i v w. term_in-cmp v w i) (on_total term_in tree_cmp-total)
 
+-- values that tie are equal
 pub value_cmp-tells : TellsApart value_cmp
 value_cmp-tells (one t) (one u) h = ap one (tree_cmp-equal t u h)
 
+-- the order of pairs is total
 pub pair_cmp-total : IsTotalOrder pair_cmp
 pair_cmp-total = then_total (on_total (λ (p : Pair). p.0) name_cmp-total) (on_total (λ (p : Pair). p.1) value_cmp-total)
 
+-- pairs that tie are equal
 pub pair_cmp-tells : TellsApart pair_cmp
 pair_cmp-tells p q h =
     let e : p.0 ≡ q.0 = name_cmp-tells p.0 q.0 (first_Equal (name_cmp p.0 q.0) (value_cmp p.1 q.1) h) in
     let d : p.1 ≡ q.1 = value_cmp-tells p.1 q.1 (second_Equal (name_cmp p.0 q.0) (value_cmp p.1 q.1) h) in
     λ i. (e i, d i)
 
+-- the order of bindings is total
 pub binding_cmp-total : IsTotalOrder binding_cmp
 binding_cmp-total = lists_total pair_cmp-total
 
+-- bindings that tie are equal
 pub binding_cmp-tells : TellsApart binding_cmp
 binding_cmp-tells = lists_tell pair_cmp pair_cmp-tells
 
 -- ---- strictly ascending lists
 
 module _ {A : Type 0} (cmp : A → A → Ordering) (o : IsTotalOrder cmp) where
+  -- nothing is below itself
   not_below_itself : (x : A) → cmp x x ≡ Less → ⊥
   not_below_itself x h = let e : cmp x x ≡ Equal = tied_itself o x in cc
 
+  -- what is below a list is below each of its members
   below_member : (x y : A) (ys : List A) → IsBelow cmp x ys → In y ys → cmp x y ≡ Less
   below_member x y [] b h = elim h [ ]
   below_member x y (z ∷ ys) b (here e) = subst (λ (w : A). cmp x w ≡ Less) (sym e) b.0
   below_member x y (z ∷ ys) b (there h) = below_member x y ys b.1 h
 
-  not_a_member : (x : A) (ys : List A) → IsBelow cmp x ys → In x ys → ⊥
+  -- what is below a list is not in it
+  pub not_a_member : (x : A) (ys : List A) → IsBelow cmp x ys → In x ys → ⊥
   not_a_member x ys b h = not_below_itself x (below_member x x ys b h)
 
   -- two strictly ascending lists with the same members have the same first one
@@ -98,10 +114,12 @@ module _ {A : Type 0} (cmp : A → A → Ordering) (o : IsTotalOrder cmp) where
   same_first x y xs ys b c (there h) (there k) =
       absurd (not_below_itself x (o.trans x y x (below_member x y xs b k) (below_member y x ys c h)))
 
+  -- a member behind the one first element is behind the other
   in_rest : (x y z : A) (xs ys : List A) → x ≡ y → IsBelow cmp x xs → In z xs → In z (y ∷ ys) → In z ys
   in_rest x y z xs ys e b h (here f) = absurd (not_a_member x xs b (subst (λ (w : A). In w xs) (f ∙ sym e) h))
   in_rest x y z xs ys e b h (there k) = k
 
+  -- strictly ascending lists with the same members are equal
   pub fixed_by_members : (xs ys : List A) → IsAscending cmp xs → IsAscending cmp ys → ((z : A) → In z xs → In z ys) → ((z : A) → In z ys → In z xs) → xs ≡ ys
   fixed_by_members [] [] a b f g = refl
   fixed_by_members [] (y ∷ ys) a b f g = elim (g y (here refl)) [ ]

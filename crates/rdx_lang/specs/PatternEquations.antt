@@ -11,26 +11,34 @@ use Rattle.rdx_lang.specs.declared.pattern.Pat as code_pattern
 use Rattle.rdx_lang.specs.declared.pattern.Pat.TheVariants as pattern_variants
 use Rattle.rdx_lang.specs.declared.pattern.Ref.{Ref}
 
+-- what a pattern stands for, by its form
 pattern_at : (p : code_pattern.Pat) (o : layer.Pat-F code_item.Item code_pattern.Pat) → code_pattern.out-Pat p ≡ o → pattern_of p ≡ pattern_step (code_pattern.map-Pat code_item.Item code_pattern.Pat Slot Pattern slot_of pattern_of o)
 pattern_at p o e = code_pattern.fold_out-Pat Slot Pattern slot_step pattern_step p ∙ ap (λ x. pattern_step (code_pattern.map-Pat code_item.Item code_pattern.Pat Slot Pattern slot_of pattern_of x)) e
 
+-- what an item stands for, by its form
 slot_at : (s : code_item.Item) (o : layer.Item-F code_item.Item code_pattern.Pat) → code_item.out-Item s ≡ o → slot_of s ≡ slot_step (code_item.map-Item code_item.Item code_pattern.Pat Slot Pattern slot_of pattern_of o)
 slot_at s o e = code_item.fold_out-Item Slot Pattern slot_step pattern_step s ∙ ap (λ x. slot_step (code_item.map-Item code_item.Item code_pattern.Pat Slot Pattern slot_of pattern_of x)) e
 
+-- a built-in name
 pub pattern_kind : (k : Kind) → pattern_of (code_pattern.Kind k) ≡ of_kind k
 pattern_kind k = pattern_at _ _ (pattern_variants.outs-Kind k)
 
+-- a literal
 pub pattern_lit : (u : _) → pattern_of (code_pattern.Lit u) ≡ lit (tree_of u)
 pattern_lit u = pattern_at _ _ (pattern_variants.outs-Lit u)
 
+-- a nonterminal
 pub pattern_nt : (x : Ref) → pattern_of (code_pattern.Nt x) ≡ nt x
 pattern_nt x = pattern_at _ _ (pattern_variants.outs-Nt x)
 
+-- a named pattern
 pub pattern_named : (x : List ℕ) (q : _) → pattern_of (code_pattern.Named x q) ≡ named x (pattern_of q.value)
 pattern_named x q = pattern_at _ _ (pattern_variants.outs-Named x q)
 
+-- a list pattern
 pub pattern_seq : (v : _) → pattern_of (code_pattern.Seq v) ≡ seq (items_of (map slot_of v.items))
 pattern_seq v = pattern_at _ _ (pattern_variants.outs-Seq v)
 
+-- an item of one term
 pub slot_one : (p : code_pattern.Pat) → slot_of (code_item.One p) ≡ just (pattern_of p)
 slot_one p = slot_at _ _ (item_variants.outs-One p)

@@ -14,10 +14,12 @@ use Rattle.std.specs.declared.alloc.Global.{Global}
 pub data Slot : Type 0 where
   just : Pattern → Slot
 
+-- items in their order
 abbrev pub items_of : List Slot → Items
 items_of [] = nil
 items_of (just p ∷ slots) = one p (items_of slots)
 
+-- a form of patterns, once its parts are known
 abbrev pub pattern_step : layer.Pat-F Slot Pattern → Pattern
 pattern_step (layer.Kind k) = of_kind k
 pattern_step (layer.Lit u) = lit (tree_of u)
@@ -25,20 +27,26 @@ pattern_step (layer.Nt x) = nt x
 pattern_step (layer.Named x q) = named x q.value
 pattern_step (layer.Seq slots) = seq (items_of slots.items)
 
+-- a form of items, once its parts are known
 abbrev pub slot_step : layer.Item-F Slot Pattern → Slot
 slot_step (layer.One p) = just p
 
+-- the pattern that a pattern of the code stands for
 abbrev pub pattern_of : code_pattern.Pat → Pattern
 pattern_of = code_pattern.fold-Pat Slot Pattern slot_step pattern_step
 
+-- the item that an item of the code stands for
 abbrev pub slot_of : code_item.Item → Slot
 slot_of = code_item.fold-Item Slot Pattern slot_step pattern_step
 
+-- patterns in their order
 abbrev pub patterns_of : List code_pattern.Pat → List Pattern
 patterns_of ps = map pattern_of ps
 
+-- a nonterminal with its alternatives
 abbrev pub definition_of : code_ref.Ref × Vec code_pattern.Pat Global → Definition
 definition_of d = (d.0, patterns_of d.1.items)
 
+-- the language that a language of the code stands for
 abbrev pub language_of : code_language.Language → Language
 language_of l = record { name = l.name; nonterminals = map definition_of l.nts.items }

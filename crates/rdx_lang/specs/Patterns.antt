@@ -5,6 +5,7 @@ use Rattle.rdx_lang.specs.declared.pattern.Kind.{Kind}
 use Rattle.rdx_lang.specs.declared.pattern.Ref.{Ref}
 
 mutual
+  -- a built-in name, a literal term, a nonterminal, a pattern with a name, or a list
   pub data Pattern : Type 0 where
     of_kind : Kind → Pattern
     lit : Tree → Pattern
@@ -21,6 +22,7 @@ mutual
 abbrev pub Definition : Type 0
 Definition = Ref × List Pattern
 
+-- a name, and the definitions of nonterminals in their order
 pub record Language : Type 0 where
   pub name : List ℕ
   pub nonterminals : List Definition

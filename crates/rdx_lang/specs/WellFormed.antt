@@ -1,5 +1,5 @@
 -- Which patterns and languages are well formed.
-use Rattle.std.specs.Prelude.{◌≡◌, ℕ, Bool, true, false, not, ◌&&◌, ◌||◌, List, [], ◌∷◌, map, bytes_eq}
+use Rattle.std.specs.Prelude.{◌≡◌, Bool, true, false, not, ◌&&◌, ◌||◌, List, [], ◌∷◌, map, bytes_eq}
 use Rattle.rdx_lang.specs.Patterns.{Pattern, of_kind, lit, nt, named, seq, Items, nil, one, Definition, Language}
 use Rattle.rdx_lang.specs.declared.pattern.Ref.{Ref}
 use Rattle.rdx_lang.specs.declared.pattern.Ref.TheVariants.{Nt}
@@ -8,6 +8,7 @@ use Rattle.rdx_lang.specs.declared.pattern.Ref.TheVariants.{Nt}
 abbrev pub is_same : Ref → Ref → Bool
 is_same (Nt x) (Nt y) = bytes_eq x y
 
+-- x is one of these nonterminals
 abbrev pub is_among : Ref → List Ref → Bool
 is_among x [] = false
 is_among x (y ∷ ys) = is_same x y || is_among x ys

@@ -19,6 +19,7 @@ pub struct CheckedLang {
 impl CheckedLang {
     ghost use Rattle.std.specs.Prelude.{◌≡◌, ◌↔◌};
     ghost use Rattle.rdx_lang.specs.Checked.{language_in};
+    ghost use Rattle.rdx_lang.specs.Lookup.{alternatives_of};
     ghost use Rattle.rdx_lang.specs.Members.{In};
     ghost use Rattle.rdx_lang.specs.PatternView.{patterns_of};
     ghost use Rattle.rdx_lang.specs.Patterns.{Pattern};
@@ -40,9 +41,9 @@ impl CheckedLang {
         &self.language
     }
 
-    /// The alternatives of a nonterminal, as they are written; none where it isn't one of the
-    /// language's.
+    /// The alternatives of a nonterminal, in their order; none where the language doesn't define it.
     pub fn alternatives(&self, name: &Ref) -> &[Pat]
+        ensures same { patterns_of result.now ≡ alternatives_of (language_in self.now) name.now }
         ensures all { (p : Pattern) → (In p (patterns_of result.now) ↔ IsAlternative (language_in self.now) name.now p) }
         ensures checked { IsChecked (language_in self.now) }
     {

@@ -7,6 +7,8 @@ use rdx_term::Name;
 /// alternatives as they are written.
 #[derive(Drop)]
 pub struct Language {
+    /// What the language goes by.
     pub name: Name,
+    /// The nonterminals, each with its alternatives.
     pub nts: Vec<(Ref, Vec<Pat>)>,
 }

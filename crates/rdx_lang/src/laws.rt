@@ -2,7 +2,7 @@
 ghost use Rattle.std.specs.Cmp.{IsTotalOrder};
 ghost use Rattle.rdx_lang.specs.Order.{value_cmp, binding_cmp};
 ghost use Rattle.rdx_lang.specs.OrderLaws.{TellsApart};
-ghost use Rattle.rdx_lang.specs.Laws.{OneListing, OneJoin};
+ghost use Rattle.rdx_lang.specs.Laws.{OneListing, OneJoin, JoinAgrees, JoinExists, NamesAscend, BindsAMap, BindsItsNames};
 
 /// The order of values is total, and values that it doesn't tell apart are equal.
 pub fn values_are_ordered()
@@ -25,4 +25,19 @@ pub fn one_listing()
 /// Two bindings have one join at most.
 pub fn one_join()
     ensures { OneJoin }
+{}
+
+/// Two bindings have a join exactly where the names that both bind have equal values, marks
+/// included.
+pub fn join_exists()
+    ensures only { JoinAgrees }
+    ensures always { JoinExists }
+{}
+
+/// Whatever a pattern matches, its binding is a finite map of the same names, those that are written
+/// in the pattern itself.
+pub fn names_of_matches()
+    ensures ascending { NamesAscend }
+    ensures map { BindsAMap }
+    ensures names { BindsItsNames }
 {}

@@ -4,6 +4,13 @@
 //! gives each of its nonterminals a list of patterns, its alternatives. Both follow the pattern
 //! language of PLT Redex (the Redex reference manual, "Patterns"; Klein, McCarthy, Jaconette and
 //! Findler, "A semantics for context-sensitive reduction semantics", APLAS 2011).
+//!
+//! What the names of a pattern stand for is a [`Binding`], a finite map. With which bindings a
+//! pattern matches a term is a relation, the least with the rules of `specs/Rules.antt`; a
+//! [`Matcher`] lists these bindings, ascending and each once. It is given a language and a pattern
+//! that passed their checks, a [`CheckedLang`] and a [`CheckedPat`]. [`laws`] has what follows from
+//! the definitions: two bindings have a join exactly where they agree, and one at most; a pattern
+//! has one listing of its bindings for a term; and each of these binds exactly the pattern's names.
 #![tactic(auto)]
 
 mod binding;
@@ -14,6 +21,8 @@ mod lookup;
 mod matcher;
 mod order;
 mod pattern;
+#[cfg(test)]
+mod tests;
 mod well_formed;
 
 pub use binding::{Binding, Value};

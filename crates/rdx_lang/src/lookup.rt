@@ -1,9 +1,7 @@
 // Nonterminals, looked up by name.
-ghost use Rattle.std.specs.Prelude.{◌≡◌, ◌↔◌, true};
-ghost use Rattle.rdx_lang.specs.Members.{In};
-ghost use Rattle.rdx_lang.specs.Patterns.{Pattern};
+ghost use Rattle.std.specs.Prelude.{◌≡◌};
+ghost use Rattle.rdx_lang.specs.Lookup.{alternatives_of};
 ghost use Rattle.rdx_lang.specs.PatternView.{patterns_of, language_of};
-ghost use Rattle.rdx_lang.specs.Rules.{IsAlternative};
 ghost use Rattle.rdx_lang.specs.WellFormed as tests;
 
 use crate::{Language, Pat, Ref};
@@ -17,21 +15,21 @@ fn is_same(a: &Ref, b: &Ref) -> bool
     }
 }
 
+// Whether the language defines the nonterminal.
 pub(crate) fn is_defined(language: &Language, name: &Ref) -> bool
     ensures { result ≡ tests.is_among name.now (tests.defined (language_of language.now)) }
 {
-    for (other, _) in &language.nts {
-        if is_same(name, other) {
+    for (defined, _) in &language.nts {
+        if is_same(name, defined) {
             return true;
         }
     }
     false
 }
 
-// The alternatives of a nonterminal, where no two nonterminals are the same.
+// The alternatives of a nonterminal, in their order; none where it isn't defined.
 pub(crate) fn alternatives<'a>(language: &'a Language, name: &Ref) -> &'a [Pat]
-    requires { tests.are_distinct (tests.defined (language_of language.now)) ≡ true }
-    ensures { (p : Pattern) → (In p (patterns_of result.now) ↔ IsAlternative (language_of language.now) name.now p) }
+    ensures { patterns_of result.now ≡ alternatives_of (language_of language.now) name.now }
 {
     for (other, alternatives) in &language.nts {
         if is_same(name, other) {

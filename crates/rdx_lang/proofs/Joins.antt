@@ -1,0 +1,98 @@
+-- Finite maps that agree have a join.
+use Rattle.std.proofs.Common.{◌≡◌, ℕ, List, [], ◌∷◌, refl, sym, ◌∙◌, subst, ◌⊎◌, inl, inr}
+use Rattle.std.specs.declared.cmp.Ordering.{Ordering}
+use Rattle.std.specs.declared.cmp.Ordering.TheVariants.{Less, Equal, Greater}
+use Rattle.rdx_lang.specs.Ascending.{IsBelow}
+use Rattle.rdx_lang.specs.Bindings.{Value, Pair, Binding, name_cmp, bound_names, HasAscendingNames}
+use Rattle.rdx_lang.specs.Join.{IsJoin, Agree}
+use Rattle.rdx_lang.specs.JoinLaws.{one_value}
+use Rattle.rdx_lang.specs.Members.{In, here, there}
+use Rattle.rdx_lang.specs.NameLaws.{above_first, below_all, with_name-below, bound_names-join}
+use Rattle.rdx_lang.specs.OrderLaws.{name_cmp-tells}
+
+-- a and b have a join
+abbrev HasJoin : Binding → Binding → Type 0
+HasJoin a b = (c : Binding) × IsJoin a b c
+
+module _ (p q : Pair) (b : Binding) (a : HasAscendingNames (q ∷ b)) where
+  -- the new pair comes first
+  pair_first : name_cmp p.0 q.0 ≡ Less → HasJoin (p ∷ []) (q ∷ b)
+  pair_first e = (
+    p ∷ q ∷ b,
+    record { map = ((e, below_all p.0 q.0 (bound_names b) e a.0), a); sound = sound; left = left; right = λ r i. there i },
+  )
+    where
+      sound : (r : Pair) → In r (p ∷ q ∷ b) → In r (p ∷ []) ⊎ In r (q ∷ b)
+      sound r (here d) = inl (here d)
+      sound r (there i) = inr i
+
+      left : (r : Pair) → In r (p ∷ []) → In r (p ∷ q ∷ b)
+      left r (here d) = here d
+      left r (there i) = elim i [ ]
+
+  -- it is there
+  pair_there : p ≡ q → HasJoin (p ∷ []) (q ∷ b)
+  pair_there e = (q ∷ b, record { map = a; sound = λ r i. inr i; left = left; right = λ r i. i })
+    where
+      left : (r : Pair) → In r (p ∷ []) → In r (q ∷ b)
+      left r (here d) = here (d ∙ e)
+      left r (there i) = elim i [ ]
+
+  -- it comes behind the first pair
+  pair_behind : name_cmp p.0 q.0 ≡ Greater → HasJoin (p ∷ []) b → HasJoin (p ∷ []) (q ∷ b)
+  pair_behind e j = (q ∷ j.0, record { map = (below, j.1.map); sound = sound; left = λ r i. there (j.1.left r i); right = right })
+    where
+      below : IsBelow name_cmp q.0 (bound_names j.0)
+      below = subst (λ (xs : List (List ℕ)). IsBelow name_cmp q.0 xs) (sym (bound_names-join (p ∷ []) b j.0 a.1 j.1)) (with_name-below q.0 p.0 (bound_names b) (above_first p.0 q.0 e) a.0)
+
+      sound : (r : Pair) → In r (q ∷ j.0) → In r (p ∷ []) ⊎ In r (q ∷ b)
+      sound r (here d) = inr (here d)
+      sound r (there i) = elim (j.1.sound r i) [ inl l ↦ inl l | inr m ↦ inr (there m) ]
+
+      right : (r : Pair) → In r (q ∷ b) → In r (q ∷ j.0)
+      right r (here d) = here d
+      right r (there i) = there (j.1.right r i)
+
+-- one pair more
+pair_join : (p : Pair) (b : Binding) → HasAscendingNames b → Agree (p ∷ []) b → HasJoin (p ∷ []) b
+pair_join p [] a g = (p ∷ [], record { map = (tt, tt); sound = λ r i. inl i; left = λ r i. i; right = λ r i. elim i [ ] })
+pair_join p (q ∷ b) a g = by_order (name_cmp p.0 q.0) refl (pair_join p b a.1 (λ x v w h k. g x v w h (there k)))
+  where
+    by_order : (o : Ordering) → name_cmp p.0 q.0 ≡ o → HasJoin (p ∷ []) b → HasJoin (p ∷ []) (q ∷ b)
+    by_order Less e j = pair_first p q b a e
+    by_order Equal e j =
+        let n : p.0 ≡ q.0 = name_cmp-tells p.0 q.0 e in
+        let v : p.1 ≡ q.1 = g p.0 p.1 q.1 (here refl) (here (λ i. (n i, q.1))) in
+        pair_there p q b a (λ i. (n i, v i))
+    by_order Greater e j = pair_behind p q b a e j
+
+-- a pair put to one side of a join
+further : (p : Pair) (a b d c : Binding) → IsJoin a b d → IsJoin (p ∷ []) d c → IsJoin (p ∷ a) b c
+further p a b d c j k = record { map = k.map; sound = sound; left = left; right = λ r i. k.right r (j.right r i) }
+  where
+    from_first : (r : Pair) → In r (p ∷ []) → In r (p ∷ a)
+    from_first r (here e) = here e
+    from_first r (there i) = elim i [ ]
+
+    sound : (r : Pair) → In r c → In r (p ∷ a) ⊎ In r b
+    sound r i = elim (k.sound r i) [ inl l ↦ inl (from_first r l) | inr m ↦ elim (j.sound r m) [ inl l ↦ inl (there l) | inr n ↦ inr n ] ]
+
+    left : (r : Pair) → In r (p ∷ a) → In r c
+    left r (here e) = k.left r (here e)
+    left r (there i) = k.right r (j.left r i)
+
+-- maps that agree have a join
+pub join_exists : (a b : Binding) → HasAscendingNames a → HasAscendingNames b → Agree a b → HasJoin a b
+join_exists [] b h k g = (b, record { map = k; sound = λ r i. inr i; left = λ r i. elim i [ ]; right = λ r i. i })
+join_exists (p ∷ a) b h k g = with_rest (join_exists a b h.1 k (λ x v w m n. g x v w (there m) n))
+  where
+    in_front : (x : List ℕ) (v : Value) → In (x, v) (p ∷ []) → In (x, v) (p ∷ a)
+    in_front x v (here e) = here e
+    in_front x v (there i) = elim i [ ]
+
+    agree : (j : HasJoin a b) → Agree (p ∷ []) j.0
+    agree j x v w m n =
+        elim (j.1.sound (x, w) n) [ inl l ↦ one_value x v w (p ∷ a) h (in_front x v m) (there l) | inr r ↦ g x v w (in_front x v m) r ]
+
+    with_rest : HasJoin a b → HasJoin (p ∷ a) b
+    with_rest j = let c : HasJoin (p ∷ []) j.0 = pair_join p j.0 j.1.map (agree j) in (c.0, further p a b j.0 c.0 j.1 c.1)

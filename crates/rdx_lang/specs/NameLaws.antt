@@ -1,0 +1,188 @@
+-- The names of a pattern ascend, and a match binds exactly them.
+use Rattle.std.proofs.Common.{◌≡◌, ℕ, List, [], ◌∷◌, refl, sym, ◌∙◌, ap, subst, ◌⊎◌, inl, inr}
+use Rattle.std.specs.declared.cmp.Ordering.{Ordering}
+use Rattle.std.specs.declared.cmp.Ordering.TheVariants.{Less, Equal, Greater}
+use Rattle.std.specs.Ordering.{ordering_reverse}
+use Rattle.rdx_term.specs.Tree.{Tree, Trees}
+use Rattle.rdx_lang.specs.Ascending.{IsBelow, IsAscending}
+use Rattle.rdx_lang.specs.Bindings.{Pair, Binding, name_cmp, bound_names, HasAscendingNames}
+use Rattle.rdx_lang.specs.Bindings.{one as one_term}
+use Rattle.rdx_lang.specs.Join.{IsJoin}
+use Rattle.rdx_lang.specs.JoinLaws.{bound_names-member}
+use Rattle.rdx_lang.specs.Members.{In, here, there}
+use Rattle.rdx_lang.specs.Names.{placed, with_name, union, names, names_of}
+use Rattle.rdx_lang.specs.OrderLaws.{name_cmp-total, name_cmp-tells, fixed_by_members}
+use Rattle.rdx_lang.specs.Patterns.{Pattern, of_kind, lit, nt, named, seq, Items, nil, one, Language}
+use Rattle.rdx_lang.specs.Rules.{Match, MatchItems, match_kind, match_lit, match_nt, match_named, match_seq, match_none, match_one}
+
+-- ---- one name more
+
+-- what is above y, y is below
+pub above_first : (x y : List ℕ) → name_cmp x y ≡ Greater → name_cmp y x ≡ Less
+above_first x y e = name_cmp-total.antisymm y x ∙ ap ordering_reverse e
+
+-- what is below y is below all that y is below
+pub below_all : (x y : List ℕ) (ys : List (List ℕ)) → name_cmp x y ≡ Less → IsBelow name_cmp y ys → IsBelow name_cmp x ys
+below_all x y [] l h = tt
+below_all x y (z ∷ ys) l h = (name_cmp-total.trans x y z l h.0, below_all x y ys l h.1)
+
+-- z stays below, where it is below the name that comes in
+pub with_name-below : (z x : List ℕ) (ys : List (List ℕ)) → name_cmp z x ≡ Less → IsBelow name_cmp z ys → IsBelow name_cmp z (with_name x ys)
+with_name-below z x [] l h = (l, tt)
+with_name-below z x (y ∷ ys) l h = by_order (name_cmp x y) (with_name-below z x ys l h.1)
+  where
+    by_order : (o : Ordering) → IsBelow name_cmp z (with_name x ys) → IsBelow name_cmp z (placed o x y ys (with_name x ys))
+    by_order Less k = (l, h)
+    by_order Equal k = h
+    by_order Greater k = (h.0, k)
+
+-- the names still ascend
+with_name-ascends : (x : List ℕ) (ys : List (List ℕ)) → IsAscending name_cmp ys → IsAscending name_cmp (with_name x ys)
+with_name-ascends x [] a = (tt, tt)
+with_name-ascends x (y ∷ ys) a = by_order (name_cmp x y) refl (with_name-ascends x ys a.1)
+  where
+    by_order : (o : Ordering) → name_cmp x y ≡ o → IsAscending name_cmp (with_name x ys) → IsAscending name_cmp (placed o x y ys (with_name x ys))
+    by_order Less e k = ((e, below_all x y ys e a.0), a)
+    by_order Equal e k = a
+    by_order Greater e k = (with_name-below y x ys (above_first x y e) a.0, k)
+
+-- nothing comes in but the name
+with_name-sound : (x : List ℕ) (ys : List (List ℕ)) (z : List ℕ) → In z (with_name x ys) → In z (x ∷ ys)
+with_name-sound x [] z h = h
+with_name-sound x (y ∷ ys) z h = by_order (name_cmp x y) (with_name-sound x ys z) h
+  where
+    deeper : In z (x ∷ ys) → In z (x ∷ y ∷ ys)
+    deeper (here e) = here e
+    deeper (there i) = there (there i)
+
+    by_order : (o : Ordering) → (In z (with_name x ys) → In z (x ∷ ys)) → In z (placed o x y ys (with_name x ys)) → In z (x ∷ y ∷ ys)
+    by_order Less f i = i
+    by_order Equal f i = there i
+    by_order Greater f (here e) = there (here e)
+    by_order Greater f (there i) = deeper (f i)
+
+-- the name is there, and all that was
+with_name-complete : (x : List ℕ) (ys : List (List ℕ)) (z : List ℕ) → In z (x ∷ ys) → In z (with_name x ys)
+with_name-complete x [] z h = h
+with_name-complete x (y ∷ ys) z h = by_order (name_cmp x y) refl (with_name-complete x ys z) h
+  where
+    by_order : (o : Ordering) → name_cmp x y ≡ o → (In z (x ∷ ys) → In z (with_name x ys)) → In z (x ∷ y ∷ ys) → In z (placed o x y ys (with_name x ys))
+    by_order Less e f i = i
+    by_order Equal e f (here d) = here (d ∙ name_cmp-tells x y e)
+    by_order Equal e f (there i) = i
+    by_order Greater e f (here d) = there (f (here d))
+    by_order Greater e f (there (here d)) = here d
+    by_order Greater e f (there (there i)) = there (f (there i))
+
+-- ---- the names of two lists
+
+-- the names of both lists ascend where those of the second do
+union-ascends : (xs ys : List (List ℕ)) → IsAscending name_cmp ys → IsAscending name_cmp (union xs ys)
+union-ascends [] ys a = a
+union-ascends (x ∷ xs) ys a = with_name-ascends x (union xs ys) (union-ascends xs ys a)
+
+-- each name is of one of the lists
+union-sound : (xs ys : List (List ℕ)) (z : List ℕ) → In z (union xs ys) → In z xs ⊎ In z ys
+union-sound [] ys z h = inr h
+union-sound (x ∷ xs) ys z h = of_first (with_name-sound x (union xs ys) z h) (union-sound xs ys z)
+  where
+    of_first : In z (x ∷ union xs ys) → (In z (union xs ys) → In z xs ⊎ In z ys) → In z (x ∷ xs) ⊎ In z ys
+    of_first (here e) f = inl (here e)
+    of_first (there i) f = elim (f i) [ inl l ↦ inl (there l) | inr r ↦ inr r ]
+
+-- the names of the first list are there
+union-left : (xs ys : List (List ℕ)) (z : List ℕ) → In z xs → In z (union xs ys)
+union-left [] ys z h = elim h [ ]
+union-left (x ∷ xs) ys z (here e) = with_name-complete x (union xs ys) z (here e)
+union-left (x ∷ xs) ys z (there h) = with_name-complete x (union xs ys) z (there (union-left xs ys z h))
+
+-- the names of the second list are there
+union-right : (xs ys : List (List ℕ)) (z : List ℕ) → In z ys → In z (union xs ys)
+union-right [] ys z h = h
+union-right (x ∷ xs) ys z h = with_name-complete x (union xs ys) z (there (union-right xs ys z h))
+
+-- ---- the names of a pattern
+
+mutual
+  -- the names of a pattern ascend
+  pub names-ascend : (p : Pattern) → IsAscending name_cmp (names p)
+  names-ascend (of_kind k) = tt
+  names-ascend (lit u) = tt
+  names-ascend (nt x) = tt
+  names-ascend (named x q) = with_name-ascends x (names q) (names-ascend q)
+  names-ascend (seq ps) = names_of-ascend ps
+
+  -- the names of items ascend
+  names_of-ascend : (ps : Items) → IsAscending name_cmp (names_of ps)
+  names_of-ascend nil = tt
+  names_of-ascend (one p ps) = union-ascends (names p) (names_of ps) (names_of-ascend ps)
+
+-- ---- the names of a join
+
+-- what has the name of each pair has each bound name
+bound_names-within : (b : Binding) (xs : List (List ℕ)) → ((p : Pair) → In p b → In p.0 xs) → (z : List ℕ) → In z (bound_names b) → In z xs
+bound_names-within [] xs f z h = elim h [ ]
+bound_names-within (p ∷ b) xs f z (here e) = subst (λ (w : List ℕ). In w xs) (sym e) (f p (here refl))
+bound_names-within (p ∷ b) xs f z (there h) = bound_names-within b xs (λ q i. f q (there i)) z h
+
+-- a join binds the names that either binds
+pub bound_names-join : (a b c : Binding) → HasAscendingNames b → IsJoin a b c → bound_names c ≡ union (bound_names a) (bound_names b)
+bound_names-join a b c h j =
+    fixed_by_members name_cmp name_cmp-total (bound_names c) (union (bound_names a) (bound_names b)) j.map (union-ascends (bound_names a) (bound_names b) h) to from
+  where
+    of_pair : (p : Pair) → In p a ⊎ In p b → In p.0 (union (bound_names a) (bound_names b))
+    of_pair p (inl l) = union-left (bound_names a) (bound_names b) p.0 (bound_names-member p a l)
+    of_pair p (inr r) = union-right (bound_names a) (bound_names b) p.0 (bound_names-member p b r)
+
+    to : (z : List ℕ) → In z (bound_names c) → In z (union (bound_names a) (bound_names b))
+    to = bound_names-within c (union (bound_names a) (bound_names b)) (λ p i. of_pair p (j.sound p i))
+
+    of_either : (z : List ℕ) → In z (bound_names a) ⊎ In z (bound_names b) → In z (bound_names c)
+    of_either z (inl l) = bound_names-within a (bound_names c) (λ p i. bound_names-member p c (j.left p i)) z l
+    of_either z (inr r) = bound_names-within b (bound_names c) (λ p i. bound_names-member p c (j.right p i)) z r
+
+    from : (z : List ℕ) → In z (union (bound_names a) (bound_names b)) → In z (bound_names c)
+    from z h = of_either z (union-sound (bound_names a) (bound_names b) z h)
+
+-- the order of two bindings makes no difference to their join
+pub turned_join : (a b c : Binding) → IsJoin a b c → IsJoin b a c
+turned_join a b c j = record {
+  map = j.map;
+  sound = λ p i. elim (j.sound p i) [ inl l ↦ inr l | inr r ↦ inl r ];
+  left = j.right;
+  right = j.left;
+}
+
+-- ---- the names of a match
+
+mutual
+  -- a match binds a finite map
+  pub match-ascends : {L : Language} {p : Pattern} {t : Tree} {b : Binding} → Match L p t b → HasAscendingNames b
+  match-ascends (match_kind h) = tt
+  match-ascends (match_lit h) = tt
+  match-ascends (match_nt a h) = tt
+  match-ascends (match_named h j) = j.map
+  match-ascends (match_seq h) = items-ascends h
+
+  -- so do items that match
+  items-ascends : {L : Language} {ps : Items} {ts : Trees} {b : Binding} → MatchItems L ps ts b → HasAscendingNames b
+  items-ascends match_none = tt
+  items-ascends (match_one h g j) = j.map
+
+-- a join binds the names of both, by what they are known to bind
+joined : (a b : Binding) {c : Binding} {xs ys : List (List ℕ)} → HasAscendingNames b → IsJoin a b c → bound_names a ≡ xs → bound_names b ≡ ys → bound_names c ≡ union xs ys
+joined a b {c = c} h j e f = bound_names-join a b c h j ∙ (λ i. union (e i) (f i))
+
+mutual
+  -- a match binds exactly the names of its pattern
+  pub match-names : {L : Language} {p : Pattern} {t : Tree} {b : Binding} → Match L p t b → bound_names b ≡ names p
+  match-names (match_kind h) = refl
+  match-names (match_lit h) = refl
+  match-names (match_nt a h) = refl
+  match-names (match_named {x = x} {t = t} {c = c} {b = b} h j) = joined ((x, one_term t) ∷ []) c (match-ascends h) (turned_join c ((x, one_term t) ∷ []) b j) refl (match-names h)
+  match-names (match_seq h) = items-names h
+
+  -- items that match bind exactly their names
+  items-names : {L : Language} {ps : Items} {ts : Trees} {b : Binding} → MatchItems L ps ts b → bound_names b ≡ names_of ps
+  items-names match_none = refl
+  items-names (match_one {c = c} {d = d} h g j) = joined c d (items-ascends g) j (match-names h) (items-names g)

@@ -1,0 +1,37 @@
+-- The names that a pattern binds: ascending by their bytes, each once. What names stand for inside a nonterminal's alternatives is
+-- forgotten where the nonterminal has matched, so a nonterminal binds none.
+use Rattle.std.specs.Prelude.{ℕ, List, [], ◌∷◌}
+use Rattle.std.specs.declared.cmp.Ordering.{Ordering}
+use Rattle.std.specs.declared.cmp.Ordering.TheVariants.{Less, Equal, Greater}
+use Rattle.rdx_lang.specs.Bindings.{name_cmp}
+use Rattle.rdx_lang.specs.Patterns.{Pattern, of_kind, lit, nt, named, seq, Items, nil, one}
+
+-- ascending names y and ys with x put among them: x compares so to y, and further is ys with x put among them
+abbrev pub placed : Ordering → List ℕ → List ℕ → List (List ℕ) → List (List ℕ) → List (List ℕ)
+placed Less x y ys further = x ∷ y ∷ ys
+placed Equal x y ys further = y ∷ ys
+placed Greater x y ys further = y ∷ further
+
+-- x at its place in ascending names, unless it is there
+abbrev pub with_name : List ℕ → List (List ℕ) → List (List ℕ)
+with_name x [] = x ∷ []
+with_name x (y ∷ ys) = placed (name_cmp x y) x y ys (with_name x ys)
+
+-- the names of two ascending lists together
+abbrev pub union : List (List ℕ) → List (List ℕ) → List (List ℕ)
+union [] ys = ys
+union (x ∷ xs) ys = with_name x (union xs ys)
+
+abbrev mutual
+  -- the names that the pattern binds
+  pub names : Pattern → List (List ℕ)
+  names (of_kind k) = []
+  names (lit u) = []
+  names (nt x) = []
+  names (named x q) = with_name x (names q)
+  names (seq ps) = names_of ps
+
+  -- the names that the items bind together
+  pub names_of : Items → List (List ℕ)
+  names_of nil = []
+  names_of (one p ps) = union (names p) (names_of ps)
