@@ -4,8 +4,8 @@ use Rattle.std.specs.declared.cmp.Ordering.{Ordering}
 use Rattle.std.specs.declared.cmp.Ordering.TheVariants.{Less, Equal, Greater}
 use Rattle.std.specs.Ordering.{is_eq, ordering_reverse}
 use Rattle.std.proofs.lemmas.Cmp.{tied_itself}
-use Rattle.rdx_lang.specs.Ascending.{IsBelow, IsAscending}
-use Rattle.rdx_lang.specs.Bindings.{Value, Pair, Binding, name_cmp, bound_names, HasAscendingNames}
+use Rattle.rdx_lang.specs.Ascending.{IsBelow}
+use Rattle.rdx_lang.specs.Bindings.{Pair, Binding, name_cmp, bound_names, HasAscendingNames}
 use Rattle.rdx_lang.specs.Join.{IsJoin}
 use Rattle.rdx_lang.specs.Members.{In, here, there}
 use Rattle.rdx_lang.specs.Order.{value_cmp}

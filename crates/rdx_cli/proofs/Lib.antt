@@ -7,4 +7,12 @@ pub mod Keys
 pub mod Measures
 pub mod AnyOf
 pub mod RuleSteps
-pub mod WellFormed
+pub mod Sexps
+pub mod ReadPatterns
+pub mod ReadTerms
+pub mod ReadLists
+pub mod DataSizes
+pub mod Distinct
+pub mod Tested
+pub mod Answered
+pub mod OneText

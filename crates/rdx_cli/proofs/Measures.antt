@@ -1,8 +1,7 @@
 -- Why the search ends: the nodes of the term fall, or they stay and the rank along left edges falls. A left edge leads from a
 -- pattern to one that is matched against the same term.
-use Rattle.std.proofs.Common.{◌≡◌, ℕ, zero, suc, ◌+◌, ◌*◌, ◌<◌, ◌≤◌, max, Bool, true, false, List, [], ◌∷◌, refl, sym, ◌∙◌, ap, subst, arith}
+use Rattle.std.proofs.Common.{◌≡◌, ℕ, ◌+◌, ◌*◌, ◌<◌, ◌≤◌, max, true, List, [], ◌∷◌, ◌∙◌, ap, arith}
 use Rattle.std.proofs.Math.Nat.{mul-le-mul}
-use Rattle.std.specs.Prelude.{◌&&◌}
 use Rattle.std.specs.Cmp.{first_so, second_so}
 use Rattle.rdx_term.specs.Tree.{Tree, Trees, tree_nodes, trees_nodes}
 use Rattle.rdx_lang.specs.Members.{In, here, there}

@@ -1,9 +1,9 @@
 -- From what the search finds to the rules of matching.
-use Rattle.std.proofs.Common.{◌≡◌, ℕ, zero, suc, ◌+◌, ◌-◌, ◌<◌, ◌≤◌, Bool as Truth, true, false, if◌then◌else◌, IsTrue, Option, Some, None, List, [], ◌∷◌, length, drop, get_or, map, refl, sym, ◌∙◌, ap, subst, arith}
+use Rattle.std.proofs.Common.{◌≡◌, ℕ, zero, suc, ◌+◌, ◌-◌, ◌<◌, ◌≤◌, Bool as Truth, true, false, if◌then◌else◌, IsTrue, Option, None, List, [], ◌∷◌, length, drop, get_or, map, refl, sym, ◌∙◌, ap, subst, arith}
 use Rattle.std.specs.Prelude.{◌↔◌}
 use Rattle.rdx_term.specs.Bare.{bare}
 use Rattle.rdx_term.specs.Items.{item_has_fewer_nodes}
-use Rattle.rdx_term.specs.Tree.{Tree, hole, integer, truth, text, symbol, list, Trees, cons, trees, tree_nodes, trees_nodes}
+use Rattle.rdx_term.specs.Tree.{Tree, list, Trees, cons, trees, tree_nodes, trees_nodes}
 use Rattle.rdx_term.specs.Tree.{nil as no_trees}
 use Rattle.rdx_term.specs.View.{tree_of, trees_of}
 use Rattle.rdx_term.specs.declared.term.Term.{Term}
@@ -13,9 +13,9 @@ use Rattle.rdx_lang.specs.Listing.{IsListing, Matches}
 use Rattle.rdx_lang.specs.Members.{In, here, there}
 use Rattle.rdx_lang.specs.Order.{binding_cmp}
 use Rattle.rdx_lang.specs.Patterns.{Pattern, of_kind, lit, nt, named, seq, Items, nil, one, Language}
-use Rattle.rdx_lang.specs.PatternView.{pattern_of, Slot, just, slot_of, items_of}
+use Rattle.rdx_lang.specs.PatternView.{Slot, just, slot_of, items_of}
 use Rattle.rdx_lang.specs.Rest.{rest_at, rest_none}
-use Rattle.rdx_lang.specs.Rules.{Match, MatchItems, match_kind, match_lit, match_nt, match_named, match_seq, match_none, match_one, is_of_kind, IsAlternative}
+use Rattle.rdx_lang.specs.Rules.{Match, MatchItems, match_kind, match_lit, match_nt, match_named, match_seq, match_none, match_one, is_of_kind}
 use Rattle.rdx_lang.specs.Shown.{bindings_of, binding_of}
 use Rattle.rdx_lang.specs.declared.binding.Binding as code
 use Rattle.rdx_lang.specs.declared.pattern.Item as code_item

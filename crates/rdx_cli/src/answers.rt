@@ -1,8 +1,11 @@
 // The answers to the queries of a file.
-ghost use Rattle.std.specs.Prelude.{◌≡◌, ◌++◌, OnOk};
+ghost use Rattle.std.specs.Prelude.{◌≡◌, ◌++◌, map, OnOk};
 ghost use Rattle.rdx_lang.specs.BindingView.{pair_of, pairs_of};
+ghost use Rattle.rdx_lang.specs.Checked.{language_in};
 ghost use Rattle.rdx_lang.specs.Shown.{binding_of, bindings_of};
 ghost use Rattle.rdx_cli.specs.AnswerText as text;
+ghost use Rattle.rdx_cli.specs.Answering.{AppendsAnswers};
+ghost use Rattle.rdx_cli.specs.FormViews.{query_form};
 
 use crate::forms::File;
 use itoa::Buffer;
@@ -60,7 +63,9 @@ pub fn write_answers<M: Matcher>(
     matcher: &mut M,
     file: &File,
     out: &mut Vec<u8>,
-) -> Result<(), NoMemory> {
+) -> Result<(), NoMemory>
+    ensures { OnOk result (AppendsAnswers (language_in file.now.language) (map query_form file.now.queries.items) out.old.items out.new.items) }
+{
     for query in &file.queries {
         let found = matcher.matches(&file.language, &query.pat, &query.term)?;
         write_matches(&found, out)?;

@@ -5,6 +5,7 @@
 
 mod fault;
 mod file;
+mod grammar;
 mod language;
 mod names;
 mod patterns;

@@ -12,6 +12,7 @@ ghost use Rattle.std.specs.IoError.{error_kind};
 mod answers;
 mod file;
 mod forms;
+pub mod laws;
 pub mod matcher;
 mod reading;
 #[cfg(test)]

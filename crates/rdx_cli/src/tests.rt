@@ -1,4 +1,7 @@
 // Whole runs over memory, and the words that the program is given.
+mod files;
+mod matching;
+
 use crate::top::{Status, run};
 use crate::{status_without_words, words_of};
 use rdx_base::{MemSink, MemSource, SteadySource};
@@ -44,8 +47,8 @@ fn run_on<R: Abort + AllocGlobal>(
     let mut source = MemSource::new(bytes.to_vec(alloc)?, takes.piece, failing);
     let mut sink = MemSink::new(puts.piece, puts.failing.to_vec(alloc)?);
     let ended = run(alloc, &owned, &mut source, &mut sink);
-    assert_eq!(rt; ended, status, "at {words:?}");
-    assert_eq!(rt; sink.written(), text, "at {words:?}");
+    assert_eq!(rt; ended, status, "at {words:?} and the file {bytes:?}");
+    assert_eq!(rt; sink.written(), text, "at {words:?} and the file {bytes:?}");
     Ok(())
 }
 
@@ -72,16 +75,27 @@ fn files_have_their_transcripts(rt: HostRuntime) -> Result<(), Fail> {
     Ok(())
 }
 
+// A file of as many bytes as a file may have, and one of one more.
 #[test]
 fn a_long_file_is_refused(rt: HostRuntime) -> Result<(), Fail> {
     let alloc = rt.alloc();
     let words = vec![in alloc; String::from_str(alloc, "run")?]?;
-    let spaces = vec![in alloc; b' '; 1_048_577]?;
-    let mut source = SteadySource::new(spaces, 2_000_000);
-    let mut sink = MemSink::new(5, Vec::new(alloc));
-    let ended = run(alloc, &words, &mut source, &mut sink);
-    assert_eq!(rt; ended, Status::Refused);
-    assert_eq!(rt; sink.written(), b"refused F9 TooLong\n".as_slice());
+    let rows = [
+        (1_048_576, Status::Done, b"".as_slice()),
+        (
+            1_048_577,
+            Status::Refused,
+            b"refused F9 TooLong\n".as_slice(),
+        ),
+    ];
+    for (size, status, text) in rows {
+        let spaces = vec![in alloc; b' '; size]?;
+        let mut source = SteadySource::new(spaces, 2_000_000);
+        let mut sink = MemSink::new(5, Vec::new(alloc));
+        let ended = run(alloc, &words, &mut source, &mut sink);
+        assert_eq!(rt; ended, status);
+        assert_eq!(rt; sink.written(), text);
+    }
     Ok(())
 }
 

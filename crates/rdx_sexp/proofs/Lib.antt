@@ -6,3 +6,4 @@ pub mod Reading
 pub mod Spelled
 pub mod Sizes
 pub mod Whole
+pub mod Once

@@ -12,3 +12,4 @@ pub mod Answers
 pub mod Machine
 pub mod Stack
 pub mod Cursor
+pub mod Laws

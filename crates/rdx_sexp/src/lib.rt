@@ -12,6 +12,7 @@
 mod cursor;
 mod datum;
 mod fault;
+pub mod laws;
 mod lexer;
 mod read;
 mod reader;

@@ -1,7 +1,11 @@
 // The forms of a file.
+ghost use Rattle.rdx_sexp.specs.Size.{IsOfFileSize};
+ghost use Rattle.rdx_cli.specs.FormFile.{file_in};
+ghost use Rattle.rdx_cli.specs.FormViews.{file_forms};
+ghost use Rattle.rdx_cli.specs.Gives.{Gives};
 
 use crate::forms::language::read_language;
-use crate::forms::queries::read_query;
+use crate::forms::queries::read_queries;
 use crate::forms::{FormFault, Query};
 use rdx_lang::CheckedLang;
 use rdx_sexp::Datum;
@@ -14,16 +18,16 @@ pub struct File {
     pub queries: Vec<Query>,
 }
 
-/// What the data of a file stand for; `None` where there are none.
-pub fn read_forms(alloc: Global, data: &[Datum]) -> Result<Option<File>, FormFault> {
-    let [first, rest @ ..] = data else {
+/// What the forms of a file stand for; `None` where there are none.
+pub fn read_forms(alloc: Global, forms: &[Datum]) -> Result<Option<File>, FormFault>
+    requires { IsOfFileSize forms.now }
+    ensures { Gives file_forms result (file_in forms.now) }
+{
+    let [first, rest @ ..] = forms else {
         return Ok(None);
     };
     let grammar = read_language(alloc, first)?;
-    let mut queries = Vec::new(alloc);
-    for form in rest {
-        queries.push(read_query(alloc, &grammar, form)?)?;
-    }
+    let queries = read_queries(alloc, &grammar, rest)?;
     Ok(Some(File {
         language: grammar.language,
         queries,

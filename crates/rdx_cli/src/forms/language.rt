@@ -1,26 +1,22 @@
 // The form `(define-language L (e p ...) ...)`.
-ghost use Rattle.std.specs.Prelude.{◌≡◌, true, false, map, length, IfOk};
+ghost use Rattle.std.specs.Prelude.{◌≡◌, true, false, map, IfOk};
 ghost use Rattle.rdx_lang.specs.PatternView.{pattern_of, patterns_of, definition_of};
 ghost use Rattle.rdx_lang.specs.WellFormed as tests;
 ghost use Rattle.rdx_lang.specs.declared.pattern.Ref.TheVariants.{Nt};
+ghost use Rattle.rdx_cli.specs.FormLanguage as forms;
+ghost use Rattle.rdx_cli.specs.Gives.{Gives};
+ghost use Rattle.rdx_cli.specs.FormViews.{grammar_form, KnowsNames};
 ghost use Rattle.rdx_cli.specs.Nonterminals.{refs};
 
 use crate::forms::FormFault;
-use crate::forms::names::is_reserved;
+use crate::forms::grammar::Grammar;
+use crate::forms::names::{front, is_reserved};
 use crate::forms::patterns::{Place, read_pattern};
 use crate::forms::shape::{items, items_behind, name, symbol};
 use rdx_lang::{CheckedLang, Language, Pat, Ref};
 use rdx_sexp::Datum;
 use rdx_term::Name;
 use std::alloc::Global;
-
-/// A language, and the names of its nonterminals in their order.
-#[derive(Drop)]
-pub struct Grammar {
-    pub name: Name,
-    pub nonterminals: Vec<Name>,
-    pub language: CheckedLang,
-}
 
 // A pattern other than a nonterminal by itself, with or without names round it.
 fn is_guarded(pat: &Pat) -> bool
@@ -33,8 +29,10 @@ fn is_guarded(pat: &Pat) -> bool
     }
 }
 
-// The name and the alternatives of a definition, which has at least one.
-fn parts(definition: &Datum) -> Result<(&Datum, &[Datum]), FormFault> {
+// The head and the alternatives of a definition, of which there are some.
+fn parts(definition: &Datum) -> Result<(&Datum, &[Datum]), FormFault>
+    ensures { Gives (λ p. (p.0.now, p.1.now)) result (forms.parts_in definition.now) }
+{
     match items(definition)? {
         [_] | [] => Err(FormFault::Unbuilt),
         [head, alternatives @ ..] => Ok((head, alternatives)),
@@ -52,30 +50,28 @@ fn is_among(name: &Name, names: &[Name]) -> bool
     false
 }
 
-// The name of a definition, which is new and may be a nonterminal's.
-fn new_nonterminal(definition: &Datum, before: &[Name]) -> Result<Name, FormFault>
-    ensures { IfOk result (λ x. tests.is_among (Nt x) (refs before.now) ≡ false) }
+// The name of a definition, which may be a nonterminal's.
+fn nonterminal(definition: &Datum) -> Result<Name, FormFault>
+    ensures { Gives (λ x. x) result (forms.nonterminal_in definition.now) }
 {
     let (head, _) = parts(definition)?;
     let text = symbol(head)?;
-    if is_reserved(text.as_str()) || text.as_str().contains('_') {
+    if is_reserved(text.as_str()) || front(text.as_str()).is_some() {
         return Err(FormFault::Unbuilt);
     }
-    let name = name(text)?;
-    if is_among(&name, before) {
-        return Err(FormFault::Unbuilt);
-    }
-    Ok(name)
+    name(text)
 }
 
 // The names of the definitions, all different.
 fn read_names(alloc: Global, definitions: &[Datum]) -> Result<Vec<Name>, FormFault>
-    ensures distinct { IfOk result (λ names. tests.are_distinct (refs names.items) ≡ true) }
-    ensures each { IfOk result (λ names. length names.items ≡ length definitions.now) }
+    ensures { Gives (λ names. names.items) result (forms.distinct_names definitions.now) }
 {
     let mut names = Vec::new(alloc);
     for definition in definitions {
-        let name = new_nonterminal(definition, &names)?;
+        let name = nonterminal(definition)?;
+        if is_among(&name, &names) {
+            return Err(FormFault::Unbuilt);
+        }
         names.push(name)?;
     }
     Ok(names)
@@ -86,8 +82,7 @@ fn read_alternatives(
     nonterminals: &[Name],
     definition: &Datum,
 ) -> Result<Vec<Pat>, FormFault>
-    ensures well_formed { IfOk result (λ ps. tests.all_patterns (tests.is_well_formed (refs nonterminals.now)) (patterns_of ps.items) ≡ true) }
-    ensures guarded { IfOk result (λ ps. tests.all_patterns tests.is_guarded (patterns_of ps.items) ≡ true) }
+    ensures { Gives (λ ps. patterns_of ps.items) result (forms.alternatives_in nonterminals.now definition.now) }
 {
     let (_, alternatives) = parts(definition)?;
     let mut read = Vec::new(alloc);
@@ -101,27 +96,38 @@ fn read_alternatives(
     Ok(read)
 }
 
+fn read_definition(
+    alloc: Global,
+    nonterminals: &[Name],
+    definition: &Datum,
+) -> Result<(Ref, Vec<Pat>), FormFault>
+    ensures { Gives definition_of result (forms.definition_in nonterminals.now definition.now) }
+{
+    let name = nonterminal(definition)?;
+    let alternatives = read_alternatives(alloc, nonterminals, definition)?;
+    Ok((Ref::Nt(name), alternatives))
+}
+
 // Each nonterminal with its alternatives.
 fn read_definitions(
     alloc: Global,
     nonterminals: &[Name],
     definitions: &[Datum],
 ) -> Result<Vec<(Ref, Vec<Pat>)>, FormFault>
-    requires { length nonterminals.now ≡ length definitions.now }
-    ensures defined { IfOk result (λ nts. map (λ d. d.0) (map definition_of nts.items) ≡ refs nonterminals.now) }
-    ensures well_formed { IfOk result (λ nts. tests.all_alternatives (tests.is_well_formed (refs nonterminals.now)) (map definition_of nts.items) ≡ true) }
-    ensures guarded { IfOk result (λ nts. tests.all_alternatives tests.is_guarded (map definition_of nts.items) ≡ true) }
+    ensures { Gives (λ nts. map definition_of nts.items) result (forms.each (forms.definition_in nonterminals.now) definitions.now) }
 {
     let mut nts = Vec::new(alloc);
-    for i in 0..nonterminals.len() {
-        let alternatives = read_alternatives(alloc, nonterminals, &definitions[i])?;
-        nts.push((Ref::Nt(nonterminals[i].share()?), alternatives))?;
+    for definition in definitions {
+        nts.push(read_definition(alloc, nonterminals, definition)?)?;
     }
     Ok(nts)
 }
 
 /// The language of a form.
-pub fn read_language(alloc: Global, form: &Datum) -> Result<Grammar, FormFault> {
+pub fn read_language(alloc: Global, form: &Datum) -> Result<Grammar, FormFault>
+    ensures gives { Gives grammar_form result (forms.grammar_in form.now) }
+    ensures known { IfOk result (λ grammar. KnowsNames grammar) }
+{
     let [first, definitions @ ..] = items_behind(form, "define-language")? else {
         return Err(FormFault::Unbuilt);
     };
@@ -129,11 +135,10 @@ pub fn read_language(alloc: Global, form: &Datum) -> Result<Grammar, FormFault> 
     let nonterminals = read_names(alloc, definitions)?;
     let nts = read_definitions(alloc, &nonterminals, definitions)?;
     let language = Language {
-        name: language_name.share()?,
+        name: language_name,
         nts,
     };
     Ok(Grammar {
-        name: language_name,
         nonterminals,
         language: CheckedLang::new(language),
     })

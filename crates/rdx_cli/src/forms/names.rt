@@ -1,9 +1,13 @@
 // The names that patterns are built from, and those that are kept for forms to come.
+ghost use Rattle.std.specs.Prelude.{◌≡◌, option_map};
+ghost use Rattle.rdx_cli.specs.FormNames as words;
 
 use rdx_lang::Kind;
 
 /// What a built-in name stands for.
-pub fn kind(text: &str) -> Option<Kind> {
+pub fn kind(text: &str) -> Option<Kind>
+    ensures { result ≡ words.kind_of text.now }
+{
     match text {
         "any" => Some(Kind::Any),
         "number" => Some(Kind::Number),
@@ -13,39 +17,19 @@ pub fn kind(text: &str) -> Option<Kind> {
 }
 
 /// The text before the first `_`, where there is one.
-pub fn front(text: &str) -> Option<&str> {
+pub fn front(text: &str) -> Option<&str>
+    ensures { option_map (λ front. front.now) result ≡ words.front_of text.now }
+{
     match text.split_once('_') {
         Some((front, _)) => Some(front),
         None => None,
     }
 }
 
-/// Whether no nonterminal may have this name, since patterns mean something else by it.
-pub fn is_reserved(text: &str) -> bool {
-    matches!(
-        text,
-        "any"
-            | "number"
-            | "natural"
-            | "integer"
-            | "real"
-            | "string"
-            | "boolean"
-            | "variable"
-            | "variable-not-otherwise-mentioned"
-            | "variable-except"
-            | "variable-prefix"
-            | "hole"
-            | "name"
-            | "in-hole"
-            | "hide-hole"
-            | "cross"
-            | "side-condition"
-    )
-}
-
-/// Whether no pattern may have this symbol yet, since a form to come gives it a meaning.
-pub fn is_unbuilt(text: &str) -> bool {
+// Whether a pattern to come is written with this word.
+fn is_pattern_word(text: &str) -> bool
+    ensures { result ≡ words.is_one_of words.pattern_words text.now }
+{
     matches!(
         text,
         "natural"
@@ -60,21 +44,46 @@ pub fn is_unbuilt(text: &str) -> bool {
             | "hole"
             | "in-hole"
             | "hide-hole"
-            | "reduction-relation"
+            | "cross"
+            | "side-condition"
+    )
+}
+
+// Whether another form to come is written with this word.
+fn is_form_word(text: &str) -> bool
+    ensures { result ≡ words.is_one_of words.form_words text.now }
+{
+    matches!(
+        text,
+        "reduction-relation"
             | "where"
             | "unquote"
             | "unquote-splicing"
-            | "side-condition"
             | "judgment-holds"
             | "context-closure"
             | "compatible-closure"
-            | "cross"
             | "with"
             | "fresh"
     )
 }
 
+/// Whether no nonterminal may have this name, since patterns mean something else by it.
+pub fn is_reserved(text: &str) -> bool
+    ensures { result ≡ words.is_reserved text.now }
+{
+    kind(text).is_some() || is_pattern_word(text)
+}
+
+/// Whether no pattern may have this symbol yet, since a form to come gives it a meaning.
+pub fn is_unbuilt(text: &str) -> bool
+    ensures { result ≡ words.is_unbuilt text.now }
+{
+    is_pattern_word(text) || is_form_word(text)
+}
+
 /// Whether a list headed by this symbol is no plain term.
-pub fn is_special(text: &str) -> bool {
+pub fn is_special(text: &str) -> bool
+    ensures { result ≡ words.is_one_of words.special_words text.now }
+{
     matches!(text, "in-hole" | "unquote" | "unquote-splicing")
 }

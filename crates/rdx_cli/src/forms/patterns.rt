@@ -1,10 +1,9 @@
 // Patterns.
-ghost use Rattle.std.specs.Prelude.{◌≡◌, true, map, IfOk, IfSome};
+ghost use Rattle.std.specs.Prelude.{◌≡◌, Some, option_map};
 ghost use Rattle.std.specs.Rc.{rc_str_bytes};
-ghost use Rattle.rdx_lang.specs.Patterns as model;
 ghost use Rattle.rdx_lang.specs.PatternView.{pattern_of};
-ghost use Rattle.rdx_lang.specs.WellFormed.{is_well_formed};
-ghost use Rattle.rdx_cli.specs.Nonterminals.{refs};
+ghost use Rattle.rdx_cli.specs.FormPatterns as forms;
+ghost use Rattle.rdx_cli.specs.Gives.{Gives};
 
 use crate::forms::FormFault;
 use crate::forms::names::{front, is_unbuilt, kind};
@@ -25,7 +24,7 @@ pub enum Place {
 
 // The built-in name or the nonterminal of this text.
 fn base(nonterminals: &[Name], text: &str) -> Result<Option<Pat>, FormFault>
-    ensures { IfOk result (λ found. IfSome found (λ p. is_well_formed (refs nonterminals.now) (pattern_of p) ≡ true)) }
+    ensures { Gives (λ found. option_map pattern_of found) result (Some (forms.base_of nonterminals.now text.now)) }
 {
     if let Some(kind) = kind(text) {
         return Ok(Some(Pat::Kind(kind)));
@@ -39,7 +38,7 @@ fn base(nonterminals: &[Name], text: &str) -> Result<Option<Pat>, FormFault>
 }
 
 fn named(alloc: Global, text: &RcStr, inner: Pat) -> Result<Pat, FormFault>
-    ensures { IfOk result (λ p. pattern_of p ≡ model.named (rc_str_bytes text.now) (pattern_of inner)) }
+    ensures { Gives pattern_of result (forms.named_of (rc_str_bytes text.now) (pattern_of inner)) }
 {
     Ok(Pat::Named(name(text)?, Box::new(alloc, inner)?))
 }
@@ -50,7 +49,7 @@ fn symbol_pattern(
     place: Place,
     text: &RcStr,
 ) -> Result<Pat, FormFault>
-    ensures { IfOk result (λ p. is_well_formed (refs nonterminals.now) (pattern_of p) ≡ true) }
+    ensures { Gives pattern_of result (forms.symbol_pattern nonterminals.now place (rc_str_bytes text.now)) }
 {
     let word = text.as_str();
     if is_unbuilt(word) {
@@ -78,7 +77,7 @@ pub fn read_pattern(
     place: Place,
     d: &Datum,
 ) -> Result<Pat, FormFault>
-    ensures { IfOk result (λ p. is_well_formed (refs nonterminals.now) (pattern_of p) ≡ true) }
+    ensures { Gives pattern_of result (forms.pattern_in nonterminals.now place d.now) }
 {
     match &d.form {
         Form::Int(n) => Ok(Pat::Lit(Term::Int(*n))),

@@ -1,6 +1,8 @@
 // The outer shape of data.
-ghost use Rattle.std.specs.Prelude.{◌≡◌, IfOk};
+ghost use Rattle.std.specs.Prelude.{◌≡◌};
 ghost use Rattle.std.specs.Rc.{rc_str_bytes};
+ghost use Rattle.rdx_cli.specs.Gives.{Gives};
+ghost use Rattle.rdx_cli.specs.Shape as shape;
 
 use crate::forms::FormFault;
 use rdx_sexp::{Datum, Form};
@@ -8,7 +10,9 @@ use rdx_term::Name;
 use std::rc::RcStr;
 
 /// The text of a symbol.
-pub fn symbol(d: &Datum) -> Result<&RcStr, FormFault> {
+pub fn symbol(d: &Datum) -> Result<&RcStr, FormFault>
+    ensures { Gives (λ text. rc_str_bytes text.now) result (shape.symbol_in d.now) }
+{
     match &d.form {
         Form::Sym(text) => Ok(text),
         _ => Err(FormFault::Unbuilt),
@@ -16,7 +20,9 @@ pub fn symbol(d: &Datum) -> Result<&RcStr, FormFault> {
 }
 
 /// The items of a list.
-pub fn items(d: &Datum) -> Result<&[Datum], FormFault> {
+pub fn items(d: &Datum) -> Result<&[Datum], FormFault>
+    ensures { Gives (λ items. items.now) result (shape.items_in d.now) }
+{
     match &d.form {
         Form::List(items) => Ok(items),
         _ => Err(FormFault::Unbuilt),
@@ -24,7 +30,9 @@ pub fn items(d: &Datum) -> Result<&[Datum], FormFault> {
 }
 
 /// The items behind the head of a list that is headed by this symbol.
-pub fn items_behind<'a>(d: &'a Datum, head: &str) -> Result<&'a [Datum], FormFault> {
+pub fn items_behind<'a>(d: &'a Datum, head: &str) -> Result<&'a [Datum], FormFault>
+    ensures { Gives (λ items. items.now) result (shape.items_behind head.now d.now) }
+{
     let [first, rest @ ..] = items(d)? else {
         return Err(FormFault::Unbuilt);
     };
@@ -37,7 +45,7 @@ pub fn items_behind<'a>(d: &'a Datum, head: &str) -> Result<&'a [Datum], FormFau
 
 /// The name of this text, which `hole` is not.
 pub fn name(text: &RcStr) -> Result<Name, FormFault>
-    ensures { IfOk result (λ x. x ≡ rc_str_bytes text.now) }
+    ensures { Gives (λ x. x) result (shape.name_of (rc_str_bytes text.now)) }
 {
     Name::new(text.clone()?).ok_or(FormFault::Unbuilt)
 }

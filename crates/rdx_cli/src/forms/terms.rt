@@ -1,4 +1,10 @@
 // Terms, as a file writes them.
+ghost use Rattle.std.specs.Prelude.{◌≡◌, ◌≤◌, map};
+ghost use Rattle.rdx_sexp.specs.Sexp.{sexps, sexp_nodes};
+ghost use Rattle.rdx_sexp.specs.Size.{sexp_depth};
+ghost use Rattle.rdx_term.specs.View.{tree_of};
+ghost use Rattle.rdx_cli.specs.FormTerms as forms;
+ghost use Rattle.rdx_cli.specs.Gives.{Gives};
 
 use crate::forms::FormFault;
 use crate::forms::names::is_special;
@@ -8,7 +14,9 @@ use rdx_term::{Build, Term, list};
 use std::alloc::Global;
 
 // Whether the items make a list that is no plain term.
-fn is_special_list(parts: &[Datum]) -> bool {
+fn is_special_list(parts: &[Datum]) -> bool
+    ensures { result ≡ forms.is_special (sexps parts.now) }
+{
     match parts {
         [first, ..] => match &first.form {
             Form::Sym(head) => is_special(head.as_str()),
@@ -19,7 +27,11 @@ fn is_special_list(parts: &[Datum]) -> bool {
 }
 
 /// The term of a datum.
-pub fn read_term(alloc: Global, d: &Datum) -> Result<Term, FormFault> {
+pub fn read_term(alloc: Global, d: &Datum) -> Result<Term, FormFault>
+    requires depth { sexp_depth d.now ≤ 500 }
+    requires nodes { sexp_nodes d.now ≤ 4_000_000 }
+    ensures { Gives tree_of result (forms.term_in d.now) }
+{
     match &d.form {
         Form::Int(n) => Ok(Term::Int(*n)),
         Form::Sym(text) => Ok(Term::Sym(name(text)?)),
@@ -34,7 +46,7 @@ pub fn read_term(alloc: Global, d: &Datum) -> Result<Term, FormFault> {
             match list(alloc, items) {
                 Ok(term) => Ok(term),
                 Err(Build::NoMemory) => Err(FormFault::NoMemory),
-                Err(Build::TooDeep | Build::TooLarge) => Err(FormFault::Unbuilt),
+                Err(Build::TooDeep | Build::TooLarge) => unreachable!(),
             }
         }
         Form::Bool(_) | Form::Str(_) | Form::Key(_) => Err(FormFault::Unbuilt),

@@ -1,9 +1,9 @@
-use Rattle.std.proofs.Common.{◌≡◌, ◌++◌, [], ◌∷◌, map, refl, arith}
+use Rattle.std.proofs.Common.{◌≡◌, ◌++◌, [], ◌∷◌, arith}
 use Rattle.std.proofs.lemmas.Grind.{common_steps}
 use Rattle.rdx_lang.specs.Join.{IsJoin}
 use Rattle.rdx_lang.specs.JoinLaws.{one_join}
 use Rattle.rdx_lang.specs.Shown.{binding_of, bindings_of}
-use Rattle.rdx_cli.proofs.Collecting.{adds_one, adds_none}
+use Rattle.rdx_cli.proofs.Collecting.{adds_one}
 use Rattle.rdx_cli.proofs.matcher.combining.add_join.Goals as goal
 
 pub returns-in_ok-push : goal.returns-in_ok-push

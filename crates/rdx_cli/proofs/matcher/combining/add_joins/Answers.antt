@@ -1,4 +1,4 @@
-use Rattle.std.proofs.Common.{◌≡◌, ◌+◌, [], ◌∷◌, drop, arith}
+use Rattle.std.proofs.Common.{◌≡◌, ◌+◌, ◌∷◌, drop, arith}
 use Rattle.rdx_lang.specs.Join.{IsJoin}
 use Rattle.rdx_lang.specs.Shown.{binding_of, bindings_of}
 use Rattle.rdx_lang.specs.Rest.{rest_at, rest_none}

@@ -1,4 +1,4 @@
-use Rattle.std.proofs.Common.{arith, ◌≡◌, None, Some, []}
+use Rattle.std.proofs.Common.{arith, ◌≡◌, None, Some}
 use Rattle.std.proofs.lemmas.Grind.{common_steps}
 use Rattle.rdx_lang.specs.BindingView.{pairs_of}
 use Rattle.rdx_lang.specs.Join.{IsJoin}

@@ -1,5 +1,4 @@
 use Rattle.std.proofs.Common.{◌≡◌, drop, Some}
-use Rattle.rdx_lang.specs.Bindings.{HasAscendingNames}
 use Rattle.rdx_lang.specs.BindingView.{pairs_of}
 use Rattle.rdx_lang.specs.Shown.{binding_of}
 use Rattle.rdx_cli.specs.Inserting.{insert_pairs}

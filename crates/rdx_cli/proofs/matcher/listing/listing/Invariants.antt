@@ -1,4 +1,4 @@
-use Rattle.std.proofs.Common.{[], List, map, vec_len, ◌⊎◌}
+use Rattle.std.proofs.Common.{vec_len, ◌⊎◌}
 use Rattle.std.specs.Prelude.{◌↔◌}
 use Rattle.rdx_lang.specs.Ascending.{IsAscending}
 use Rattle.rdx_lang.specs.Bindings.{Binding}

@@ -1,24 +1,22 @@
-use Rattle.std.proofs.Common.{rules, arith, ◌≡◌, ℕ, ◌+◌, ◌-◌, ◌<◌, ◌≤◌, true, false, if◌then◌else◌, List, [], ◌∷◌, length, drop, get_or, map, refl, ap, sym, ◌∙◌, subst}
-use Rattle.std.specs.Prelude.{IsTrue, IfOk}
+use Rattle.std.proofs.Common.{arith, ◌≡◌, ℕ, ◌+◌, ◌-◌, List, ◌∷◌, length, drop, map, refl, ap, sym, ◌∙◌, subst}
 use Rattle.std.proofs.lemmas.Grind.{common_steps}
 use Rattle.std.proofs.lemmas.Result.{IfOk-weaker}
-use Rattle.rdx_term.specs.Tree.{Tree, Trees, tree_nodes, trees_nodes, list, trees, Listing}
+use Rattle.rdx_term.specs.Tree.{Tree, Trees, list, trees, Listing}
 use Rattle.rdx_term.specs.View.{tree_of, trees_of}
 use Rattle.rdx_lang.specs.Bindings.{Binding}
 use Rattle.rdx_lang.specs.Checked.{language_in}
 use Rattle.rdx_lang.specs.Listing.{IsListing, Matches}
-use Rattle.rdx_lang.specs.Members.{In}
 use Rattle.rdx_lang.specs.Order.{binding_cmp}
-use Rattle.rdx_lang.specs.PatternEquations.{pattern_kind, pattern_lit, pattern_nt, pattern_named, pattern_seq, slot_one}
-use Rattle.rdx_lang.specs.Patterns.{Pattern, Items, Language, of_kind, lit, nt, named, seq}
-use Rattle.rdx_lang.specs.PatternView.{pattern_of, patterns_of, slot_of, items_of, just}
+use Rattle.rdx_lang.specs.PatternEquations.{pattern_kind, pattern_lit, pattern_nt, pattern_named, pattern_seq}
+use Rattle.rdx_lang.specs.Patterns.{Items, Language, of_kind, lit, nt, named, seq}
+use Rattle.rdx_lang.specs.PatternView.{pattern_of, patterns_of, slot_of, items_of}
 use Rattle.rdx_lang.specs.Rest.{rest_at, rest_none}
 use Rattle.rdx_lang.specs.Rules.{Match, MatchItems, IsAlternative}
 use Rattle.rdx_lang.specs.Shown.{bindings_of}
-use Rattle.rdx_cli.specs.Combining.{Joined, Named}
-use Rattle.rdx_cli.specs.Searching.{AnyAlternative, item_pattern}
-use Rattle.rdx_cli.proofs.AnyOf.{untried-start, untried_first, untried_next, untried_none}
-use Rattle.rdx_cli.proofs.Measures.{falls-alternative, falls-named, falls-items, falls-item, size, size_of}
+use Rattle.rdx_cli.specs.Combining.{Joined}
+use Rattle.rdx_cli.specs.Searching.{item_pattern}
+use Rattle.rdx_cli.proofs.AnyOf.{untried_first, untried_next, untried_none}
+use Rattle.rdx_cli.proofs.Measures.{falls-alternative, falls-item, size, size_of}
 use Rattle.rdx_cli.proofs.RuleSteps.{listing_kind, listing_lit, listing_nt, listing_named, listing_seq, listing_elsewhere, items_differ, items_end, items_before, some_of_listing, none_of_listing, nodes_at, size_at}
 use Rattle.rdx_cli.proofs.matcher.search.+search.Goals as goal
 

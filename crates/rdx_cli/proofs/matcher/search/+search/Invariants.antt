@@ -1,4 +1,4 @@
-use Rattle.std.proofs.Common.{◌≡◌, List, drop, map}
+use Rattle.std.proofs.Common.{drop, map}
 use Rattle.rdx_term.specs.View.{tree_of, trees_of}
 use Rattle.rdx_lang.specs.Checked.{language_in}
 use Rattle.rdx_lang.specs.Listing.{IsListing}

@@ -1,0 +1,10 @@
+//! Laws of the definitions: functions that do nothing, whose contracts are the laws.
+ghost use Rattle.rdx_cli.specs.Laws.{OneTranscript};
+
+/// A file has one transcript and one verdict at most.
+pub fn one_transcript()
+    ensures { OneTranscript }
+{
+    rdx_sexp::laws::one_reading();
+    rdx_lang::laws::one_listing();
+}
