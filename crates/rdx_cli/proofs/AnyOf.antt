@@ -13,9 +13,6 @@ pub record Untried (L : Language) (all rest : List Pattern) (t : Tree) : Type 0 
   pub still : (p : Pattern) (b : Binding) → In p all → Match L p t b → In p rest
 
 module _ (L : Language) (all : List Pattern) (t : Tree) where
-  pub untried-start : Untried L all all t
-  untried-start = record { part = λ p h. h; still = λ p b h m. h }
-
   pub untried_first : (p : Pattern) (more rest : List Pattern) → rest ≡ p ∷ more → Untried L all rest t → In p all
   untried_first p more rest e u = u.part p (In_along (p ∷ more) rest (sym e) (here refl))
 

@@ -49,9 +49,6 @@ adds_one {A} R old new x e r f y = (by_place, elim [ inl o ↦ In_along (old ++ 
     by_place : In y new → In y old ⊎ R y
     by_place h = split (In-either old (x ∷ []) (In_along new (old ++ x ∷ []) e h))
 
-pub adds_none : {A : Type 0} (R : A → Type 0) (old new : List A) → new ≡ old → ((y : A) → R y → ⊥) → Adds R old new
-adds_none R old new e f y = (λ h. inl (In_along new old e h), elim [ inl o ↦ In_along old new (sym e) o | inr r ↦ absurd (f y r) ])
-
 -- ---- the loop
 
 module _ {A B : Type 0} (step : A → B → Type 0) where

@@ -122,14 +122,6 @@ falls-alternative L x p t c a =
     lex_same (tree_nodes t) (tree_nodes t) (wide L 1) (wide L (size p)) (4 * rank L x + 2) (4 * left L p + 3)
     (omega arith) (omega (arith, size_alternative L x p a)) (omega (arith, rank_falls L x p c a))
 
-pub falls-named : (L : Language) (x : List ℕ) (q : Pattern) (t : Tree) → weight L 3 q t < weight L 3 (named x q) t
-falls-named L x q t =
-    lex_same (tree_nodes t) (tree_nodes t) (wide L (size q + 1)) (wide L (size q)) (4 * (left L q + 1) + 3) (4 * left L q + 3) (omega arith) (omega arith) (omega arith)
-
-pub falls-items : (L : Language) (ps : Items) (t : Tree) (ts : Trees) → trees_nodes ts < tree_nodes t → items_weight L (size_of ps) ts < weight L 3 (seq ps) t
-falls-items L ps t ts h =
-    lex_less (tree_nodes t) (trees_nodes ts) (wide L (size_of ps + 1)) (wide L (size_of ps)) (4 * 0 + 3) (4 * (max (size_of ps) (largest L) + top_rank L) + 5) h (omega arith) (omega arith)
-
 pub falls-item : (L : Language) (p : Pattern) (t : Tree) (s : ℕ) (ts : Trees) → tree_nodes t ≤ trees_nodes ts → size p ≤ s → weight L 3 p t < items_weight L s ts
 falls-item L p t s ts a b =
     lex_same (trees_nodes ts) (tree_nodes t) (wide L s) (wide L (size p)) (4 * (max s (largest L) + top_rank L) + 5) (4 * left L p + 3) a (omega arith) (omega (arith, left_bound L p))

@@ -26,8 +26,5 @@ pub onto-push : (slots : List Slot) (p : Pattern) (o : Option Items) → onto (s
 onto-push slots p None = refl
 onto-push slots p (Some ps) = ap Some (before-push slots p ps)
 
-pub onto-none : (slots : List Slot) (o : Option Items) → onto slots (one_more None o) ≡ None
-onto-none slots o = refl
-
 pub onto-end : (slots : List Slot) → onto slots (Some nil) ≡ Some (items_of slots)
 onto-end slots = ap Some (before-nil slots)

@@ -1,5 +1,5 @@
 -- Terms read item by item.
-use Rattle.std.proofs.Common.{◌≡◌, ℕ, zero, suc, ◌+◌, ◌<◌, ◌≤◌, ◌++◌, max, length, drop, get_or, add-one, sym, ◌∙◌, Bool, true, false, if◌then◌else◌, List, [], ◌∷◌, Option, Some, None, refl, ap, subst, arith}
+use Rattle.std.proofs.Common.{◌≡◌, ℕ, ◌+◌, ◌<◌, ◌≤◌, ◌++◌, max, length, drop, get_or, ◌∙◌, Bool, true, false, if◌then◌else◌, List, [], ◌∷◌, Option, Some, None, refl, ap, subst, arith}
 use Rattle.std.specs.Prelude.{option_map}
 use Rattle.rdx_sexp.specs.Sexp.{Sexp, Sexps, sexps, leaf, integer, truth, text, keyword, sexp_nodes, sexps_nodes}
 use Rattle.rdx_sexp.specs.Sexp.{list as list_datum, symbol as symbol_atom, nil as no_data, cons as more_data}
@@ -10,6 +10,7 @@ use Rattle.rdx_term.specs.View.{tree_of, trees_of}
 use Rattle.rdx_term.specs.declared.term.Term.{Term}
 use Rattle.rdx_cli.specs.FormTerms.{one_more, is_special, term_in, terms_in}
 use Rattle.rdx_cli.specs.Shape.{name_of}
+use Rattle.rdx_cli.proofs.ReadLists.{drop-at}
 
 abbrev pub before : Trees → Trees → Trees
 before nil us = us
@@ -105,7 +106,6 @@ sizes-next xs ys x d rest more p r e s =
     let n : trees_nodes (trees_of ys) ≡ trees_nodes (trees_of xs) + tree_nodes (tree_of x) = ap (λ (zs : List Term). trees_nodes (trees_of zs)) p ∙ nodes-push xs x in
     record { depth = omega (arith, f.deep, s.depth, s.rest_depth); rest_depth = omega (arith, s.rest_depth); nodes = omega (arith, f.many, s.nodes) }
 
+-- at the datum d the rest begins with d
 pub data_at : (ds : List Sexp) (i : ℕ) (d : Sexp) → i < length ds → d ≡ get_or ds i d → sexps (drop i ds) ≡ more_data d (sexps (drop (i + 1) ds))
-data_at [] i d h e = absurd (omega arith)
-data_at (c ∷ ds) zero d h e = ap (λ x. more_data x (sexps ds)) (sym e)
-data_at (c ∷ ds) (suc i) d h e = let k = data_at ds i d (omega arith) e in rw add-one (rw add-one at k)
+data_at ds i d h e = ap sexps (drop-at ds i d h e)

@@ -1,6 +1,6 @@
 -- What is read passes the tests of a language.
 use Rattle.std.proofs.Common.{◌≡◌, ℕ, Bool, true, false, if◌then◌else◌, List, [], ◌∷◌, Option, Some, None, map, refl, sym, ◌∙◌, ap, subst}
-use Rattle.std.specs.Prelude.{◌&&◌, option_map, option_and_then}
+use Rattle.std.specs.Prelude.{option_map, option_and_then}
 use Rattle.rdx_term.specs.Tree.{symbol}
 use Rattle.rdx_sexp.specs.Sexp.{Sexp, Sexps, leaf, integer, truth, text, keyword}
 use Rattle.rdx_sexp.specs.Sexp.{list as list_datum, symbol as symbol_atom, nil as no_data, cons as more_data}

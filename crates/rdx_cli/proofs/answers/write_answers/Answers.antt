@@ -30,4 +30,4 @@ returns g c =
     let all = c.args.file.now.queries.items in
     let l : length c.deref-query-items.result.now ≡ length all = ap length c.deref-query-items.ensures.value in
     upto_end (language_in c.args.file.now.language) all c.loop-query.query-index c.args.out.now.items c.loop-query.out.items
-    (omega (arith, l, c.loop-query-test.false, c.loop-query.auto.query-index-end)) c.loop-query.invariant
+    (omega (arith, l, c.loop-query-test.false)) c.loop-query.invariant
