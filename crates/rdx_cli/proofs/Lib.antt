@@ -11,8 +11,10 @@ pub mod Sexps
 pub mod ReadPatterns
 pub mod ReadTerms
 pub mod ReadLists
+pub mod ReadQueries
 pub mod DataSizes
 pub mod Distinct
 pub mod Tested
 pub mod Answered
 pub mod OneText
+pub mod Occurs

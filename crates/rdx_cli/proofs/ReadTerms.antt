@@ -79,8 +79,8 @@ mutual
   pub term_fits : (d : Sexp) (t : Tree) → term_in d ≡ Some t → Fits t (sexp_depth d) (sexp_nodes d)
   term_fits (leaf (integer z) s) t e = let f : tree.integer z ≡ t = cc in subst (λ (u : Tree). Fits u 0 1) f (record { deep = omega arith; many = omega arith })
   term_fits (leaf (symbol_atom x) s) t e = by_name x (name_of x) t e
-  term_fits (leaf (truth b) s) t e = absurd cc
-  term_fits (leaf (text x) s) t e = absurd cc
+  term_fits (leaf (truth b) s) t e = let f : tree.truth b ≡ t = cc in subst (λ (u : Tree). Fits u 0 1) f (record { deep = omega arith; many = omega arith })
+  term_fits (leaf (text x) s) t e = let f : tree.text x ≡ t = cc in subst (λ (u : Tree). Fits u 0 1) f (record { deep = omega arith; many = omega arith })
   term_fits (leaf (keyword x) s) t e = absurd cc
   term_fits (list_datum ds s) t e =
       let k = by_items (is_special ds) (terms_in ds) t (sexps_depth ds) (sexps_nodes ds) (λ ts f. terms_fit ds ts f) e in

@@ -13,8 +13,8 @@ use Rattle.rdx_cli.specs.FormNames.{kind_of, front_of, is_unbuilt}
 use Rattle.rdx_cli.specs.FormPatterns.{nonterminal_of, kind_or, base_of, named_of, suffixed, literal_of, by_front, by_base, symbol_pattern, one_more, pattern_in, patterns_in}
 use Rattle.rdx_cli.specs.Nonterminals.{refs}
 use Rattle.rdx_cli.specs.Shape.{name_of}
-use Rattle.rdx_cli.specs.declared.forms.patterns.Place.{Place}
-use Rattle.rdx_cli.specs.declared.forms.patterns.Place.TheVariants.{Grammar, Query}
+use Rattle.rdx_cli.specs.declared.forms.patterns.Position.{Position}
+use Rattle.rdx_cli.specs.declared.forms.patterns.Position.TheVariants.{Grammar, Query}
 use Rattle.rdx_cli.proofs.Distinct.{and_true}
 
 -- what is there passes the test
@@ -71,13 +71,13 @@ module _ (ns : List (List ℕ)) where
   front_passes x (Some front) = suffixed_passes x (base_of ns front) (base_passes front)
   front_passes x None = literal_passes x
 
-  by_base_passes : (place : Place) (x : List ℕ) (o : Option Pattern) → Passes wf o → Passes wf (by_base ns place x o)
-  by_base_passes place x None h = front_passes x (front_of x)
+  by_base_passes : (position : Position) (x : List ℕ) (o : Option Pattern) → Passes wf o → Passes wf (by_base ns position x o)
+  by_base_passes position x None h = front_passes x (front_of x)
   by_base_passes Grammar x (Some p) h = h
   by_base_passes Query x (Some p) h = named_passes x p h
 
-  symbol_passes : (place : Place) (x : List ℕ) → Passes wf (symbol_pattern ns place x)
-  symbol_passes place x = unless wf (is_unbuilt x) (by_base ns place x (base_of ns x)) (by_base_passes place x (base_of ns x) (base_passes x))
+  symbol_passes : (position : Position) (x : List ℕ) → Passes wf (symbol_pattern ns position x)
+  symbol_passes position x = unless wf (is_unbuilt x) (by_base ns position x (base_of ns x)) (by_base_passes position x (base_of ns x) (base_passes x))
 
   seq_passes : (o : Option Items) → Passes wfs o → Passes wf (option_map seq o)
   seq_passes (Some ps) h = h
@@ -89,17 +89,17 @@ module _ (ns : List (List ℕ)) where
   one_more_passes None ps h k = tt
 
   mutual
-    pub pattern_passes : (place : Place) (d : Sexp) → Passes wf (pattern_in ns place d)
-    pattern_passes place (leaf (integer z) s) = refl
-    pattern_passes place (leaf (symbol_atom x) s) = symbol_passes place x
-    pattern_passes place (leaf (truth b) s) = tt
-    pattern_passes place (leaf (text x) s) = tt
-    pattern_passes place (leaf (keyword x) s) = tt
-    pattern_passes place (list_datum ds s) = seq_passes (patterns_in ns place ds) (patterns_pass place ds)
+    pub pattern_passes : (position : Position) (d : Sexp) → Passes wf (pattern_in ns position d)
+    pattern_passes position (leaf (integer z) s) = refl
+    pattern_passes position (leaf (symbol_atom x) s) = symbol_passes position x
+    pattern_passes position (leaf (truth b) s) = refl
+    pattern_passes position (leaf (text x) s) = refl
+    pattern_passes position (leaf (keyword x) s) = tt
+    pattern_passes position (list_datum ds s) = seq_passes (patterns_in ns position ds) (patterns_pass position ds)
 
-    pub patterns_pass : (place : Place) (ds : Sexps) → Passes wfs (patterns_in ns place ds)
-    patterns_pass place no_data = refl
-    patterns_pass place (more_data d ds) = one_more_passes (pattern_in ns place d) (patterns_in ns place ds) (pattern_passes place d) (patterns_pass place ds)
+    pub patterns_pass : (position : Position) (ds : Sexps) → Passes wfs (patterns_in ns position ds)
+    patterns_pass position no_data = refl
+    patterns_pass position (more_data d ds) = one_more_passes (pattern_in ns position d) (patterns_in ns position ds) (pattern_passes position d) (patterns_pass position ds)
 
 -- ---- the alternatives of a language
 

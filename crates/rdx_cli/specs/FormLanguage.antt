@@ -9,7 +9,7 @@ use Rattle.rdx_cli.specs.FormNames.{is_reserved, is_underscore}
 use Rattle.rdx_cli.specs.FormPatterns.{pattern_in}
 use Rattle.rdx_cli.specs.Nonterminals.{refs}
 use Rattle.rdx_cli.specs.Shape.{items_in, items_behind, symbol_in, name_of}
-use Rattle.rdx_cli.specs.declared.forms.patterns.Place.TheVariants.{Grammar}
+use Rattle.rdx_cli.specs.declared.forms.patterns.Position.TheVariants.{Grammar}
 
 abbrev pub both : {A : Type 0} → Option A → Option (List A) → Option (List A)
 both (Some a) (Some rest) = Some (a ∷ rest)

@@ -1,6 +1,6 @@
 -- The names that patterns are built from, and those that are kept for forms to come (the Redex reference manual, "Patterns" and "Terms").
-use Rattle.std.specs.Prelude.{ℕ, ◌==◌, Bool, ◌||◌, List, [], ◌∷◌, Option, Some, None, is_some, codes, bytes_eq, if◌then◌else◌}
-use Rattle.std.specs.List.{list_any, before_first}
+use Rattle.std.specs.Prelude.{ℕ, ◌==◌, Bool, ◌||◌, List, [], ◌∷◌, Option, Some, None, is_some, codes, bytes_eq, nat_eq, if◌then◌else◌}
+use Rattle.std.specs.List.{list_any, before_first, starts_with}
 use Rattle.rdx_lang.specs.declared.pattern.Kind.{Kind}
 use Rattle.rdx_lang.specs.declared.pattern.Kind.TheVariants.{Any, Number, Variable}
 
@@ -25,7 +25,7 @@ abbrev pub pattern_words : List (List ℕ)
 pattern_words =
     codes "natural" ∷ codes "integer" ∷ codes "real" ∷ codes "string" ∷ codes "boolean" ∷ codes "variable-not-otherwise-mentioned"
     ∷ codes "variable-except" ∷ codes "variable-prefix" ∷ codes "name" ∷ codes "hole" ∷ codes "in-hole" ∷ codes "hide-hole" ∷ codes "cross"
-    ∷ codes "side-condition" ∷ []
+    ∷ codes "side-condition" ∷ codes "_" ∷ codes "::=" ∷ []
 
 -- the words of other forms that are not answered yet
 abbrev pub form_words : List (List ℕ)
@@ -37,10 +37,23 @@ form_words =
 abbrev pub special_words : List (List ℕ)
 special_words = codes "in-hole" ∷ codes "unquote" ∷ codes "unquote-splicing" ∷ []
 
+-- an ellipsis stands first, as it does in `...`, in `....` and in an ellipsis with a suffix
+abbrev pub begins_with_dots : List ℕ → Bool
+begins_with_dots x = starts_with nat_eq x (codes "...")
+
+-- y stands somewhere in x
+abbrev pub occurs_in : List ℕ → List ℕ → Bool
+occurs_in y [] = starts_with nat_eq [] y
+occurs_in y (b ∷ x) = starts_with nat_eq (b ∷ x) y || occurs_in y x
+
+-- the text of a name that stands for different terms wherever it comes
+abbrev pub is_mismatch : List ℕ → Bool
+is_mismatch x = occurs_in (codes "_!_") x
+
 -- no nonterminal may have this name, since patterns mean something else by it
 abbrev pub is_reserved : List ℕ → Bool
-is_reserved x = is_some (kind_of x) || is_one_of pattern_words x
+is_reserved x = is_some (kind_of x) || is_one_of pattern_words x || begins_with_dots x
 
 -- no pattern may have this symbol yet, since a form to come gives it a meaning
 abbrev pub is_unbuilt : List ℕ → Bool
-is_unbuilt x = is_one_of pattern_words x || is_one_of form_words x
+is_unbuilt x = is_one_of pattern_words x || is_one_of form_words x || begins_with_dots x || is_mismatch x

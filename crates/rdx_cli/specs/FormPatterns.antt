@@ -9,8 +9,8 @@ use Rattle.rdx_lang.specs.declared.pattern.Ref.TheVariants.{Nt}
 use Rattle.rdx_cli.specs.FormNames.{kind_of, front_of, is_unbuilt}
 use Rattle.rdx_cli.specs.Nonterminals.{refs}
 use Rattle.rdx_cli.specs.Shape.{name_of}
-use Rattle.rdx_cli.specs.declared.forms.patterns.Place.{Place}
-use Rattle.rdx_cli.specs.declared.forms.patterns.Place.TheVariants.{Grammar, Query}
+use Rattle.rdx_cli.specs.declared.forms.patterns.Position.{Position}
+use Rattle.rdx_cli.specs.declared.forms.patterns.Position.TheVariants.{Grammar, Query}
 
 -- the nonterminal of this name, if it is one
 abbrev pub nonterminal_of : List (List ℕ) → List ℕ → Option Pattern
@@ -29,7 +29,7 @@ abbrev pub named_of : List ℕ → Pattern → Option Pattern
 named_of x p = option_map (λ y. named y p) (name_of x)
 
 -- without a suffix such a pattern binds its own name in a query, and nothing in a grammar
-abbrev pub unsuffixed : Place → List ℕ → Pattern → Option Pattern
+abbrev pub unsuffixed : Position → List ℕ → Pattern → Option Pattern
 unsuffixed Grammar x p = Some p
 unsuffixed Query x p = named_of x p
 
@@ -45,12 +45,12 @@ abbrev pub by_front : List (List ℕ) → List ℕ → Option (List ℕ) → Opt
 by_front ns x None = literal_of x
 by_front ns x (Some front) = suffixed x (base_of ns front)
 
-abbrev pub by_base : List (List ℕ) → Place → List ℕ → Option Pattern → Option Pattern
-by_base ns place x None = by_front ns x (front_of x)
-by_base ns place x (Some p) = unsuffixed place x p
+abbrev pub by_base : List (List ℕ) → Position → List ℕ → Option Pattern → Option Pattern
+by_base ns position x None = by_front ns x (front_of x)
+by_base ns position x (Some p) = unsuffixed position x p
 
-abbrev pub symbol_pattern : List (List ℕ) → Place → List ℕ → Option Pattern
-symbol_pattern ns place x = if is_unbuilt x then None else by_base ns place x (base_of ns x)
+abbrev pub symbol_pattern : List (List ℕ) → Position → List ℕ → Option Pattern
+symbol_pattern ns position x = if is_unbuilt x then None else by_base ns position x (base_of ns x)
 
 abbrev pub one_more : Option Pattern → Option Items → Option Items
 one_more (Some p) (Some ps) = Some (model.one p ps)
@@ -58,14 +58,14 @@ one_more (Some p) None = None
 one_more None ps = None
 
 abbrev mutual
-  pub pattern_in : List (List ℕ) → Place → Sexp → Option Pattern
-  pattern_in ns place (leaf (integer z) s) = Some (lit (tree.integer z))
-  pattern_in ns place (leaf (symbol x) s) = symbol_pattern ns place x
-  pattern_in ns place (leaf (truth b) s) = None
-  pattern_in ns place (leaf (text x) s) = None
-  pattern_in ns place (leaf (keyword x) s) = None
-  pattern_in ns place (list ds s) = option_map seq (patterns_in ns place ds)
+  pub pattern_in : List (List ℕ) → Position → Sexp → Option Pattern
+  pattern_in ns position (leaf (integer z) s) = Some (lit (tree.integer z))
+  pattern_in ns position (leaf (symbol x) s) = symbol_pattern ns position x
+  pattern_in ns position (leaf (truth b) s) = Some (lit (tree.truth b))
+  pattern_in ns position (leaf (text x) s) = Some (lit (tree.text x))
+  pattern_in ns position (leaf (keyword x) s) = None
+  pattern_in ns position (list ds s) = option_map seq (patterns_in ns position ds)
 
-  pub patterns_in : List (List ℕ) → Place → Sexps → Option Items
-  patterns_in ns place nil = Some model.nil
-  patterns_in ns place (cons d ds) = one_more (pattern_in ns place d) (patterns_in ns place ds)
+  pub patterns_in : List (List ℕ) → Position → Sexps → Option Items
+  patterns_in ns position nil = Some model.nil
+  patterns_in ns position (cons d ds) = one_more (pattern_in ns position d) (patterns_in ns position ds)

@@ -21,8 +21,8 @@ abbrev mutual
   pub term_in : Sexp → Option Tree
   term_in (leaf (integer z) s) = Some (tree.integer z)
   term_in (leaf (symbol x) s) = option_map tree.symbol (name_of x)
-  term_in (leaf (truth b) s) = None
-  term_in (leaf (text x) s) = None
+  term_in (leaf (truth b) s) = Some (tree.truth b)
+  term_in (leaf (text x) s) = Some (tree.text x)
   term_in (leaf (keyword x) s) = None
   term_in (list ds s) = if is_special ds then None else option_map list_of (terms_in ds)
 

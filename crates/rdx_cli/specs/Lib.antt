@@ -15,5 +15,6 @@ pub mod FormLanguage
 pub mod FormFile
 pub mod FormViews
 pub mod Answering
+pub mod Refusals
 pub mod Transcript
 pub mod Laws

@@ -6,5 +6,7 @@ pub fn one_transcript()
     ensures { OneTranscript }
 {
     rdx_sexp::laws::one_reading();
+    rdx_sexp::laws::one_fault();
+    rdx_sexp::laws::data_or_fault();
     rdx_lang::laws::one_listing();
 }

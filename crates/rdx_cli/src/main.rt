@@ -15,6 +15,7 @@ mod forms;
 pub mod laws;
 pub mod matcher;
 mod reading;
+mod refusals;
 #[cfg(test)]
 mod tests;
 mod top;

@@ -62,7 +62,7 @@ fn words_that_fit_no_row_read_and_write_nothing(rt: HostRuntime) -> Result<(), F
 
 #[test]
 fn files_have_their_transcripts(rt: HostRuntime) -> Result<(), Fail> {
-    let unbuilt = (Status::Refused, b"refused S0 Unbuilt at 1:1\n".as_slice());
+    let unclosed = (Status::Refused, b"refused F2 Unclosed at 1:1\n".as_slice());
     run_on(&rt, &["run"], b"", STEADY, STEADY, (Status::Done, b""))?;
     run_on(
         &rt,
@@ -70,8 +70,26 @@ fn files_have_their_transcripts(rt: HostRuntime) -> Result<(), Fail> {
         b"(define-language L",
         STEADY,
         STEADY,
-        unbuilt,
+        unclosed,
     )?;
+    Ok(())
+}
+
+#[test]
+fn bytes_that_are_no_text_are_refused(rt: HostRuntime) -> Result<(), Fail> {
+    let line = b"refused F1 NotUtf8 at 2:3\n".as_slice();
+    let wanted = (Status::Refused, line);
+    run_on(&rt, &["run"], b"(a\n\xce\xbb)\xff", STEADY, STEADY, wanted)?;
+    Ok(())
+}
+
+// One bracket more than may be open.
+#[test]
+fn a_deep_file_is_refused(rt: HostRuntime) -> Result<(), Fail> {
+    let brackets = [b'('; 501];
+    let line = b"refused F8 TooDeep at 1:501\n".as_slice();
+    let wanted = (Status::Refused, line);
+    run_on(&rt, &["run"], &brackets, STEADY, STEADY, wanted)?;
     Ok(())
 }
 

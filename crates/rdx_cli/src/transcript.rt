@@ -2,7 +2,8 @@
 ghost use Rattle.std.specs.Prelude.{◌≡◌, IfOk};
 ghost use Rattle.rdx_cli.specs.Transcript.{IsTranscript};
 
-use crate::file::answer_file;
+use crate::file::{Answer, answer_file};
+use crate::refusals::{read_name, refusal_line};
 use rdx_term::NoMemory;
 use std::alloc::Global;
 
@@ -31,24 +32,28 @@ pub fn transcript_of(alloc: Global, bytes: &[u8]) -> Result<Transcript, NoMemory
     ensures { IfOk result (λ t. IsTranscript bytes.now t.text.items t.verdict) }
 {
     if bytes.len() > LONGEST {
-        return refused(alloc, b"refused F9 TooLong\n");
+        return Ok(refused(b"refused F9 TooLong\n".to_vec(alloc)?));
     }
     match answer_file(alloc, bytes)? {
-        Some(text) => Ok(Transcript {
+        Answer::Answered(text) => Ok(Transcript {
             text,
             verdict: Verdict::Done,
         }),
-        None => refused(alloc, b"refused S0 Unbuilt at 1:1\n"),
+        Answer::Unread(refusal) => {
+            let name = read_name(refusal.kind);
+            Ok(refused(refusal_line(alloc, name, refusal.place)?))
+        }
+        Answer::Unbuilt(place) => Ok(refused(refusal_line(alloc, "S0 Unbuilt", place)?)),
     }
 }
 
 // The transcript of a refusal, which is this line alone.
-fn refused(alloc: Global, line: &[u8]) -> Result<Transcript, NoMemory>
-    ensures text { IfOk result (λ t. t.text.items ≡ line.now) }
-    ensures verdict { IfOk result (λ t. t.verdict ≡ Verdict.Refused) }
+fn refused(line: Vec<u8>) -> Transcript
+    ensures text { result.text.items ≡ line.items }
+    ensures verdict { result.verdict ≡ Verdict.Refused }
 {
-    Ok(Transcript {
-        text: line.to_vec(alloc)?,
+    Transcript {
+        text: line,
         verdict: Verdict::Refused,
-    })
+    }
 }

@@ -1,12 +1,14 @@
 -- Every text is cut into lexemes, and a loop over them keeps the outcome.
-use Rattle.std.proofs.Common.{◌≡◌, ◌<◌, ℕ, zero, suc, List, [], ◌∷◌, length, Option, Some, None, refl, ap, ◌∙◌, subst, arith}
+use Rattle.std.proofs.Common.{◌≡◌, ◌<◌, ℕ, zero, suc, List, [], ◌∷◌, length, Option, Some, None, Err, refl, ap, ◌∙◌, subst, arith}
+use Rattle.std.specs.Prelude.{option_map}
+use Rattle.rdx_sexp.specs.declared.fault.ReadRefusal.{ReadRefusal}
 use Rattle.rdx_sexp.specs.Sexp.{Sexp}
-use Rattle.rdx_sexp.specs.Lexeme.{Lexeme}
+use Rattle.rdx_sexp.specs.Lexeme.{Lexeme, bad}
 use Rattle.rdx_sexp.specs.Text.{Text}
 use Rattle.rdx_sexp.specs.Lex.{Step, first_lexeme}
 use Rattle.rdx_sexp.specs.Reads.{Lexes, lexes_end, lexes_more}
 use Rattle.rdx_sexp.specs.Machine.{Frame, Outcome, run, ended}
-use Rattle.rdx_sexp.proofs.Shorter.{first_lexeme_is_shorter}
+use Rattle.rdx_sexp.proofs.Behind.{first_lexeme_is_shorter}
 
 -- a text with its lexemes
 abbrev Lexed : Text → Type 0
@@ -62,10 +64,26 @@ goes_on o t fs items l rest gs its e step g =
     let h = heads o t fs items l rest g.lexemes e g.lexed g.same in
     record { lexemes = h.others; lexed = h.cut; same = h.same ∙ step h.others }
 
--- a lexeme that is refused refuses the text
-pub goes_refused : (o : Outcome) (t : Text) (fs : List Frame) (items : List Sexp) (l : Lexeme) (rest : Text)
-    → first_lexeme t ≡ Some (l, rest) → ((ms : List Lexeme) → run fs items (l ∷ ms) ≡ None) → Goes o t fs items → o ≡ None
-goes_refused o t fs items l rest e step g =
+-- where the first lexeme is refused, by what it is
+refused_some : (o : Outcome) (t : Text) (fs : List Frame) (items : List Sexp) (r : ReadRefusal) (ls : List Lexeme)
+    → option_map (λ s. s.0) (first_lexeme t) ≡ Some (bad r) → Lexes t ls → o ≡ run fs items ls → o ≡ Err r
+refused_some o t fs items r [] e (lexes_end d) same =
+    let n : option_map (λ (s : Step). s.0) (first_lexeme t) ≡ None = ap (option_map (λ (s : Step). s.0)) d in
+    cc
+refused_some o t fs items r (m ∷ ms) e (lexes_more {rest} d more) same =
+    let n : option_map (λ (s : Step). s.0) (first_lexeme t) ≡ Some m = ap (option_map (λ (s : Step). s.0)) d in
+    let le : m ≡ bad r = cc in
+    same ∙ ap (λ (x : Lexeme). run fs items (x ∷ ms)) le
+
+-- a lexeme that is refused is the fault of the text
+pub goes_bad : (o : Outcome) (t : Text) (fs : List Frame) (items : List Sexp) (r : ReadRefusal)
+    → option_map (λ s. s.0) (first_lexeme t) ≡ Some (bad r) → Goes o t fs items → o ≡ Err r
+goes_bad o t fs items r e g = refused_some o t fs items r g.lexemes e g.lexed g.same
+
+-- a lexeme at which the machine stops is the fault of the text
+pub goes_refused : (o : Outcome) (t : Text) (fs : List Frame) (items : List Sexp) (l : Lexeme) (rest : Text) (r : ReadRefusal)
+    → first_lexeme t ≡ Some (l, rest) → ((ms : List Lexeme) → run fs items (l ∷ ms) ≡ Err r) → Goes o t fs items → o ≡ Err r
+goes_refused o t fs items l rest r e step g =
     let h = heads o t fs items l rest g.lexemes e g.lexed g.same in
     h.same ∙ step h.others
 

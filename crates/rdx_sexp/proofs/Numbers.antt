@@ -7,7 +7,7 @@ use Rattle.std.specs.Int.{w128}
 use Rattle.std.specs.Str.Parse.{AllDigits, IsNumeral, without_leading_sign, signed_digits_value}
 use Rattle.std.proofs.lemmas.Str.Parse.{IsDigitsTest, numerals_by_value}
 use Rattle.std.proofs.lemmas.Bool.{ltb-true}
-use Rattle.rdx_sexp.specs.Lex.{fits, is_integer}
+use Rattle.rdx_sexp.specs.Token.{fits, is_integer}
 
 -- the test of digits is the one that `parse` has
 is_digits_test : IsDigitsTest (λ ds. list_all is_ascii_digit ds ≡ true)

@@ -1,138 +1,239 @@
 -- Each symbol in the data of a text is spelled as the symbols of terms are.
-use Rattle.std.proofs.Common.{◌≡◌, ◌<◌, ℕ, ℤ, suc, ◌==◌, ◌&&◌, ◌||◌, List, [], ◌∷◌, length, Bool, true, false, cond, Some, refl, ap, ◌∙◌, subst, arith}
+use Rattle.std.proofs.Common.{◌≡◌, ℕ, suc, ◌==◌, ◌&&◌, ◌||◌, List, [], ◌∷◌, length, Bool, true, false, not, cond, Option, Some, None, Result, Ok, Err, refl, ap, ◌∙◌, subst, arith}
 use Rattle.std.proofs.lemmas.Bool.Decides.{nat_tests}
-use Rattle.std.proofs.lemmas.Str.{chars-IsAscii}
-use Rattle.std.proofs.lemmas.Str.Ascii.{IsAscii-nil, IsAscii-cons}
-use Rattle.std.specs.List.{list_any, list_all}
-use Rattle.std.specs.Char.{is_ascii_alphabetic}
-use Rattle.std.specs.Str.{chars, encode_utf8_all, IsAscii}
+use Rattle.std.proofs.Math.Utf8.{scalar, scalars}
+use Rattle.std.proofs.lemmas.Str.{chars-encodes, chars-nil, scalars-chars}
+use Rattle.std.specs.Char.{is_whitespace}
+use Rattle.std.specs.List.{list_any}
+use Rattle.std.specs.Prelude.{ℤ, codes, bytes_eq}
+use Rattle.std.specs.Str.{chars, encode_utf8_all, IsUtf8}
 use Rattle.std.specs.Str.Parse.{signed_digits_value}
 use Rattle.rdx_base.specs.declared.place.Place.{Place}
 use Rattle.rdx_base.specs.declared.place.Span.{Span}
-use Rattle.rdx_term.specs.Spelling.{ends_token, is_symbol_quote, begins_number, is_reserved, is_symbol_spelling}
-use Rattle.rdx_sexp.specs.Sexp.{integer, symbol, Sexp, sexps}
-use Rattle.rdx_sexp.specs.Size.{IsSpelled, IsSpelledSexp, AreSpelled}
-use Rattle.rdx_sexp.specs.Lexeme.{Lexeme, opening, closing, word, bad}
-use Rattle.rdx_sexp.specs.Text.{Text, at, after, past_blanks}
-use Rattle.rdx_sexp.specs.Lex.{Step, is_integer, fits, integer_lexeme, is_symbol_byte, is_symbol, token_chars, past_token, span, until, token_lexeme, token_step, lexeme_from, lexeme_at, first_lexeme}
-use Rattle.rdx_sexp.specs.Grammar.{One, one_leaf, one_list, Many, many_none, many_more}
+use Rattle.rdx_term.specs.Spelling.{ends_token, is_symbol_quote, begins_with_hash, begins_number, is_reserved, is_symbol_spelling}
+use Rattle.rdx_sexp.specs.declared.fault.ReadKind.TheVariants.{BadToken, NumberRange, NumberForm, Unclosed}
+use Rattle.rdx_sexp.specs.declared.token.Bracket.TheVariants.{Round, Square, Curly}
+use Rattle.rdx_sexp.specs.declared.token.Mark.{Mark}
+use Rattle.rdx_sexp.specs.declared.token.Mark.TheVariants.{Quote, Quasiquote, Unquote, UnquoteSplicing}
+use Rattle.rdx_sexp.specs.Blanks.{Blank, inside, second, line, unclosed, past_blanks}
+use Rattle.rdx_sexp.specs.Begin.{body}
+use Rattle.rdx_sexp.specs.Grammar.{mark_name, One, one_leaf, one_list, one_quoted, one_skipped, Many, many_none, many_more, many_skipped}
+use Rattle.rdx_sexp.specs.Lex.{Step, span, until, string_step, token_step, lexeme_from, lexeme_at, first_from, first_lexeme}
+use Rattle.rdx_sexp.specs.Lexeme.{Lexeme, opening, closing, mark, skip, word, bad}
 use Rattle.rdx_sexp.specs.Reads.{Lexes, lexes_end, lexes_more}
+use Rattle.rdx_sexp.specs.Refusal.{refusal}
+use Rattle.rdx_sexp.specs.Sexp.{integer, truth, symbol, Sexp, sexps}
+use Rattle.rdx_sexp.specs.Size.{IsSpelled, IsSpelledSexp, AreSpelled}
+use Rattle.rdx_sexp.specs.Strings.{Body, string_body}
+use Rattle.rdx_sexp.specs.Text.{Text, at, after, next_is, skip_one}
+use Rattle.rdx_sexp.specs.Token.{token_chars, past_token, is_integer, fits, integer_lexeme, keyword_name, keyword_lexeme, hash_lexeme, token_lexeme}
+use Rattle.rdx_sexp.proofs.Behind.{IsEnd, whole, behind, IsBehind, left, past_blanks_is_end, first_lexeme_is_behind, body_is_end}
 
--- ---- the spelling of a symbol
+-- ---- the tests of a token
 
--- a conjunction that holds
+-- neither of two tests holds
+neither : (a b : Bool) → (a || b) ≡ false → (a ≡ false) × (b ≡ false)
+neither false b e = (refl, e)
+neither true b e = cc
+
+-- both tests hold
 both : (a b : Bool) → (a && b) ≡ true → (a ≡ true) × (b ≡ true)
 both true b e = (refl, e)
 both false b e = cc
 
--- a byte of a symbol is ASCII, ends no token, and quotes nothing
-symbol_byte_is_ascii : (c : ℕ) → is_symbol_byte c ≡ true → c < 128
-symbol_byte_is_ascii c e = grind (arith, nat_tests)
+and_true : (a b : Bool) → a ≡ true → b ≡ true → (a && b) ≡ true
+and_true a b e f = ap (λ x. x && b) e ∙ f
 
-ends_token-symbol_byte : (c : ℕ) → is_symbol_byte c ≡ true → ends_token c ≡ false
-ends_token-symbol_byte c e = grind (arith, nat_tests)
+not_false : (a : Bool) → a ≡ false → not a ≡ true
+not_false a e = ap not e
 
-is_symbol_quote-symbol_byte : (c : ℕ) → is_symbol_byte c ≡ true → is_symbol_quote c ≡ false
-is_symbol_quote-symbol_byte c e = grind (arith, nat_tests)
+-- no character of a token ends it
+none_ends : (b : Bool) (c : ℕ) (cs : List ℕ) → ends_token c ≡ b → list_any ends_token cs ≡ false → list_any ends_token (cond b [] (c ∷ cs)) ≡ false
+none_ends true c cs e f = refl
+none_ends false c cs e f = ap (λ x. x || list_any ends_token cs) e ∙ f
 
--- bytes of a symbol are ASCII, and none ends a token or quotes
-IsAscii-symbol_bytes : (cs : List ℕ) → list_all is_symbol_byte cs ≡ true → IsAscii cs
-IsAscii-symbol_bytes [] e = IsAscii-nil
-IsAscii-symbol_bytes (c ∷ cs) e =
-    let p = both (is_symbol_byte c) (list_all is_symbol_byte cs) e in
-    IsAscii-cons c cs (symbol_byte_is_ascii c p.0) (IsAscii-symbol_bytes cs p.1)
+list_any-token_chars : (cs : List ℕ) → list_any ends_token (token_chars cs) ≡ false
+list_any-token_chars [] = refl
+list_any-token_chars (c ∷ cs) = none_ends (ends_token c) c (token_chars cs) refl (list_any-token_chars cs)
 
-list_any-symbol_bytes : (test : ℕ → Bool) (cs : List ℕ) → ((c : ℕ) → is_symbol_byte c ≡ true → test c ≡ false) → list_all is_symbol_byte cs ≡ true → list_any test cs ≡ false
-list_any-symbol_bytes test [] f e = refl
-list_any-symbol_bytes test (c ∷ cs) f e =
-    let p = both (is_symbol_byte c) (list_all is_symbol_byte cs) e in
-    ap (λ b. b || list_any test cs) (f c p.0) ∙ list_any-symbol_bytes test cs f p.1
+-- the characters of a token are characters of the text
+scalars_of_either : (b : Bool) (cs : List ℕ) → scalars cs ≡ true → scalars (cond b [] cs) ≡ true
+scalars_of_either true cs e = refl
+scalars_of_either false cs e = e
 
--- a letter is a byte of a symbol
-is_symbol_byte-letter : (c : ℕ) → is_ascii_alphabetic c ≡ true → is_symbol_byte c ≡ true
-is_symbol_byte-letter c e = grind (arith, nat_tests)
+scalars-token_chars : (cs : List ℕ) → scalars cs ≡ true → scalars (token_chars cs) ≡ true
+scalars-token_chars [] e = refl
+scalars-token_chars (c ∷ cs) e =
+    let parts = both (scalar c) (scalars cs) e in
+    scalars_of_either (ends_token c) (c ∷ token_chars cs) (and_true (scalar c) (scalars (token_chars cs)) parts.0 (scalars-token_chars cs parts.1))
 
--- a letter begins no number, and none of the four texts, and is no `#`
-begins_number-letter : (c : ℕ) (cs : List ℕ) → is_ascii_alphabetic c ≡ true → begins_number (c ∷ cs) ≡ false
-begins_number-letter c [] e = grind (arith, nat_tests)
-begins_number-letter c (d ∷ ds) e = grind (arith, nat_tests)
+-- a text with a character is not empty
+not_empty : (bs cs : List ℕ) (c : ℕ) → chars bs ≡ c ∷ cs → (length bs == 0) ≡ false
+not_empty [] cs c e = let f = chars-nil in cc
+not_empty (b ∷ bs) cs c e = grind (arith, nat_tests)
 
-is_hash-letter : (c : ℕ) → is_ascii_alphabetic c ≡ true → (c == 35) ≡ false
-is_hash-letter c e = grind (arith, nat_tests)
-
-is_reserved-letter : (c : ℕ) (cs : List ℕ) → is_ascii_alphabetic c ≡ true → is_reserved (c ∷ cs) ≡ false
-is_reserved-letter c cs e =
-    let point : (c == 46) ≡ false = grind (arith, nat_tests) in
-    let plus : (c == 43) ≡ false = grind (arith, nat_tests) in
-    let minus : (c == 45) ≡ false = grind (arith, nat_tests) in
-    simp (point, plus, minus)
-
--- a symbol of a file is spelled as the symbols of terms are
-is_symbol_spelling-symbol : (bs : List ℕ) → is_symbol bs ≡ true → is_symbol_spelling bs ≡ true
-is_symbol_spelling-symbol [] e = cc
-is_symbol_spelling-symbol (c ∷ cs) e =
-    let p = both (is_ascii_alphabetic c) (list_all is_symbol_byte cs) e in
-    let all : list_all is_symbol_byte (c ∷ cs) ≡ true = ap (λ b. b && list_all is_symbol_byte cs) (is_symbol_byte-letter c p.0) ∙ p.1 in
-    let same : chars (c ∷ cs) ≡ c ∷ cs = chars-IsAscii (c ∷ cs) (IsAscii-symbol_bytes (c ∷ cs) all) in
-    let whole : list_any ends_token (chars (c ∷ cs)) ≡ false = ap (list_any ends_token) same ∙ list_any-symbol_bytes ends_token (c ∷ cs) ends_token-symbol_byte all in
-    let plain : list_any is_symbol_quote (c ∷ cs) ≡ false = list_any-symbol_bytes is_symbol_quote (c ∷ cs) is_symbol_quote-symbol_byte all in
-    let some : (length (c ∷ cs) == 0) ≡ false = grind (arith, nat_tests) in
-    spelling some whole plain (is_hash-letter c p.0) (begins_number-letter c cs p.0) (is_reserved-letter c cs p.0)
-  where
-    spelling : (length (c ∷ cs) == 0) ≡ false → list_any ends_token (chars (c ∷ cs)) ≡ false → list_any is_symbol_quote (c ∷ cs) ≡ false → (c == 35) ≡ false → begins_number (c ∷ cs) ≡ false → is_reserved (c ∷ cs) ≡ false
-        → is_symbol_spelling (c ∷ cs) ≡ true
-    spelling s a q b n o = cc
+-- what the tests say of a symbol is that it is spelled so
+spelled : (bs cs : List ℕ) (c : ℕ) → chars bs ≡ c ∷ cs → list_any ends_token (c ∷ cs) ≡ false → list_any is_symbol_quote bs ≡ false → begins_with_hash bs ≡ false → begins_number bs ≡ false → is_reserved bs ≡ false → is_symbol_spelling bs ≡ true
+spelled bs cs c e f g h k l =
+    let some : (length bs == 0) ≡ false = not_empty bs cs c e in
+    let none : list_any ends_token (chars bs) ≡ false = ap (list_any ends_token) e ∙ f in
+    and_true _ _ (and_true _ _ (not_false _ some) (not_false _ none))
+    (and_true _ _ (not_false _ g) (and_true _ _ (not_false _ h) (and_true _ _ (not_false _ k) (not_false _ l))))
 
 -- ---- lexemes
 
+-- so are the symbols of quote marks
+mark_name_is_spelled : (m : Mark) → is_symbol_spelling (mark_name m) ≡ true
+unfolding chars
+mark_name_is_spelled Quote = refl
+mark_name_is_spelled Quasiquote = refl
+mark_name_is_spelled Unquote = refl
+mark_name_is_spelled UnquoteSplicing = refl
+
 -- a symbol that is a lexeme is spelled so
 abbrev IsSpelledLexeme : Lexeme → Type 0
-IsSpelledLexeme (opening s) = Unit {0}
-IsSpelledLexeme (closing s) = Unit {0}
+IsSpelledLexeme (opening b s) = Unit {0}
+IsSpelledLexeme (closing b s) = Unit {0}
+IsSpelledLexeme (mark m s) = Unit {0}
+IsSpelledLexeme (skip s) = Unit {0}
 IsSpelledLexeme (word a s) = IsSpelled a
-IsSpelledLexeme bad = Unit {0}
+IsSpelledLexeme (bad r) = Unit {0}
 
 record Spelled (l : Lexeme) : Type 0 where
   is : IsSpelledLexeme l
 
--- a choice of two
-chosen : (b : Bool) (x y : Lexeme) → Spelled x → Spelled y → Spelled (cond b x y)
+-- a choice of two, by its test
+chosen : (b : Bool) (x y : Lexeme) → Spelled x → (b ≡ false → Spelled y) → Spelled (cond b x y)
 chosen true x y h k = h
-chosen false x y h k = k
+chosen false x y h k = k refl
 
-chosen_step : (b : Bool) (x y : Step) → Spelled x.0 → Spelled y.0 → Spelled (cond b x y).0
+chosen_step : (b : Bool) (x y : Step) → Spelled x.0 → (b ≡ false → Spelled y.0) → Spelled (cond b x y).0
 chosen_step true x y h k = h
-chosen_step false x y h k = k
+chosen_step false x y h k = k refl
 
-chosen_symbol : (b : Bool) (bs : List ℕ) (s : Span) → is_symbol bs ≡ b → Spelled (cond b (word (symbol bs) s) bad)
-chosen_symbol true bs s e = record { is = is_symbol_spelling-symbol bs e }
-chosen_symbol false bs s e = record { is = tt }
+keyword_is_spelled : (o : Option (List ℕ)) (s : Span) → Spelled (keyword_lexeme o s)
+keyword_is_spelled None s = record { is = tt }
+keyword_is_spelled (Some t) s = record { is = tt }
 
--- an integer has no symbol
-integer_lexeme_is_spelled : (n : ℤ) (s : Span) → Spelled (integer_lexeme n s)
-integer_lexeme_is_spelled n s = chosen (fits n) (word (integer n) s) bad (record { is = tt }) (record { is = tt })
+hash_is_spelled : (bs : List ℕ) (s : Span) → Spelled (hash_lexeme bs s)
+hash_is_spelled bs s =
+    chosen (bytes_eq bs (codes "#t") || bytes_eq bs (codes "#true")) (word (truth true) s) _ (record { is = tt }) (λ e.
+    chosen (bytes_eq bs (codes "#f") || bytes_eq bs (codes "#false")) (word (truth false) s) (keyword_lexeme (keyword_name bs) s) (record { is = tt }) (λ f.
+    keyword_is_spelled (keyword_name bs) s))
 
--- each lexeme of a text is
-token_lexeme_is_spelled : (bs : List ℕ) (s : Span) → Spelled (token_lexeme bs s)
-token_lexeme_is_spelled bs s =
-    chosen (is_integer bs) _ _ (integer_lexeme_is_spelled (signed_digits_value 10 bs) s) (chosen_symbol (is_symbol bs) bs s refl)
+integer_is_spelled : (n : ℤ) (s : Span) → Spelled (integer_lexeme n s)
+integer_is_spelled n s = chosen (fits n) (word (integer n) s) (bad (refusal NumberRange s.start)) (record { is = tt }) (λ e. record { is = tt })
 
-lexeme_from_is_spelled : (p : Place) (c : ℕ) (r : Text) → Spelled (lexeme_from p c r).0
-lexeme_from_is_spelled p c r =
-    let token : Spelled (token_step p c r).0 = token_lexeme_is_spelled (encode_utf8_all (c ∷ token_chars r.chars)) (span p (past_token r.place r.chars).place) in
-    chosen_step (c == 40) (until opening p r) _ (record { is = tt }) (chosen_step (c == 41) (until closing p r) (token_step p c r) (record { is = tt }) token)
+-- a token with these characters is, if it has one and none ends it
+token_is_spelled : (bs cs : List ℕ) (c : ℕ) (s : Span) → chars bs ≡ c ∷ cs → list_any ends_token (c ∷ cs) ≡ false → Spelled (token_lexeme bs s)
+token_is_spelled bs cs c s e f =
+    chosen (list_any is_symbol_quote bs || bytes_eq bs (codes ".")) (bad (refusal BadToken s.start)) _ (record { is = tt }) (λ g.
+    chosen (begins_with_hash bs) (hash_lexeme bs s) _ (hash_is_spelled bs s) (λ h.
+    chosen (is_integer bs) (integer_lexeme (signed_digits_value 10 bs) s) _ (integer_is_spelled (signed_digits_value 10 bs) s) (λ i.
+    chosen (begins_number bs || is_reserved bs) (bad (refusal NumberForm s.start)) (word (symbol bs) s) (record { is = tt }) (λ k.
+    let no = neither (begins_number bs) (is_reserved bs) k in
+    record { is = spelled bs cs c e f (neither (list_any is_symbol_quote bs) (bytes_eq bs (codes ".")) g).0 h no.0 no.1 }))))
 
-lexeme_at_is_spelled : (p : Place) (cs : List ℕ) (s : Step) → lexeme_at p cs ≡ Some s → Spelled s.0
-lexeme_at_is_spelled p [] s e = cc
-lexeme_at_is_spelled p (c ∷ cs) s e =
+string_is_spelled : (p : Place) (b : Body) (t : Text) → Spelled (string_step p b t).0
+string_is_spelled p (Ok x) t = record { is = tt }
+string_is_spelled p (Err r) t = record { is = tt }
+
+-- a character that is none of those with which other lexemes begin ends no token
+ends_no_token : (c : ℕ) → is_whitespace c ≡ false → (c == 59) ≡ false → (c == 40) ≡ false → (c == 41) ≡ false → (c == 91) ≡ false → (c == 93) ≡ false → (c == 123) ≡ false → (c == 125) ≡ false → (c == 39) ≡ false → (c == 96) ≡ false → (c == 44) ≡ false → (c == 34) ≡ false → ends_token c ≡ false
+ends_no_token c a b d e f g h i j k l m = simp (a, b, d, e, f, g, h, i, j, k, l, m)
+
+-- the token that begins with such a character
+token_step_is_spelled : (p : Place) (c : ℕ) (r : Text) → scalars (c ∷ r.chars) ≡ true → ends_token c ≡ false → Spelled (token_step p c r).0
+token_step_is_spelled p c r u e =
+    let parts = both (scalar c) (scalars r.chars) u in
+    let all : scalars (c ∷ token_chars r.chars) ≡ true = and_true (scalar c) (scalars (token_chars r.chars)) parts.0 (scalars-token_chars r.chars parts.1) in
+    token_is_spelled (encode_utf8_all (c ∷ token_chars r.chars)) (token_chars r.chars) c (span p (past_token r.place r.chars).place)
+    (chars-encodes (c ∷ token_chars r.chars) all) (ap (λ x. x || list_any ends_token (token_chars r.chars)) e ∙ list_any-token_chars r.chars)
+
+lexeme_from_is_spelled : (p : Place) (c : ℕ) (r : Text) → scalars (c ∷ r.chars) ≡ true → is_whitespace c ≡ false → (c == 59) ≡ false → Spelled (lexeme_from p c r).0
+lexeme_from_is_spelled p c r u v w =
+    let one : Text = skip_one r.place r.chars in
+    chosen_step (c == 40) (until (opening Round) p r) _ (record { is = tt }) (λ d.
+    chosen_step (c == 41) (until (closing Round) p r) _ (record { is = tt }) (λ e.
+    chosen_step (c == 91) (until (opening Square) p r) _ (record { is = tt }) (λ f.
+    chosen_step (c == 93) (until (closing Square) p r) _ (record { is = tt }) (λ g.
+    chosen_step (c == 123) (until (opening Curly) p r) _ (record { is = tt }) (λ h.
+    chosen_step (c == 125) (until (closing Curly) p r) _ (record { is = tt }) (λ i.
+    chosen_step (c == 39) (until (mark Quote) p r) _ (record { is = tt }) (λ j.
+    chosen_step (c == 96) (until (mark Quasiquote) p r) _ (record { is = tt }) (λ k.
+    chosen_step (c == 44) _ _ (chosen_step (next_is 64 r.chars) (until (mark UnquoteSplicing) p one) (until (mark Unquote) p r) (record { is = tt }) (λ x. record { is = tt })) (λ l.
+    chosen_step (c == 34) _ _ (string_is_spelled p (string_body p None r.place r.chars) r) (λ m.
+    chosen_step (c == 35 && next_is 59 r.chars) (until skip p one) (token_step p c r) (record { is = tt }) (λ x.
+    token_step_is_spelled p c r u (ends_no_token c v w d e f g h i j k l m))))))))))))
+
+-- ---- the first lexeme of a text
+
+-- a text of characters whose first, if there is one, is neither white space nor `;`
+abbrev IsLead : List ℕ → Type 0
+IsLead [] = Unit {0}
+IsLead (c ∷ cs) = (is_whitespace c ≡ false) × ((c == 59) ≡ false)
+
+abbrev LeadsTo : Result Text Place → Type 0
+LeadsTo (Ok t) = IsLead t.chars
+LeadsTo (Err o) = Unit {0}
+
+record Leads (r : Result Text Place) : Type 0 where
+  is : LeadsTo r
+
+leads-unclosed : (p : Place) (os : List Place) → Leads (unclosed p os)
+leads-unclosed p [] = record { is = tt }
+leads-unclosed p (o ∷ os) = record { is = tt }
+
+chosen_lead : (b : Bool) (x y : Result Text Place) → Leads x → (b ≡ false → Leads y) → Leads (cond b x y)
+chosen_lead true x y h k = h
+chosen_lead false x y h k = k refl
+
+-- white space and comments end before such a text
+past_blanks_leads : (b : Blank) (p : Place) (cs : List ℕ) → Leads (past_blanks b p cs)
+past_blanks_leads (inside os) p [] = leads-unclosed p os
+past_blanks_leads (second os) p [] = leads-unclosed p os
+past_blanks_leads line p [] = record { is = tt }
+past_blanks_leads (inside []) p (c ∷ cs) =
+    chosen_lead (c == 59) _ _ (past_blanks_leads line (after p c) cs) (λ e.
+    chosen_lead (c == 35 && next_is 124 cs) _ _ (past_blanks_leads (second (p ∷ [])) (after p c) cs) (λ f.
+    chosen_lead (is_whitespace c) _ (Ok (at p (c ∷ cs))) (past_blanks_leads (inside []) (after p c) cs) (λ g. record { is = (g, e) })))
+past_blanks_leads (inside (o ∷ os)) p (c ∷ cs) =
+    chosen_lead (c == 35 && next_is 124 cs) _ _ (past_blanks_leads (second (p ∷ o ∷ os)) (after p c) cs) (λ e.
+    chosen_lead (c == 124 && next_is 35 cs) _ _ (past_blanks_leads (second os) (after p c) cs) (λ f.
+    past_blanks_leads (inside (o ∷ os)) (after p c) cs))
+past_blanks_leads (second os) p (c ∷ cs) = past_blanks_leads (inside os) (after p c) cs
+past_blanks_leads line p (c ∷ cs) =
+    chosen_lead (c == 10) _ _ (past_blanks_leads (inside []) (after p c) cs) (λ e. past_blanks_leads line (after p c) cs)
+
+-- an end of characters is characters
+scalars-end : (es cs : List ℕ) → IsEnd es cs → scalars cs ≡ true → scalars es ≡ true
+scalars-end es cs whole u = u
+scalars-end es (c ∷ cs) (behind e) u = scalars-end es cs e (both (scalar c) (scalars cs) u).1
+
+scalars-behind : (es cs : List ℕ) → IsBehind es cs → scalars cs ≡ true → scalars es ≡ true
+scalars-behind es [] h u = absurd h
+scalars-behind es (c ∷ cs) e u = scalars-end es cs e (both (scalar c) (scalars cs) u).1
+
+lexeme_at_is_spelled : (p : Place) (cs : List ℕ) (s : Step) → scalars cs ≡ true → IsLead cs → lexeme_at p cs ≡ Some s → Spelled s.0
+lexeme_at_is_spelled p [] s u h e = cc
+lexeme_at_is_spelled p (c ∷ cs) s u h e =
     let same : lexeme_from p c (at (after p c) cs) ≡ s = cc in
-    subst (λ (x : Step). Spelled x.0) same (lexeme_from_is_spelled p c (at (after p c) cs))
+    subst (λ (x : Step). Spelled x.0) same (lexeme_from_is_spelled p c (at (after p c) cs) u h.0 h.1)
 
-first_lexeme_is_spelled : (t : Text) (s : Step) → first_lexeme t ≡ Some s → Spelled s.0
+bad_is_spelled : (o : Place) (s : Step) → (let a : Option Step = Some (bad (refusal Unclosed o), at o []) in a) ≡ Some s → Spelled s.0
+bad_is_spelled o s e =
+    let same : (let a : Step = (bad (refusal Unclosed o), at o []) in a) ≡ s = cc in
+    subst (λ (x : Step). Spelled x.0) same (record { is = tt })
+
+first_from_is_spelled : (r : Result Text Place) (s : Step) → scalars (left r) ≡ true → Leads r → first_from r ≡ Some s → Spelled s.0
+first_from_is_spelled (Ok t) s u h e = lexeme_at_is_spelled t.place t.chars s u h.is e
+first_from_is_spelled (Err o) s u h e = bad_is_spelled o s e
+
+first_lexeme_is_spelled : (t : Text) (s : Step) → scalars t.chars ≡ true → first_lexeme t ≡ Some s → Spelled s.0
 unfolding first_lexeme
-first_lexeme_is_spelled t s e =
-    let blanks = past_blanks t.place t.chars in
-    lexeme_at_is_spelled blanks.place blanks.chars s e
+first_lexeme_is_spelled t s u e =
+    let found = past_blanks (inside []) t.place t.chars in
+    first_from_is_spelled found s (scalars-end (left found) t.chars (past_blanks_is_end (inside []) t.place t.chars) u) (past_blanks_leads (inside []) t.place t.chars) e
 
 -- ---- data
 
@@ -141,9 +242,10 @@ AreSpelledLexemes [] = Unit {0}
 AreSpelledLexemes (l ∷ ls) = IsSpelledLexeme l × AreSpelledLexemes ls
 
 -- all lexemes of a text are
-lexemes_are_spelled : (ls : List Lexeme) (t : Text) → Lexes t ls → AreSpelledLexemes ls
-lexemes_are_spelled [] t (lexes_end e) = tt
-lexemes_are_spelled (l ∷ ls) t (lexes_more {rest} e more) = ((first_lexeme_is_spelled t (l, rest) e).is, lexemes_are_spelled ls rest more)
+lexemes_are_spelled : (ls : List Lexeme) (t : Text) → scalars t.chars ≡ true → Lexes t ls → AreSpelledLexemes ls
+lexemes_are_spelled [] t u (lexes_end e) = tt
+lexemes_are_spelled (l ∷ ls) t u (lexes_more {rest} e more) =
+    ((first_lexeme_is_spelled t (l, rest) u e).is, lexemes_are_spelled ls rest (scalars-behind rest.chars t.chars (first_lexeme_is_behind t (l, rest) e) u) more)
 
 -- so are the data that they spell, and the lexemes that follow
 mutual
@@ -152,6 +254,11 @@ mutual
   one_is_spelled n ls rest d a (one_list {ds} {ls = inner} lt many is) =
       let f = many_are_spelled (suc n) inner _ ds a.1 many in
       (subst IsSpelledSexp is f.0, f.1.1)
+  one_is_spelled n ls rest d a (one_quoted {m} {s} {e} {ls = inner} lt one is) =
+      let f = one_is_spelled (suc n) inner rest e a.1 one in
+      (subst IsSpelledSexp is (mark_name_is_spelled m, (f.0, tt)), f.1)
+  one_is_spelled n ls rest d a (one_skipped {d = x} {ls = inner} {mid} lt one then) =
+      one_is_spelled n mid rest d (one_is_spelled (suc n) inner mid x a.1 one).1 then
 
   many_are_spelled : (n : ℕ) (ls rest : List Lexeme) (ds : List Sexp) → AreSpelledLexemes ls → Many n ls ds rest → AreSpelled (sexps ds) × AreSpelledLexemes rest
   many_are_spelled n ls rest ds a many_none = (tt, a)
@@ -159,7 +266,11 @@ mutual
       let f = one_is_spelled n ls mid d a one in
       let g = many_are_spelled n mid rest es f.1 many in
       ((f.0, g.0), g.1)
+  many_are_spelled n ls rest ds a (many_skipped {d} {ls = inner} {mid} lt one many) =
+      many_are_spelled n mid rest ds (one_is_spelled (suc n) inner mid d a.1 one).1 many
 
 -- the data of a text have symbols spelled so
-pub data_are_spelled : (ls : List Lexeme) (t : Text) (ds : List Sexp) → Lexes t ls → Many 0 ls ds [] → AreSpelled (sexps ds)
-data_are_spelled ls t ds lexed many = (many_are_spelled 0 ls [] ds (lexemes_are_spelled ls t lexed) many).0
+pub data_are_spelled : (bytes : List ℕ) (ls : List Lexeme) (ds : List Sexp) → IsUtf8 bytes → Lexes (body (chars bytes)) ls → Many 0 ls ds [] → AreSpelled (sexps ds)
+data_are_spelled bytes ls ds utf8 lexed many =
+    let u = scalars-end (body (chars bytes)).chars (chars bytes) (body_is_end (chars bytes)) (scalars-chars bytes utf8) in
+    (many_are_spelled 0 ls [] ds (lexemes_are_spelled ls (body (chars bytes)) u lexed) many).0

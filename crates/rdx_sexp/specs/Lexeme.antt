@@ -1,10 +1,15 @@
--- What a text is cut into, with white space left out.
+-- What a text is cut into, with white space and comments left out.
 use Rattle.rdx_base.specs.declared.place.Span.{Span}
+use Rattle.rdx_sexp.specs.declared.fault.ReadRefusal.{ReadRefusal}
+use Rattle.rdx_sexp.specs.declared.token.Bracket.{Bracket}
+use Rattle.rdx_sexp.specs.declared.token.Mark.{Mark}
 use Rattle.rdx_sexp.specs.Sexp.{Atom}
 
--- an opening bracket, a closing bracket, an atom, or a token that is none
+-- an opening or a closing bracket, a quote mark, the mark `#;` of a comment on one datum, an atom, or what is refused by itself
 pub data Lexeme : Type 0 where
-  opening : Span → Lexeme
-  closing : Span → Lexeme
+  opening : Bracket → Span → Lexeme
+  closing : Bracket → Span → Lexeme
+  mark : Mark → Span → Lexeme
+  skip : Span → Lexeme
   word : Atom → Span → Lexeme
-  bad : Lexeme
+  bad : ReadRefusal → Lexeme

@@ -1,5 +1,5 @@
--- A text from a place on, and how far white space reaches.
-use Rattle.std.specs.Prelude.{ℕ, ◌+◌, ◌==◌, ◌||◌, List, [], ◌∷◌, Bool, if◌then◌else◌}
+-- A text from a place on.
+use Rattle.std.specs.Prelude.{ℕ, ◌+◌, ◌==◌, List, [], ◌∷◌, Bool, false, if◌then◌else◌}
 use Rattle.rdx_base.specs.declared.place.Place.{Place}
 
 -- the characters from this place on
@@ -18,11 +18,17 @@ start = record { line = 1; column = 1 }
 abbrev pub after : Place → ℕ → Place
 after p c = if c == 10 then record { line = p.line + 1; column = 1 } else record { line = p.line; column = p.column + 1 }
 
--- white space: a space, a tab, a CR or an LF
-abbrev pub is_blank : ℕ → Bool
-is_blank c = c == 32 || c == 9 || c == 13 || c == 10
+-- the place after all these characters
+abbrev pub after_all : Place → List ℕ → Place
+after_all p [] = p
+after_all p (c ∷ cs) = after_all (after p c) cs
 
--- where the white space at the head of a text ends
-abbrev pub past_blanks : Place → List ℕ → Text
-past_blanks p [] = at p []
-past_blanks p (c ∷ cs) = if is_blank c then past_blanks (after p c) cs else at p (c ∷ cs)
+-- the character c comes next
+abbrev pub next_is : ℕ → List ℕ → Bool
+next_is c [] = false
+next_is c (d ∷ ds) = c == d
+
+-- the text behind one more character
+abbrev pub skip_one : Place → List ℕ → Text
+skip_one p [] = at p []
+skip_one p (c ∷ cs) = at (after p c) cs

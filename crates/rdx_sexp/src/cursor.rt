@@ -1,6 +1,8 @@
 // Characters with their places.
-ghost use Rattle.std.specs.Prelude.{◌≡◌, ◌+◌, ◌<◌, ◌^◌, [], ◌∷◌, length, MatchOption};
-ghost use Rattle.rdx_sexp.specs.Text.{after};
+ghost use Rattle.std.specs.Prelude.{◌≡◌, ◌+◌, ◌<◌, ◌≤◌, ◌^◌, [], ◌∷◌, length, List, MatchOption};
+ghost use Rattle.rdx_base.specs.declared.place.Place.{Place};
+ghost use Rattle.rdx_sexp.specs.Blanks.{past_blanks, inside, second};
+ghost use Rattle.rdx_sexp.specs.Text.{at, after, after_all, next_is, skip_one};
 
 use rdx_base::Place;
 
@@ -46,5 +48,38 @@ impl<'a> Cursor<'a> {
                 place: after(self.place, *c),
             },
         ))
+    }
+
+    // Whether the next character is c.
+    pub(crate) fn next_is(self, c: char) -> bool
+        ensures { result ≡ next_is c self.entry.rest.now }
+    {
+        match self.rest {
+            [] => false,
+            [first, ..] => *first == c,
+        }
+    }
+
+    // The text after one more character.
+    pub(crate) fn skip_one(self) -> Cursor<'a>
+        ensures value { at result.place result.rest.now ≡ skip_one self.entry.place self.entry.rest.now }
+        ensures shorter { length result.rest.now ≤ length self.entry.rest.now }
+        ensures second { (os : List Place) → past_blanks (second os) self.entry.place self.entry.rest.now ≡ past_blanks (inside os) result.place result.rest.now }
+    {
+        match self.step() {
+            None => self,
+            Some((_, rest)) => rest,
+        }
+    }
+
+    // The place after the text.
+    pub(crate) fn end(self) -> Place
+        ensures { result ≡ after_all self.entry.place self.entry.rest.now }
+    {
+        let mut at = self;
+        while let Some((_, rest)) = at.step() {
+            at = rest;
+        }
+        at.place
     }
 }

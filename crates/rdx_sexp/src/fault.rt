@@ -1,15 +1,33 @@
 // Why bytes were not read.
+ghost use Rattle.std.specs.Prelude.{◌≡◌};
+ghost use Rattle.rdx_sexp.specs.Refusal.{refusal};
+
 use rdx_base::Place;
 use std::alloc::{AllocError, AllocFailed};
 
 /// Why a text is refused.
 #[derive(Clone, Copy, Debug, PartialEq, Eq)]
 pub enum ReadKind {
-    /// The text has a form that this reader does not read.
-    Unbuilt,
+    /// The bytes aren't UTF-8. The place is behind the longest front that is.
+    NotUtf8,
+    /// The text ends inside a list or a block comment, or before the datum of a quote mark or of `#;`. The place is that of the innermost
+    /// of these.
+    Unclosed,
+    /// A closing bracket closes nothing, or a list of another kind, or stands where a datum is wanted.
+    WrongClose,
+    /// A token has `|` or `\` in it, is a single point, or begins with `#` and is neither a truth value nor a keyword.
+    BadToken,
+    /// A token begins like a number and is no integer.
+    NumberForm,
+    /// An integer is below -2^127 or above 2^127 - 1.
+    NumberRange,
+    /// A string has an escape that isn't known, at its backslash, or no end, at its opening quotation mark.
+    BadString,
+    /// A bracket, quote mark or `#;` would be the 501st that is open.
+    TooDeep,
 }
 
-/// A text that is refused, and the place where.
+/// Why a text is refused, and where: at the first character of what is refused, if the kind doesn't say otherwise.
 #[derive(Clone, Copy, Debug, PartialEq, Eq)]
 pub struct ReadRefusal {
     pub kind: ReadKind,
@@ -23,6 +41,13 @@ pub enum ReadFault {
     Refused(ReadRefusal),
     /// Memory ran out.
     NoMemory,
+}
+
+// The text is refused for this, at this place.
+pub(crate) fn refused(kind: ReadKind, place: Place) -> ReadFault
+    ensures { result ≡ ReadFault.Refused (refusal kind place) }
+{
+    ReadFault::Refused(ReadRefusal { kind, place })
 }
 
 impl<T: Drop> From<AllocFailed<T>> for ReadFault {

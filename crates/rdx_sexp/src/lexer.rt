@@ -1,140 +1,33 @@
 // Lexemes of a text.
-ghost use Rattle.std.specs.Prelude.{◌≡◌, ◌++◌, true, string_bytes, IfOk, OnOk, OnErr};
-ghost use Rattle.std.specs.Char.{is_ascii_digit};
-ghost use Rattle.std.specs.List.{list_all};
-ghost use Rattle.std.specs.Str.{encode_utf8_all};
-ghost use Rattle.std.specs.Str.Parse.{signed_digits_value, without_leading_sign};
-ghost use Rattle.rdx_sexp.specs.Text.{is_blank, past_blanks};
-ghost use Rattle.rdx_sexp.specs.Lex.{ends_token, token_chars, past_token, is_integer, integer_lexeme, is_symbol_byte, is_symbol, token_lexeme, token_step, lexeme_from, first_lexeme};
-ghost use Rattle.rdx_sexp.specs.Stack.{lexeme_of};
+ghost use Rattle.std.specs.Prelude.{◌≡◌, None};
 ghost use Rattle.rdx_sexp.specs.Cursor.{text_of, GivesPair, GivesStep};
+ghost use Rattle.rdx_sexp.specs.Lex.{lexeme_from, first_lexeme, string_step, token_step};
+ghost use Rattle.rdx_sexp.specs.Strings.{string_body};
 
 use crate::ReadFault;
+use crate::blanks::past_blanks;
 use crate::cursor::Cursor;
+use crate::strings::string_body;
+use crate::token::{Bracket, Leaf, Mark, Token};
+use crate::words::{leaf_of, take_token};
 use rdx_base::{Place, Span};
 use std::alloc::Global;
 use std::rc::RcStr;
 
-// What a text is cut into; `Bad` is a token that is neither an integer nor a symbol.
-#[derive(Drop)]
-pub(crate) enum Token {
-    Open(Span),
-    Close(Span),
-    Int(i128, Span),
-    Sym(RcStr, Span),
-    Bad,
-}
-
-fn is_blank(c: char) -> bool
-    ensures { result ≡ is_blank c }
+// The string that opens at `place`, before `rest`.
+fn string<'a>(
+    alloc: Global,
+    place: Place,
+    rest: Cursor<'a>,
+) -> Result<(Token, Cursor<'a>), ReadFault>
+    ensures { GivesPair result (string_step place (string_body place None rest.entry.place rest.entry.rest.now) (text_of rest.entry)) }
 {
-    c == ' ' || c == '\t' || c == '\r' || c == '\n'
-}
-
-fn ends_token(c: char) -> bool
-    ensures { result ≡ ends_token c }
-{
-    is_blank(c) || c == '(' || c == ')'
-}
-
-// Where the next lexeme begins, or the text ends.
-fn past_blanks<'a>(cursor: Cursor<'a>) -> Cursor<'a>
-    ensures { text_of result ≡ past_blanks cursor.entry.place cursor.entry.rest.now }
-{
-    let mut at = cursor;
-    while let Some((c, rest)) = at.step() {
-        if !is_blank(c) {
-            break;
-        }
-        at = rest;
-    }
-    at
-}
-
-// The rest of a token, at the end of `text`, and what follows.
-fn take_token<'a>(text: &mut String, cursor: Cursor<'a>) -> Result<Cursor<'a>, ReadFault>
-    ensures chars { OnOk result (string_bytes text.new ≡ string_bytes text.old ++ encode_utf8_all (token_chars cursor.entry.rest.now)) }
-    ensures after { IfOk result (λ r. text_of r ≡ past_token cursor.entry.place cursor.entry.rest.now) }
-    ensures err { OnErr result (result ≡ Err ReadFault.NoMemory) }
-{
-    let mut at = cursor;
-    while let Some((c, rest)) = at.step() {
-        if ends_token(c) {
-            return Ok(at);
-        }
-        text.push(c)?;
-        at = rest;
-    }
-    Ok(at)
-}
-
-fn without_sign(bytes: &[u8]) -> &[u8]
-    ensures { result.now ≡ without_leading_sign bytes.now }
-{
-    match bytes {
-        [b'+' | b'-', digits @ ..] => digits,
-        _ => bytes,
-    }
-}
-
-fn are_digits(bytes: &[u8]) -> bool
-    ensures { result ≡ list_all is_ascii_digit bytes.now }
-{
-    bytes.iter().all(|byte| byte.is_ascii_digit())
-}
-
-fn is_integer(bytes: &[u8]) -> bool
-    ensures { result ≡ is_integer bytes.now }
-{
-    let digits = without_sign(bytes);
-    !digits.is_empty() && are_digits(digits)
-}
-
-fn is_symbol_byte(byte: u8) -> bool
-    ensures { result ≡ is_symbol_byte byte }
-{
-    byte.is_ascii_alphabetic() || byte.is_ascii_digit() || byte == b'-' || byte == b'_'
-}
-
-fn are_symbol_bytes(bytes: &[u8]) -> bool
-    ensures { result ≡ list_all is_symbol_byte bytes.now }
-{
-    bytes.iter().all(|byte| is_symbol_byte(*byte))
-}
-
-fn is_symbol(bytes: &[u8]) -> bool
-    ensures { result ≡ is_symbol bytes.now }
-{
-    match bytes {
-        [] => false,
-        [first, others @ ..] => first.is_ascii_alphabetic() && are_symbol_bytes(others),
-    }
-}
-
-#[tactic(auto, using(crate::proofs::Numbers::out_of_range))]
-// The integer that a sign and digits write.
-fn integer(text: &str, span: Span) -> Token
-    requires { is_integer text.now ≡ true }
-    ensures { lexeme_of result ≡ integer_lexeme (signed_digits_value 10 text.now) span }
-{
-    match text.parse::<i128>() {
-        Ok(n) => Token::Int(n, span),
-        Err(_) => Token::Bad,
-    }
-}
-
-// The lexeme that a token is.
-fn token_of(text: String, span: Span) -> Result<Token, ReadFault>
-    ensures ok { IfOk result (λ t. lexeme_of t ≡ token_lexeme (string_bytes text) span) }
-    ensures err { OnErr result (result ≡ Err ReadFault.NoMemory) }
-{
-    if is_integer(text.as_bytes()) {
-        return Ok(integer(text.as_str(), span));
-    }
-    if !is_symbol(text.as_bytes()) {
-        return Ok(Token::Bad);
-    }
-    Ok(Token::Sym(RcStr::from_string(text)?, span))
+    let (text, end) = string_body(alloc, place, rest)?;
+    let span = Span {
+        start: place,
+        end: end.place,
+    };
+    Ok((Token::Word(Leaf::Str(RcStr::from_string(text)?), span), end))
 }
 
 // The token that begins with c at `place`, before `rest`.
@@ -153,7 +46,7 @@ fn word<'a>(
         start: place,
         end: end.place,
     };
-    Ok((token_of(text, span)?, end))
+    Ok((Token::Word(leaf_of(alloc, text, span)?, span), end))
 }
 
 // The lexeme that begins with c at `place`, before `rest`.
@@ -165,15 +58,30 @@ fn lexeme_from<'a>(
 ) -> Result<(Token, Cursor<'a>), ReadFault>
     ensures { GivesPair result (lexeme_from place c (text_of rest.entry)) }
 {
-    let span = Span {
+    let one = Span {
         start: place,
         end: rest.place,
     };
-    match c {
-        '(' => Ok((Token::Open(span), rest)),
-        ')' => Ok((Token::Close(span), rest)),
-        _ => word(alloc, place, c, rest),
-    }
+    let others = rest.skip_one();
+    let two = Span {
+        start: place,
+        end: others.place,
+    };
+    Ok(match c {
+        '(' => (Token::Open(Bracket::Round, one), rest),
+        ')' => (Token::Close(Bracket::Round, one), rest),
+        '[' => (Token::Open(Bracket::Square, one), rest),
+        ']' => (Token::Close(Bracket::Square, one), rest),
+        '{' => (Token::Open(Bracket::Curly, one), rest),
+        '}' => (Token::Close(Bracket::Curly, one), rest),
+        '\'' => (Token::Marked(Mark::Quote, one), rest),
+        '`' => (Token::Marked(Mark::Quasiquote, one), rest),
+        ',' if rest.next_is('@') => (Token::Marked(Mark::UnquoteSplicing, two), others),
+        ',' => (Token::Marked(Mark::Unquote, one), rest),
+        '"' => string(alloc, place, rest)?,
+        '#' if rest.next_is(';') => (Token::Skip(two), others),
+        _ => word(alloc, place, c, rest)?,
+    })
 }
 
 // The first lexeme, and what follows.
@@ -184,7 +92,7 @@ pub(crate) fn next<'a>(
 ) -> Result<Option<(Token, Cursor<'a>)>, ReadFault>
     ensures { GivesStep result (first_lexeme (text_of cursor.entry)) }
 {
-    let at = past_blanks(cursor);
+    let at = past_blanks(alloc, cursor)?;
     match at.step() {
         None => Ok(None),
         Some((c, rest)) => Ok(Some(lexeme_from(alloc, at.place, c, rest)?)),

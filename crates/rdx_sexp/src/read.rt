@@ -1,19 +1,25 @@
 // The reader: bytes to data.
-ghost use Rattle.std.specs.Prelude.{◌≡◌, ◌≤◌, [], length, List, IfOk, IfErr, OnErr, chars};
-ghost use Rattle.rdx_sexp.specs.Sexp.{Sexp};
-ghost use Rattle.rdx_sexp.specs.Lexeme.{Lexeme};
-ghost use Rattle.rdx_sexp.specs.Size.{IsOfFileSize};
-ghost use Rattle.rdx_sexp.specs.Text.{at, start};
-ghost use Rattle.rdx_sexp.specs.Reads.{Lexes, Reads};
-ghost use Rattle.rdx_sexp.specs.Answers.{HasData, IsFaultOf};
-ghost use Rattle.rdx_sexp.specs.Machine.{ended, run};
+ghost use Rattle.std.specs.Prelude.{◌≡◌, ◌≤◌, [], length, List, IfOk, IfErr, OnErr, chars, take};
+ghost use Rattle.std.specs.Str.{IsUtf8};
+ghost use Rattle.rdx_sexp.specs.declared.fault.ReadRefusal.{ReadRefusal};
+ghost use Rattle.rdx_sexp.specs.Answers.{HasData, HasRefusal, IsFaultOf, IsRefusal};
+ghost use Rattle.rdx_sexp.specs.Begin as begin;
 ghost use Rattle.rdx_sexp.specs.Cursor.{text_of};
+ghost use Rattle.rdx_sexp.specs.Lexeme.{Lexeme};
+ghost use Rattle.rdx_sexp.specs.Machine.{ended, run};
+ghost use Rattle.rdx_sexp.specs.Reads.{Lexes, Reads, FirstFault};
+ghost use Rattle.rdx_sexp.specs.Refusal.{refusal};
+ghost use Rattle.rdx_sexp.specs.Sexp.{Sexp};
+ghost use Rattle.rdx_sexp.specs.Size.{IsOfFileSize};
 ghost use Rattle.rdx_sexp.specs.Stack.{frames, Gives};
+ghost use Rattle.rdx_sexp.specs.Text.{at, start, after_all};
 
+use crate::begin::body;
 use crate::cursor::Cursor;
+use crate::fault::refused;
 use crate::lexer::next;
-use crate::reader::{Level, refused, take};
-use crate::{Datum, ReadFault};
+use crate::reader::{Level, take};
+use crate::{Datum, ReadFault, ReadKind};
 use rdx_base::Place;
 use std::alloc::Global;
 
@@ -21,10 +27,9 @@ use std::alloc::Global;
 fn finished(stack: &[Level], items: Vec<Datum>) -> Result<Vec<Datum>, ReadFault>
     ensures { Gives result (ended (frames stack.now) items.items) }
 {
-    if stack.is_empty() {
-        Ok(items)
-    } else {
-        Err(refused())
+    match stack.last() {
+        None => Ok(items),
+        Some(level) => Err(refused(ReadKind::Unclosed, level.opener.place())),
     }
 }
 
@@ -63,22 +68,40 @@ fn start<'a>(chars: &'a [char]) -> Cursor<'a>
 
 fn read_str(alloc: Global, text: &str) -> Result<Vec<Datum>, ReadFault>
     requires { length text.now ≤ 1_048_576 }
-    ensures { (ls : List Lexeme) → Lexes (at start (chars text.now)) ls → Gives result (run [] [] ls) }
+    ensures { (ls : List Lexeme) → Lexes (begin.body (chars text.now)) ls → Gives result (run [] [] ls) }
 {
     let chars = chars_of(alloc, text)?;
-    read_text(alloc, start(chars.as_slice()))
+    read_text(alloc, body(start(chars.as_slice())))
 }
 
-/// The data that the bytes are. Bytes that are no data are refused, at the first place.
+// The refusal of bytes of which the first `len` are UTF-8.
+fn not_utf8(alloc: Global, bytes: &[u8], len: usize) -> ReadFault
+    requires small { length bytes.now ≤ 1_048_576 }
+    requires within { len ≤ length bytes.now }
+    requires front { IsUtf8 (take len bytes.now) }
+    ensures { IsRefusal (refusal ReadKind.NotUtf8 (after_all start (chars (take len bytes.now)))) result }
+{
+    let Ok(text) = std::str::from_utf8(&bytes[..len]) else {
+        unreachable!();
+    };
+    match chars_of(alloc, text) {
+        Ok(chars) => refused(ReadKind::NotUtf8, start(chars.as_slice()).end()),
+        Err(fault) => fault,
+    }
+}
+
+/// The data that the bytes are, or the first fault of the text, a character at a time from its start; bytes that aren't UTF-8 come before
+/// every fault of the characters.
 pub fn read_all(alloc: Global, bytes: &[u8]) -> Result<Vec<Datum>, ReadFault>
     requires { length bytes.now ≤ 1_048_576 }
     ensures reading { IfOk result (λ v. Reads bytes.now v.items) }
     ensures size { IfOk result (λ v. IsOfFileSize v.items) }
     ensures data { (ds : List Sexp) → Reads bytes.now ds → HasData ds result }
     ensures refused { IfErr result (IsFaultOf bytes.now) }
+    ensures fault { (r : ReadRefusal) → FirstFault bytes.now r → HasRefusal r result }
 {
     match std::str::from_utf8(bytes) {
         Ok(text) => read_str(alloc, text),
-        Err(_) => Err(refused()),
+        Err(error) => Err(not_utf8(alloc, bytes, error.valid_up_to())),
     }
 }

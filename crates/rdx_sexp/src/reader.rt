@@ -1,34 +1,28 @@
-// Data of lexemes, with a stack of open lists.
-ghost use Rattle.std.specs.Prelude.{◌≡◌, [], ◌∷◌, ◌++◌, List, OnOk, OnErr};
-ghost use Rattle.rdx_sexp.specs.Answers.{unbuilt};
-ghost use Rattle.rdx_sexp.specs.View.{sexp_of};
+// Data of lexemes, with a stack of what is open.
+ghost use Rattle.std.specs.Prelude.{◌≡◌, [], ◌∷◌, List, IfOk, OnOk, OnErr};
+ghost use Rattle.rdx_base.specs.declared.place.Span.{Span};
+ghost use Rattle.rdx_sexp.specs.Grammar.{joined, mark_name, quoted};
 ghost use Rattle.rdx_sexp.specs.Lexeme.{Lexeme};
-ghost use Rattle.rdx_sexp.specs.Grammar.{joined};
-ghost use Rattle.rdx_sexp.specs.Machine.{frame, opened, closed, run};
-ghost use Rattle.rdx_sexp.specs.Stack.{lexeme_of, frames, Steps};
+ghost use Rattle.rdx_sexp.specs.Machine.{frame, finish, opened, closed, run};
+ghost use Rattle.rdx_sexp.specs.Sexp.{leaf};
+ghost use Rattle.rdx_sexp.specs.Stack.{atom_of, lexeme_of, frames, Steps};
+ghost use Rattle.rdx_sexp.specs.View.{sexp_of};
 
-use crate::lexer::Token;
-use crate::{Datum, Form, ReadFault, ReadKind, ReadRefusal};
-use rdx_base::{Place, Span};
+use crate::fault::refused;
+use crate::opener::Opener;
+use crate::token::{Bracket, Leaf, Mark, Token};
+use crate::{Datum, Form, ReadFault, ReadKind};
+use rdx_base::Span;
 use std::alloc::Global;
+use std::rc::RcStr;
 
 const MAX_OPEN: usize = 500;
 
-// An opening bracket, and the data before it in what it stands in.
+// An open thing, and the data before it in what it stands in.
 #[derive(Drop)]
 pub(crate) struct Level {
-    bracket: Span,
+    pub(crate) opener: Opener,
     before: Vec<Datum>,
-}
-
-// The one refusal, at the first place of the text.
-pub(crate) fn refused() -> ReadFault
-    ensures { result ≡ ReadFault.Refused unbuilt }
-{
-    ReadFault::Refused(ReadRefusal {
-        kind: ReadKind::Unbuilt,
-        place: Place { line: 1, column: 1 },
-    })
 }
 
 fn joined(first: Span, last: Span) -> Span
@@ -40,51 +34,130 @@ fn joined(first: Span, last: Span) -> Span
     }
 }
 
-// One more list is open.
-fn open(
+fn mark_name(mark: Mark) -> &'static str
+    ensures { result.now ≡ mark_name mark }
+{
+    match mark {
+        Mark::Quote => "quote",
+        Mark::Quasiquote => "quasiquote",
+        Mark::Unquote => "unquote",
+        Mark::UnquoteSplicing => "unquote-splicing",
+    }
+}
+
+// The list that a quote mark and a datum stand for.
+fn quoted(alloc: Global, mark: Mark, span: Span, datum: Datum) -> Result<Datum, ReadFault>
+    ensures ok { IfOk result (λ d. d ≡ quoted mark span datum) }
+    ensures err { OnErr result (result ≡ Err ReadFault.NoMemory) }
+{
+    let whole = joined(span, datum.span);
+    let name = RcStr::from_str(alloc, mark_name(mark))?;
+    let mut items = Vec::new(alloc);
+    items.push(Datum {
+        form: Form::Sym(name),
+        span,
+    })?;
+    items.push(datum)?;
+    Ok(Datum {
+        form: Form::List(items),
+        span: whole,
+    })
+}
+
+// A datum is read: it goes to where it belongs.
+fn finish(
     alloc: Global,
-    bracket: Span,
+    datum: Datum,
     stack: &mut Vec<Level>,
     items: &mut Vec<Datum>,
 ) -> Result<(), ReadFault>
-    ensures { (ls : List Lexeme) → Steps result
-        (opened (frames stack.old.items) (run (frame bracket items.old.items ∷ frames stack.old.items) [] ls))
-        (run (frames stack.new.items) items.new.items ls) }
+    ensures ok { OnOk result (finish datum (frames stack.old.items) items.old.items ≡ (frames stack.new.items, items.new.items)) }
+    ensures err { OnErr result (result ≡ Err ReadFault.NoMemory) }
 {
-    if stack.len() >= MAX_OPEN {
-        return Err(refused());
-    }
-    let before = std::mem::replace(items, Vec::new(alloc));
-    stack.push(Level { bracket, before })?;
-    Ok(())
-}
-
-// The innermost list is closed.
-fn close(bracket: Span, stack: &mut Vec<Level>, items: &mut Vec<Datum>) -> Result<(), ReadFault>
-    ensures { (ls : List Lexeme) → Steps result
-        (closed bracket (frames stack.old.items) items.old.items (λ fs its. run fs its ls))
-        (run (frames stack.new.items) items.new.items ls) }
-{
-    match stack.pop() {
-        None => Err(refused()),
-        Some(level) => {
-            let inner = std::mem::replace(items, level.before);
-            items.push(Datum {
-                form: Form::List(inner),
-                span: joined(level.bracket, bracket),
-            })?;
-            Ok(())
+    let mut datum = datum;
+    loop {
+        let Some(level) = stack.pop() else {
+            items.push(datum)?;
+            return Ok(());
+        };
+        match level.opener {
+            Opener::Nest(_, _) => {
+                stack.push(level)?;
+                items.push(datum)?;
+                return Ok(());
+            }
+            Opener::Quoting(mark, span) => {
+                *items = level.before;
+                datum = quoted(alloc, mark, span, datum)?;
+            }
+            Opener::Skipping(_) => {
+                *items = level.before;
+                return Ok(());
+            }
         }
     }
 }
 
-// A datum without parts.
-fn add(form: Form, span: Span, items: &mut Vec<Datum>) -> Result<(), ReadFault>
-    ensures ok { OnOk result (items.new.items ≡ items.old.items ++ sexp_of form span ∷ []) }
-    ensures err { OnErr result (result ≡ Err ReadFault.NoMemory) }
+// One more thing is open.
+fn open(
+    alloc: Global,
+    opener: Opener,
+    span: Span,
+    stack: &mut Vec<Level>,
+    items: &mut Vec<Datum>,
+) -> Result<(), ReadFault>
+    ensures { (ls : List Lexeme) → Steps result
+        (opened (frames stack.old.items) span (run (frame opener items.old.items ∷ frames stack.old.items) [] ls))
+        (run (frames stack.new.items) items.new.items ls) }
 {
-    items.push(Datum { form, span })?;
+    if stack.len() >= MAX_OPEN {
+        return Err(refused(ReadKind::TooDeep, span.start));
+    }
+    let before = std::mem::replace(items, Vec::new(alloc));
+    stack.push(Level { opener, before })?;
     Ok(())
+}
+
+// A closing bracket.
+fn close(
+    alloc: Global,
+    bracket: Bracket,
+    span: Span,
+    stack: &mut Vec<Level>,
+    items: &mut Vec<Datum>,
+) -> Result<(), ReadFault>
+    ensures { (ls : List Lexeme) → Steps result
+        (closed bracket span (frames stack.old.items) items.old.items (λ st. run st.0 st.1 ls))
+        (run (frames stack.new.items) items.new.items ls) }
+{
+    let Some(Level { opener, before }) = stack.pop() else {
+        return Err(refused(ReadKind::WrongClose, span.start));
+    };
+    let Opener::Nest(opening, start) = opener else {
+        return Err(refused(ReadKind::WrongClose, span.start));
+    };
+    if !opening.is_like(bracket) {
+        return Err(refused(ReadKind::WrongClose, span.start));
+    }
+    let inner = std::mem::replace(items, before);
+    let datum = Datum {
+        form: Form::List(inner),
+        span: joined(start, span),
+    };
+    finish(alloc, datum, stack, items)
+}
+
+// The form of a datum without parts.
+fn form_of(word: Leaf) -> Form
+    ensures { (s : Span) → sexp_of result s ≡ leaf (atom_of word) s }
+{
+    match word {
+        Leaf::Int(n) => Form::Int(n),
+        Leaf::Bool(b) => Form::Bool(b),
+        Leaf::Str(text) => Form::Str(text),
+        Leaf::Sym(text) => Form::Sym(text),
+        Leaf::Key(text) => Form::Key(text),
+    }
 }
 
 // One more lexeme.
@@ -99,10 +172,13 @@ pub(crate) fn take(
         (run (frames stack.new.items) items.new.items ls) }
 {
     match token {
-        Token::Open(span) => open(alloc, span, stack, items),
-        Token::Close(span) => close(span, stack, items),
-        Token::Int(n, span) => add(Form::Int(n), span, items),
-        Token::Sym(text, span) => add(Form::Sym(text), span, items),
-        Token::Bad => Err(refused()),
+        Token::Open(bracket, span) => open(alloc, Opener::Nest(bracket, span), span, stack, items),
+        Token::Close(bracket, span) => close(alloc, bracket, span, stack, items),
+        Token::Marked(mark, span) => open(alloc, Opener::Quoting(mark, span), span, stack, items),
+        Token::Skip(span) => open(alloc, Opener::Skipping(span), span, stack, items),
+        Token::Word(word, span) => {
+            let form = form_of(word);
+            finish(alloc, Datum { form, span }, stack, items)
+        }
     }
 }

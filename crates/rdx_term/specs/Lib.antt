@@ -10,3 +10,4 @@ pub mod Text
 pub mod Tokens
 pub mod Weights
 pub mod Measures
+pub mod Kept

@@ -11,13 +11,15 @@
 //! that go down a term recur on its depth.
 //!
 //! [`list`] and [`marked_list`] make the lists, [`Name::new`] the names of symbols, and the atoms are made as the variants of
-//! [`Term`]. Terms have a total order, with which they are sorted and are the keys of ordered maps; [`laws`] has its laws.
+//! [`Term`]. Terms have a total order, with which they are sorted and are the keys of ordered maps; [`laws`] has its laws. The tests
+//! of [`spelling`] are those that a reader needs too.
 #![tactic(auto)]
 
 mod error;
 pub mod laws;
 mod name;
-mod spelling;
+pub mod printing;
+pub mod spelling;
 mod term;
 #[cfg(test)]
 mod tests;

@@ -1,4 +1,5 @@
-// The spelling of symbols and of names.
+//! The spelling of symbols and of names: the tests that a reader of tokens needs too. A token is the longest run of characters up to
+//! white space, a bracket or a quotation mark.
 ghost use Rattle.std.specs.Prelude.{◌≡◌};
 ghost use Rattle.std.specs.List.{list_any};
 ghost use Rattle.std.specs.Str.{chars};
@@ -15,8 +16,8 @@ ghost use Rattle.rdx_term.specs.Spelling.{
   is_name,
 };
 
-// A character before which a token ends.
-fn ends_token(c: char) -> bool
+/// A character before which a token ends: white space, a bracket, or one of `"`, `,`, `'`, `` ` `` and `;`.
+pub fn ends_token(c: char) -> bool
     ensures { result ≡ ends_token c }
 {
     c.is_whitespace()
@@ -37,13 +38,15 @@ fn is_token(text: &str) -> bool
     !text.is_empty() && !has_token_end(text)
 }
 
-fn has_symbol_quote(text: &[u8]) -> bool
+/// `|` or `\` stands in the text, with which Racket quotes other characters in a symbol.
+pub fn has_symbol_quote(text: &[u8]) -> bool
     ensures { result ≡ list_any is_symbol_quote text.now }
 {
     text.iter().any(|byte| *byte == b'|' || *byte == b'\\')
 }
 
-fn begins_with_hash(text: &[u8]) -> bool
+/// `#` stands first.
+pub fn begins_with_hash(text: &[u8]) -> bool
     ensures { result ≡ begins_with_hash text.now }
 {
     matches!(text, [b'#', ..])
@@ -70,8 +73,9 @@ fn begins_unsigned(text: &[u8]) -> bool
     }
 }
 
-// The same, with or without a sign before it.
-fn begins_number(text: &[u8]) -> bool
+/// A digit stands first, or a point and then a digit, with or without a sign before it: an integer, or what is too much like a number to
+/// be a symbol.
+pub fn begins_number(text: &[u8]) -> bool
     ensures { result ≡ begins_number text.now }
 {
     match text {
@@ -82,8 +86,8 @@ fn begins_number(text: &[u8]) -> bool
     }
 }
 
-// The single point, and the numbers that are written in letters.
-fn is_reserved(text: &str) -> bool
+/// The single point, or one of the numbers that are written in letters, `+inf.0`, `-inf.0` and `+nan.0`.
+pub fn is_reserved(text: &str) -> bool
     ensures { result ≡ is_reserved text.now }
 {
     text == "." || text == "+inf.0" || text == "-inf.0" || text == "+nan.0"
@@ -101,7 +105,7 @@ fn is_symbol_token(text: &str) -> bool
 }
 
 // One token that is a symbol, and not `hole`.
-pub fn is_name(text: &str) -> bool
+pub(crate) fn is_name(text: &str) -> bool
     ensures { result ≡ is_name text.now }
 {
     is_token(text) && is_symbol_token(text) && text != "hole"

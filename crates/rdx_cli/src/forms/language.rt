@@ -11,7 +11,7 @@ ghost use Rattle.rdx_cli.specs.Nonterminals.{refs};
 use crate::forms::FormFault;
 use crate::forms::grammar::Grammar;
 use crate::forms::names::{front, is_reserved};
-use crate::forms::patterns::{Place, read_pattern};
+use crate::forms::patterns::{Position, read_pattern};
 use crate::forms::shape::{items, items_behind, name, symbol};
 use rdx_lang::{CheckedLang, Language, Pat, Ref};
 use rdx_sexp::Datum;
@@ -87,7 +87,7 @@ fn read_alternatives(
     let (_, alternatives) = parts(definition)?;
     let mut read = Vec::new(alloc);
     for alternative in alternatives {
-        let pattern = read_pattern(alloc, nonterminals, Place::Grammar, alternative)?;
+        let pattern = read_pattern(alloc, nonterminals, Position::Grammar, alternative)?;
         if !is_guarded(&pattern) {
             return Err(FormFault::Unbuilt);
         }

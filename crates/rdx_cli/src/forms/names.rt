@@ -46,6 +46,8 @@ fn is_pattern_word(text: &str) -> bool
             | "hide-hole"
             | "cross"
             | "side-condition"
+            | "_"
+            | "::="
     )
 }
 
@@ -67,18 +69,32 @@ fn is_form_word(text: &str) -> bool
     )
 }
 
+// Whether an ellipsis stands first.
+fn begins_with_dots(text: &str) -> bool
+    ensures { result ≡ words.begins_with_dots text.now }
+{
+    text.starts_with("...")
+}
+
+// Whether this is a name that stands for different terms wherever it comes.
+fn is_mismatch(text: &str) -> bool
+    ensures { result ≡ words.is_mismatch text.now }
+{
+    text.contains("_!_")
+}
+
 /// Whether no nonterminal may have this name, since patterns mean something else by it.
 pub fn is_reserved(text: &str) -> bool
     ensures { result ≡ words.is_reserved text.now }
 {
-    kind(text).is_some() || is_pattern_word(text)
+    kind(text).is_some() || is_pattern_word(text) || begins_with_dots(text)
 }
 
 /// Whether no pattern may have this symbol yet, since a form to come gives it a meaning.
 pub fn is_unbuilt(text: &str) -> bool
     ensures { result ≡ words.is_unbuilt text.now }
 {
-    is_pattern_word(text) || is_form_word(text)
+    is_pattern_word(text) || is_form_word(text) || begins_with_dots(text) || is_mismatch(text)
 }
 
 /// Whether a list headed by this symbol is no plain term.

@@ -17,7 +17,7 @@ use std::rc::RcStr;
 /// Where a pattern stands. A built-in name or a nonterminal without a suffix binds its own name in
 /// a query, and nothing in a grammar.
 #[derive(Clone, Copy, PartialEq, Eq)]
-pub enum Place {
+pub enum Position {
     Grammar,
     Query,
 }
@@ -46,19 +46,19 @@ fn named(alloc: Global, text: &RcStr, inner: Pat) -> Result<Pat, FormFault>
 fn symbol_pattern(
     alloc: Global,
     nonterminals: &[Name],
-    place: Place,
+    position: Position,
     text: &RcStr,
 ) -> Result<Pat, FormFault>
-    ensures { Gives pattern_of result (forms.symbol_pattern nonterminals.now place (rc_str_bytes text.now)) }
+    ensures { Gives pattern_of result (forms.symbol_pattern nonterminals.now position (rc_str_bytes text.now)) }
 {
     let word = text.as_str();
     if is_unbuilt(word) {
         return Err(FormFault::Unbuilt);
     }
     if let Some(inner) = base(nonterminals, word)? {
-        return match place {
-            Place::Grammar => Ok(inner),
-            Place::Query => named(alloc, text, inner),
+        return match position {
+            Position::Grammar => Ok(inner),
+            Position::Query => named(alloc, text, inner),
         };
     }
     let Some(front) = front(word) else {
@@ -74,21 +74,23 @@ fn symbol_pattern(
 pub fn read_pattern(
     alloc: Global,
     nonterminals: &[Name],
-    place: Place,
+    position: Position,
     d: &Datum,
 ) -> Result<Pat, FormFault>
-    ensures { Gives pattern_of result (forms.pattern_in nonterminals.now place d.now) }
+    ensures { Gives pattern_of result (forms.pattern_in nonterminals.now position d.now) }
 {
     match &d.form {
         Form::Int(n) => Ok(Pat::Lit(Term::Int(*n))),
-        Form::Sym(text) => symbol_pattern(alloc, nonterminals, place, text),
+        Form::Bool(b) => Ok(Pat::Lit(Term::Bool(*b))),
+        Form::Str(text) => Ok(Pat::Lit(Term::Str(text.clone()?))),
+        Form::Sym(text) => symbol_pattern(alloc, nonterminals, position, text),
         Form::List(parts) => {
             let mut items = Vec::new(alloc);
             for part in parts {
-                items.push(Item::One(read_pattern(alloc, nonterminals, place, part)?))?;
+                items.push(Item::One(read_pattern(alloc, nonterminals, position, part)?))?;
             }
             Ok(Pat::Seq(items))
         }
-        Form::Bool(_) | Form::Str(_) | Form::Key(_) => Err(FormFault::Unbuilt),
+        Form::Key(_) => Err(FormFault::Unbuilt),
     }
 }

@@ -6,18 +6,18 @@ ghost use Rattle.rdx_sexp.specs.Sexp.{sexps, sexp_nodes, sexps_nodes};
 ghost use Rattle.rdx_sexp.specs.Size.{sexp_depth, sexps_depth};
 ghost use Rattle.rdx_term.specs.View.{tree_of};
 ghost use Rattle.rdx_cli.specs.FormFile as file;
-ghost use Rattle.rdx_cli.specs.FormLanguage.{each};
 ghost use Rattle.rdx_cli.specs.FormPatterns.{pattern_in};
 ghost use Rattle.rdx_cli.specs.FormViews.{grammar_form, query_form, KnowsNames};
-ghost use Rattle.rdx_cli.specs.Gives.{Gives};
+ghost use Rattle.rdx_cli.specs.Gives.{Gives, GivesOrPlace};
 ghost use Rattle.rdx_cli.specs.Shape.{is_symbol};
-ghost use Rattle.rdx_cli.specs.declared.forms.patterns.Place.TheVariants as place;
+ghost use Rattle.rdx_cli.specs.declared.forms.patterns.Position.TheVariants as position;
 
-use crate::forms::FormFault;
+use crate::forms::file_fault::placed;
 use crate::forms::grammar::Grammar;
-use crate::forms::patterns::{Place, read_pattern};
+use crate::forms::patterns::{Position, read_pattern};
 use crate::forms::shape::items_behind;
 use crate::forms::terms::read_term;
+use crate::forms::{FileFault, FormFault};
 use rdx_lang::{CheckedLang, CheckedPat};
 use rdx_sexp::{Datum, Form};
 use rdx_term::Term;
@@ -43,9 +43,9 @@ fn is_name_of(language: &CheckedLang, d: &Datum) -> bool
 // A pattern of a query, over the language of the file.
 fn query_pattern(alloc: Global, grammar: &Grammar, d: &Datum) -> Result<CheckedPat, FormFault>
     requires { KnowsNames grammar.now }
-    ensures { Gives checked.pattern_in result (pattern_in grammar.now.nonterminals.items place.Query d.now) }
+    ensures { Gives checked.pattern_in result (pattern_in grammar.now.nonterminals.items position.Query d.now) }
 {
-    let pattern = read_pattern(alloc, &grammar.nonterminals, Place::Query, d)?;
+    let pattern = read_pattern(alloc, &grammar.nonterminals, Position::Query, d)?;
     match CheckedPat::new(&grammar.language, pattern)? {
         Some(pat) => Ok(pat),
         None => unreachable!(),
@@ -87,15 +87,18 @@ pub fn read_queries(
     alloc: Global,
     grammar: &Grammar,
     forms: &[Datum],
-) -> Result<Vec<Query>, FormFault>
+) -> Result<Vec<Query>, FileFault>
     requires known { KnowsNames grammar.now }
     requires depth { sexps_depth (sexps forms.now) ≤ 500 }
     requires nodes { sexps_nodes (sexps forms.now) ≤ 4_000_000 }
-    ensures { Gives (λ queries. map query_form queries.items) result (each (file.query_in (grammar_form grammar.now)) forms.now) }
+    ensures { GivesOrPlace (λ queries. map query_form queries.items) result (file.queries_in (grammar_form grammar.now) forms.now) }
 {
     let mut queries = Vec::new(alloc);
     for form in forms {
-        queries.push(read_query(alloc, grammar, form)?)?;
+        match read_query(alloc, grammar, form) {
+            Ok(query) => queries.push(query)?,
+            Err(fault) => return Err(placed(fault, form)),
+        }
     }
     Ok(queries)
 }

@@ -34,6 +34,8 @@ pub fn read_term(alloc: Global, d: &Datum) -> Result<Term, FormFault>
 {
     match &d.form {
         Form::Int(n) => Ok(Term::Int(*n)),
+        Form::Bool(b) => Ok(Term::Bool(*b)),
+        Form::Str(text) => Ok(Term::Str(text.clone()?)),
         Form::Sym(text) => Ok(Term::Sym(name(text)?)),
         Form::List(parts) => {
             if is_special_list(parts) {
@@ -49,6 +51,6 @@ pub fn read_term(alloc: Global, d: &Datum) -> Result<Term, FormFault>
                 Err(Build::TooDeep | Build::TooLarge) => unreachable!(),
             }
         }
-        Form::Bool(_) | Form::Str(_) | Form::Key(_) => Err(FormFault::Unbuilt),
+        Form::Key(_) => Err(FormFault::Unbuilt),
     }
 }

@@ -9,7 +9,7 @@ const PAIRS: &str =
 const PAIRS_MATCHED: &str = "match 1\n  e_1 = 1, e_2 = (2 3)\n";
 
 // Files that are answered, with their transcripts.
-const ANSWERED: [(&str, &str); 13] = [
+const ANSWERED: [(&str, &str); 16] = [
     ("", ""),
     (" \t\r\n", ""),
     ("(define-language L)", ""),
@@ -72,6 +72,30 @@ const ANSWERED: [(&str, &str); 13] = [
          (redex-match hole-free e_1_2 (term holes))",
         "match 1\n  e_1_2 = holes\n",
     ),
+    // Strings and truth values are literals and terms, and a string is no symbol.
+    (
+        "(define-language L (e (a string1) \"x\" #t))
+         (redex-match L e (term (a string1)))
+         (redex-match L e (term \"x\"))
+         (redex-match L e_1 (term #true))
+         (redex-match L e (term #f))
+         (redex-match L e (term x))
+         (redex-match L (#f \"a\" any) (term (#f \"a\" \"b\\n\\\"\")))
+         (redex-match L variable (term \"x\"))
+         (redex-match L number (term #t))",
+        "match 1\n  e = (a string1)\nmatch 1\n  e = \"x\"\nmatch 1\n  e_1 = #t\nmatch 0\nmatch 0\n\
+         match 1\n  any = \"b\\n\\\"\"\nmatch 0\nmatch 0\n",
+    ),
+    ("(define-language L (e \"a\"))", ""),
+    // Symbols have any characters, the brackets of a list are of one kind, and a quote mark is short
+    // for a list.
+    (
+        "#lang racket
+         (define-language λ! [e {λ variable e} variable])
+         (redex-match λ! [λ x e] (term [λ x y->z]))
+         (redex-match λ! (any_1 any_2) (term 'x))",
+        "match 1\n  e = y->z\nmatch 1\n  any_1 = quote, any_2 = x\n",
+    ),
     // The integers at both ends of the range.
     (
         "(define-language L (e number))
@@ -90,44 +114,114 @@ const ANSWERED: [(&str, &str); 13] = [
     ),
 ];
 
-// Files that are refused.
-const REFUSED: [&str; 36] = [
-    "(define-language L",
-    "x",
-    "()",
-    "(define-language)",
-    "(define-language (L) (e 1))",
-    "(define-language hole (e 1))",
-    "(redex-match L any (term 1))",
-    "(define-language L e)",
-    "(define-language L (e))",
-    "(define-language L ((e) 1))",
-    "(define-language L (e 1) (f 1) (e 2))",
-    "(define-language L (e_1 1))",
-    "(define-language L (any 1))",
-    "(define-language L (e 1) (f 2 e))",
-    "(define-language L (e 1) (f 2 e_1))",
-    "(define-language L (e (e)) (f e_1_2))",
-    "(define-language L (f (e_1)))",
-    "(define-language L (e (natural)))",
-    "(define-language L (e hole))",
-    "(define-language L (e \"a\"))",
-    "(define-language L (e #t))",
-    "(define-language L (e number)) (redex-match L (e ...) (term 1))",
-    "(define-language L (e 1)) (redex-match M e (term 1))",
-    "(define-language L (e 1)) (redex-match L e_1 (term hole))",
-    "(define-language L (e 1)) (redex-match L e_1 (term ((in-hole a b))))",
-    "(define-language L (f 1)) (redex-match L e_1 (term 1))",
-    "(define-language L (where 1)) (redex-match L where (term 1))",
-    "(define-language L (e 1)) (redex-match L e 1)",
-    "(define-language L (e 1)) (redex-match L e (term 1 1))",
-    "(define-language L (e 1)) (redex-match L e (terms 1))",
-    "(define-language L (e 1)) (redex-match L e)",
-    "(define-language L (e 1)) (redex-match L e (term 1)) (a)",
-    "(define-language L (e 1)) (redex-match L e (term 1)) 1",
-    "(define-language L (e 1)) (define-language M (e 1))",
-    "(define-language L (e 170141183460469231731687303715884105728))",
-    "(define-language L (e -170141183460469231731687303715884105729))",
+// Files that are refused, with what is said of them.
+const REFUSED: [(&str, &str); 52] = [
+    ("(define-language L", "F2 Unclosed at 1:1"),
+    ("(define-language L (e 1", "F2 Unclosed at 1:20"),
+    ("(define-language L (e 1])", "F3 WrongClose at 1:24"),
+    ("(a #b)", "F4 BadToken at 1:4"),
+    ("(a\n 1.5)", "F5 NumberForm at 2:2"),
+    (
+        "(define-language L (e 170141183460469231731687303715884105728))",
+        "F6 NumberRange at 1:23",
+    ),
+    (
+        "(define-language L (e -170141183460469231731687303715884105729))",
+        "F6 NumberRange at 1:23",
+    ),
+    ("(term \"a\\q\")", "F7 BadString at 1:9"),
+    ("#| a #| b |# c |# #;(x [y]) (foo)", "S0 Unbuilt at 1:29"),
+    ("x", "S0 Unbuilt at 1:1"),
+    ("()", "S0 Unbuilt at 1:1"),
+    ("\n\n  ()", "S0 Unbuilt at 3:3"),
+    ("(define-language)", "S0 Unbuilt at 1:1"),
+    ("(define-language (L) (e 1))", "S0 Unbuilt at 1:1"),
+    ("(define-language hole (e 1))", "S0 Unbuilt at 1:1"),
+    ("(redex-match L any (term 1))", "S0 Unbuilt at 1:1"),
+    ("(define-language L e)", "S0 Unbuilt at 1:1"),
+    ("(define-language L (e))", "S0 Unbuilt at 1:1"),
+    ("(define-language L ((e) 1))", "S0 Unbuilt at 1:1"),
+    ("(define-language L (e 1) (f 1) (e 2))", "S0 Unbuilt at 1:1"),
+    ("(define-language L (e_1 1))", "S0 Unbuilt at 1:1"),
+    ("(define-language L (any 1))", "S0 Unbuilt at 1:1"),
+    ("(define-language L (::= 1))", "S0 Unbuilt at 1:1"),
+    ("(define-language L (...x 1))", "S0 Unbuilt at 1:1"),
+    ("(define-language L (e 1) (f 2 e))", "S0 Unbuilt at 1:1"),
+    ("(define-language L (e 1) (f 2 e_1))", "S0 Unbuilt at 1:1"),
+    ("(define-language L (e (e)) (f e_1_2))", "S0 Unbuilt at 1:1"),
+    ("(define-language L (f (e_1)))", "S0 Unbuilt at 1:1"),
+    ("(define-language L (e (natural)))", "S0 Unbuilt at 1:1"),
+    ("(define-language L (e hole))", "S0 Unbuilt at 1:1"),
+    ("(define-language L (e #:a))", "S0 Unbuilt at 1:1"),
+    ("(define-language L (e _))", "S0 Unbuilt at 1:1"),
+    ("(define-language L (e ::= 1))", "S0 Unbuilt at 1:1"),
+    ("(define-language L (e ....))", "S0 Unbuilt at 1:1"),
+    ("(define-language L (e (1 ..._1)))", "S0 Unbuilt at 1:1"),
+    ("(define-language L (e (1 any_!_1)))", "S0 Unbuilt at 1:1"),
+    (
+        "(define-language L (e number)) (redex-match L (e ...) (term 1))",
+        "S0 Unbuilt at 1:32",
+    ),
+    (
+        "(define-language L (e 1)) (redex-match M e (term 1))",
+        "S0 Unbuilt at 1:27",
+    ),
+    (
+        "(define-language L (e 1)) (redex-match L e_1 (term hole))",
+        "S0 Unbuilt at 1:27",
+    ),
+    (
+        "(define-language L (e 1)) (redex-match L e_1 (term ((in-hole a b))))",
+        "S0 Unbuilt at 1:27",
+    ),
+    (
+        "(define-language L (e 1)) (redex-match L e_1 (term (a ,b)))",
+        "S0 Unbuilt at 1:27",
+    ),
+    (
+        "(define-language L (e 1)) (redex-match L e_1 (term #:a))",
+        "S0 Unbuilt at 1:27",
+    ),
+    (
+        "(define-language L (f 1)) (redex-match L e_1 (term 1))",
+        "S0 Unbuilt at 1:27",
+    ),
+    (
+        "(define-language L (where 1)) (redex-match L where (term 1))",
+        "S0 Unbuilt at 1:31",
+    ),
+    (
+        "(define-language L (e 1)) (redex-match L e 1)",
+        "S0 Unbuilt at 1:27",
+    ),
+    (
+        "(define-language L (e 1)) (redex-match L e (term 1 1))",
+        "S0 Unbuilt at 1:27",
+    ),
+    (
+        "(define-language L (e 1)) (redex-match L e (terms 1))",
+        "S0 Unbuilt at 1:27",
+    ),
+    (
+        "(define-language L (e 1)) (redex-match L e)",
+        "S0 Unbuilt at 1:27",
+    ),
+    (
+        "(define-language L (e 1)) (redex-match L e (term 1)) (a)",
+        "S0 Unbuilt at 1:54",
+    ),
+    (
+        "(define-language L (e 1)) (redex-match L e (term 1)) 1",
+        "S0 Unbuilt at 1:54",
+    ),
+    (
+        "(define-language L (e 1)) 1 (redex-match L e (term 1)) 2",
+        "S0 Unbuilt at 1:27",
+    ),
+    (
+        "(define-language L (e 1)) (define-language M (e 1))",
+        "S0 Unbuilt at 1:27",
+    ),
 ];
 
 #[test]
@@ -141,8 +235,9 @@ fn files_that_are_answered(rt: HostRuntime) -> Result<(), Fail> {
 
 #[test]
 fn files_that_are_refused(rt: HostRuntime) -> Result<(), Fail> {
-    let wanted = (Status::Refused, b"refused S0 Unbuilt at 1:1\n".as_slice());
-    for file in REFUSED {
+    for (file, fault) in REFUSED {
+        let line = format!(in rt.alloc(); "refused {fault}\n")?;
+        let wanted = (Status::Refused, line.as_bytes());
         run_on(&rt, &["run"], file.as_bytes(), STEADY, STEADY, wanted)?;
     }
     Ok(())

@@ -7,4 +7,4 @@ use Rattle.rdx_cli.proofs.forms.patterns.+read_pattern.Given as goal
 
 abbrev pub invariant-loop-part : goal.invariant-loop-part
 invariant-loop-part l =
-    onto (map slot_of l.items.items) (patterns_in l.nonterminals l.place (sexps (drop l.part-index l.part-items))) ≡ patterns_in l.nonterminals l.place (sexps l.part-items)
+    onto (map slot_of l.items.items) (patterns_in l.nonterminals l.position (sexps (drop l.part-index l.part-items))) ≡ patterns_in l.nonterminals l.position (sexps l.part-items)

@@ -5,7 +5,7 @@ use Rattle.rdx_lang.specs.Checked.{language_in}
 use Rattle.rdx_lang.specs.WellFormed.{is_well_formed, defined}
 use Rattle.rdx_cli.specs.FormPatterns.{pattern_in}
 use Rattle.rdx_cli.specs.Nonterminals.{refs}
-use Rattle.rdx_cli.specs.declared.forms.patterns.Place.TheVariants as place
+use Rattle.rdx_cli.specs.declared.forms.patterns.Position.TheVariants as position
 use Rattle.rdx_cli.proofs.Tested.{passed, pattern_passes}
 use Rattle.rdx_cli.proofs.forms.queries.query_pattern.Goals as goal
 
@@ -16,8 +16,8 @@ unreachable-requires c =
     let v = c.deref.ensures.value in
     let k = c.args.grammar.now in
     let known = c.requires in
-    let e : pattern_in ns place.Query c.args.d.now ≡ Some p = ap (λ ms. pattern_in ms place.Query c.args.d.now) (sym v) ∙ c.in_ok-pattern.ensures in
-    let w : is_well_formed (refs ns) p ≡ true = passed (is_well_formed (refs ns)) p (pattern_in ns place.Query c.args.d.now) (pattern_passes ns place.Query c.args.d.now) e in
+    let e : pattern_in ns position.Query c.args.d.now ≡ Some p = ap (λ ms. pattern_in ms position.Query c.args.d.now) (sym v) ∙ c.in_ok-pattern.ensures in
+    let w : is_well_formed (refs ns) p ≡ true = passed (is_well_formed (refs ns)) p (pattern_in ns position.Query c.args.d.now) (pattern_passes ns position.Query c.args.d.now) e in
     let f = subst (λ o. IfNone o (is_well_formed (defined (language_in k.language)) p ≡ false)) c.in-None.is c.in_ok-pat.ensures.none in
     let g : is_well_formed (refs ns) p ≡ false = ap (λ xs. is_well_formed xs p) (sym known) ∙ f in
     cc
