@@ -1,8 +1,12 @@
 -- The line that says why a file is refused, and where.
-use Rattle.std.specs.Prelude.{ℕ, List, ◌++◌, codes, decimal}
+use Rattle.std.specs.Prelude.{ℕ, List, [], ◌++◌, Option, Some, None, codes, decimal}
 use Rattle.rdx_base.specs.declared.place.Place.{Place}
 use Rattle.rdx_sexp.specs.declared.fault.ReadKind.{ReadKind}
 use Rattle.rdx_sexp.specs.declared.fault.ReadKind.TheVariants.{NotUtf8, Unclosed, WrongClose, BadToken, NumberForm, NumberRange, BadString, TooDeep}
+use Rattle.rdx_sexp.specs.declared.fault.ReadRefusal.{ReadRefusal}
+use Rattle.rdx_grammar.specs.Refusal.{Refusal}
+use Rattle.rdx_grammar.specs.declared.fault.DefKind.{DefKind}
+use Rattle.rdx_grammar.specs.declared.fault.DefKind.TheVariants.{Unbuilt, Shape, UnknownLanguage, Duplicate, BadName, BadPattern, LeftRecursive}
 
 -- the name of what a text is refused for
 abbrev pub read_name : ReadKind → List ℕ
@@ -15,6 +19,29 @@ read_name NumberRange = codes "F6 NumberRange"
 read_name BadString = codes "F7 BadString"
 read_name TooDeep = codes "F8 TooDeep"
 
--- the line of a refusal of this name at this place
-abbrev pub refusal_line : List ℕ → Place → List ℕ
-refusal_line name p = codes "refused " ++ name ++ codes " at " ++ decimal p.line ++ codes ":" ++ decimal p.column ++ codes "\n"
+-- the name of what a form is refused for
+abbrev pub form_name : DefKind → List ℕ
+form_name Unbuilt = codes "S0 Unbuilt"
+form_name Shape = codes "S1 Shape"
+form_name UnknownLanguage = codes "S2 UnknownLanguage"
+form_name Duplicate = codes "S3 Duplicate"
+form_name BadName = codes "S4 BadName"
+form_name BadPattern = codes "S5 BadPattern"
+form_name LeftRecursive = codes "S7 LeftRecursive"
+
+-- a name at the end of the line, where there is one
+abbrev pub name_text : Option (List ℕ) → List ℕ
+name_text None = []
+name_text (Some x) = codes " " ++ x
+
+-- the line of a refusal of this kind at this place, with this name
+abbrev pub refusal_line : List ℕ → Place → Option (List ℕ) → List ℕ
+refusal_line kind p name = codes "refused " ++ kind ++ codes " at " ++ decimal p.line ++ codes ":" ++ decimal p.column ++ name_text name ++ codes "\n"
+
+-- the line of a text that can't be read
+abbrev pub read_line : ReadRefusal → List ℕ
+read_line r = refusal_line (read_name r.kind) r.place None
+
+-- the line of a form that is refused
+abbrev pub form_line : Refusal → List ℕ
+form_line r = refusal_line (form_name r.kind) r.place r.name

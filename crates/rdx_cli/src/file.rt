@@ -1,12 +1,9 @@
 // The answer to a file.
 ghost use Rattle.std.specs.Prelude.{◌≤◌, length, IfOk};
-ghost use Rattle.rdx_cli.specs.FormViews.{file_forms};
-ghost use Rattle.rdx_cli.specs.Transcript.{Answers, Writes};
+ghost use Rattle.rdx_cli.specs.Transcript.{Answers};
 
-use crate::answers::write_answers;
-use crate::forms::{File, FileFault, read_forms};
-use crate::matcher::Plain;
-use rdx_base::Place;
+use rdx_grammar::{DefFault, DefRefusal};
+use rdx_query::{answer, check_file};
 use rdx_sexp::{ReadFault, ReadRefusal, read_all};
 use rdx_term::NoMemory;
 use std::alloc::Global;
@@ -18,20 +15,8 @@ pub enum Answer {
     Answered(Vec<u8>),
     /// It is no data, for this.
     Unread(ReadRefusal),
-    /// The form at this place is the first that is unbuilt.
-    Unbuilt(Place),
-}
-
-// The text that forms write.
-fn answer_forms(alloc: Global, forms: &Option<File>) -> Result<Vec<u8>, NoMemory>
-    ensures { IfOk result (λ text. Writes (file_forms forms.now) text.items) }
-{
-    let mut text = Vec::new(alloc);
-    match forms {
-        Some(file) => write_answers(&mut Plain::new(alloc), file, &mut text)?,
-        None => {}
-    }
-    Ok(text)
+    /// A form of it is refused, for this.
+    Refused(DefRefusal),
 }
 
 /// The text that the forms of a file write, or why it is refused.
@@ -44,9 +29,9 @@ pub fn answer_file(alloc: Global, bytes: &[u8]) -> Result<Answer, NoMemory>
         Err(ReadFault::Refused(refusal)) => return Ok(Answer::Unread(refusal)),
         Err(ReadFault::NoMemory) => return Err(NoMemory),
     };
-    match read_forms(alloc, &data) {
-        Ok(forms) => Ok(Answer::Answered(answer_forms(alloc, &forms)?)),
-        Err(FileFault::Unbuilt(place)) => Ok(Answer::Unbuilt(place)),
-        Err(FileFault::NoMemory) => Err(NoMemory),
+    match check_file(alloc, &data) {
+        Ok(file) => Ok(Answer::Answered(answer(alloc, &file)?.transcript)),
+        Err(DefFault::Refused(refusal)) => Ok(Answer::Refused(refusal)),
+        Err(DefFault::NoMemory) => Err(NoMemory),
     }
 }

@@ -8,5 +8,7 @@ pub fn one_transcript()
     rdx_sexp::laws::one_reading();
     rdx_sexp::laws::one_fault();
     rdx_sexp::laws::data_or_fault();
-    rdx_lang::laws::one_listing();
+    rdx_query::laws::one_text();
+    rdx_query::laws::one_refusal();
+    rdx_query::laws::text_or_refusal();
 }

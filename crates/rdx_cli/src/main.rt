@@ -9,11 +9,8 @@
 ghost use Rattle.std.specs.Prelude.{◌≡◌, ◌⊎◌, ◌↔◌};
 ghost use Rattle.std.specs.IoError.{error_kind};
 
-mod answers;
 mod file;
-mod forms;
 pub mod laws;
-pub mod matcher;
 mod reading;
 mod refusals;
 #[cfg(test)]

@@ -1,15 +1,19 @@
 // The lines that say why a file is refused, and where.
-ghost use Rattle.std.specs.Prelude.{◌≡◌, IfOk};
+ghost use Rattle.std.specs.Prelude.{◌≡◌, ◌++◌, IfOk, OnOk, codes, decimal, option_map};
+ghost use Rattle.std.specs.Rc.{rc_str_bytes};
+ghost use Rattle.rdx_grammar.specs.Answers.{refusal_of};
 ghost use Rattle.rdx_cli.specs.Refusals as refusals;
 
 use itoa::Buffer;
 use rdx_base::Place;
-use rdx_sexp::ReadKind;
+use rdx_grammar::{DefKind, DefRefusal};
+use rdx_sexp::{ReadKind, ReadRefusal};
 use rdx_term::NoMemory;
 use std::alloc::Global;
+use std::rc::RcStr;
 
-/// The name of what a text is refused for.
-pub fn read_name(kind: ReadKind) -> &'static str
+// The name of what a text is refused for.
+fn read_name(kind: ReadKind) -> &'static str
     ensures { result.now ≡ refusals.read_name kind }
 {
     match kind {
@@ -24,18 +28,63 @@ pub fn read_name(kind: ReadKind) -> &'static str
     }
 }
 
-/// The line of a refusal of this name at this place.
-pub fn refusal_line(alloc: Global, name: &str, place: Place) -> Result<Vec<u8>, NoMemory>
-    ensures { IfOk result (λ line. line.items ≡ refusals.refusal_line name.now place) }
+// The name of what a form is refused for.
+fn form_name(kind: DefKind) -> &'static str
+    ensures { result.now ≡ refusals.form_name kind }
+{
+    match kind {
+        DefKind::Unbuilt => "S0 Unbuilt",
+        DefKind::Shape => "S1 Shape",
+        DefKind::UnknownLanguage => "S2 UnknownLanguage",
+        DefKind::Duplicate => "S3 Duplicate",
+        DefKind::BadName => "S4 BadName",
+        DefKind::BadPattern => "S5 BadPattern",
+        DefKind::LeftRecursive => "S7 LeftRecursive",
+    }
+}
+
+// The front of a line: the kind and the place of a refusal.
+fn write_place(kind: &str, place: Place, line: &mut Vec<u8>) -> Result<(), NoMemory>
+    ensures { OnOk result (line.new.items ≡ line.old.items ++ (codes "refused " ++ kind.now ++ codes " at " ++ decimal place.line ++ codes ":" ++ decimal place.column)) }
 {
     let mut buffer = Buffer::new();
-    let mut line = Vec::new(alloc);
     line.extend_from_slice(b"refused ")?;
-    line.extend_from_slice(name.as_bytes())?;
+    line.extend_from_slice(kind.as_bytes())?;
     line.extend_from_slice(b" at ")?;
     line.extend_from_slice(buffer.format(place.line).as_bytes())?;
     line.push(b':')?;
     line.extend_from_slice(buffer.format(place.column).as_bytes())?;
+    Ok(())
+}
+
+// The name at the end of a line, where there is one.
+fn write_name(name: &Option<RcStr>, line: &mut Vec<u8>) -> Result<(), NoMemory>
+    ensures { OnOk result (line.new.items ≡ line.old.items ++ refusals.name_text (option_map rc_str_bytes name.now)) }
+{
+    if let Some(name) = name {
+        line.push(b' ')?;
+        line.extend_from_slice(name.as_str().as_bytes())?;
+    }
+    Ok(())
+}
+
+/// The line of a text that can't be read.
+pub fn read_line(alloc: Global, refusal: ReadRefusal) -> Result<Vec<u8>, NoMemory>
+    ensures { IfOk result (λ line. line.items ≡ refusals.read_line refusal) }
+{
+    let mut line = Vec::new(alloc);
+    write_place(read_name(refusal.kind), refusal.place, &mut line)?;
+    line.push(b'\n')?;
+    Ok(line)
+}
+
+/// The line of a form that is refused.
+pub fn form_line(alloc: Global, refusal: &DefRefusal) -> Result<Vec<u8>, NoMemory>
+    ensures { IfOk result (λ line. line.items ≡ refusals.form_line (refusal_of refusal.now)) }
+{
+    let mut line = Vec::new(alloc);
+    write_place(form_name(refusal.kind), refusal.place, &mut line)?;
+    write_name(&refusal.name, &mut line)?;
     line.push(b'\n')?;
     Ok(line)
 }

@@ -1,6 +1,18 @@
 // Whole runs over memory, and the words that the program is given.
-mod files;
-mod matching;
+mod answered;
+mod answered_definitions;
+mod answered_extensions;
+mod answered_names;
+mod answered_symbols;
+mod order;
+mod refused_duplicate;
+mod refused_language;
+mod refused_name;
+mod refused_pattern;
+mod refused_recursion;
+mod refused_shape;
+mod refused_unbuilt;
+mod unread;
 
 use crate::top::{Status, run};
 use crate::{status_without_words, words_of};
@@ -52,6 +64,25 @@ fn run_on<R: Abort + AllocGlobal>(
     Ok(())
 }
 
+// Each of these files is answered so.
+fn answers<R: Abort + AllocGlobal>(rt: &R, rows: &[(&str, &str)]) -> Result<(), Fail> {
+    for (file, text) in rows {
+        let wanted = (Status::Done, text.as_bytes());
+        run_on(rt, &["run"], file.as_bytes(), STEADY, STEADY, wanted)?;
+    }
+    Ok(())
+}
+
+// Each of these files is refused so.
+fn refuses<R: Abort + AllocGlobal>(rt: &R, rows: &[(&str, &str)]) -> Result<(), Fail> {
+    for (file, fault) in rows {
+        let line = format!(in rt.alloc(); "refused {fault}\n")?;
+        let wanted = (Status::Refused, line.as_bytes());
+        run_on(rt, &["run"], file.as_bytes(), STEADY, STEADY, wanted)?;
+    }
+    Ok(())
+}
+
 #[test]
 fn words_that_fit_no_row_read_and_write_nothing(rt: HostRuntime) -> Result<(), Fail> {
     for words in UNFIT {
@@ -72,24 +103,6 @@ fn files_have_their_transcripts(rt: HostRuntime) -> Result<(), Fail> {
         STEADY,
         unclosed,
     )?;
-    Ok(())
-}
-
-#[test]
-fn bytes_that_are_no_text_are_refused(rt: HostRuntime) -> Result<(), Fail> {
-    let line = b"refused F1 NotUtf8 at 2:3\n".as_slice();
-    let wanted = (Status::Refused, line);
-    run_on(&rt, &["run"], b"(a\n\xce\xbb)\xff", STEADY, STEADY, wanted)?;
-    Ok(())
-}
-
-// One bracket more than may be open.
-#[test]
-fn a_deep_file_is_refused(rt: HostRuntime) -> Result<(), Fail> {
-    let brackets = [b'('; 501];
-    let line = b"refused F8 TooDeep at 1:501\n".as_slice();
-    let wanted = (Status::Refused, line);
-    run_on(&rt, &["run"], &brackets, STEADY, STEADY, wanted)?;
     Ok(())
 }
 

@@ -3,7 +3,7 @@ ghost use Rattle.std.specs.Prelude.{◌≡◌, IfOk};
 ghost use Rattle.rdx_cli.specs.Transcript.{IsTranscript};
 
 use crate::file::{Answer, answer_file};
-use crate::refusals::{read_name, refusal_line};
+use crate::refusals::{form_line, read_line};
 use rdx_term::NoMemory;
 use std::alloc::Global;
 
@@ -39,11 +39,8 @@ pub fn transcript_of(alloc: Global, bytes: &[u8]) -> Result<Transcript, NoMemory
             text,
             verdict: Verdict::Done,
         }),
-        Answer::Unread(refusal) => {
-            let name = read_name(refusal.kind);
-            Ok(refused(refusal_line(alloc, name, refusal.place)?))
-        }
-        Answer::Unbuilt(place) => Ok(refused(refusal_line(alloc, "S0 Unbuilt", place)?)),
+        Answer::Unread(refusal) => Ok(refused(read_line(alloc, refusal)?)),
+        Answer::Refused(refusal) => Ok(refused(form_line(alloc, &refusal)?)),
     }
 }
 

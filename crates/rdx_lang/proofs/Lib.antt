@@ -1,3 +1,4 @@
 pub mod Orders
 pub mod Alternatives
 pub mod Joins
+pub mod RankLaws

@@ -1,4 +1,5 @@
 -- What checked languages and patterns hold.
+use Rattle.std.specs.Prelude.{ℕ, List}
 use Rattle.rdx_lang.specs.Patterns.{Pattern, Language}
 use Rattle.rdx_lang.specs.PatternView.{pattern_of, language_of}
 use Rattle.rdx_lang.specs.declared.checked.CheckedLang.{CheckedLang}
@@ -7,6 +8,10 @@ use Rattle.rdx_lang.specs.declared.checked.CheckedPat.{CheckedPat}
 -- the language that was checked
 abbrev pub language_in : CheckedLang → Language
 language_in c = language_of c.language
+
+-- its ranks
+abbrev pub ranks_in : CheckedLang → List ℕ
+ranks_in c = c.ranks.of.items
 
 -- the pattern that was checked
 abbrev pub pattern_in : CheckedPat → Pattern

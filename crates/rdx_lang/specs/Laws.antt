@@ -1,13 +1,17 @@
 -- What follows from the definitions, stated for the contracts of the module of laws.
-use Rattle.std.specs.Prelude.{◌≡◌, List}
+use Rattle.std.specs.Prelude.{◌≡◌, ◌<◌, ℕ, List}
 use Rattle.rdx_term.specs.Tree.{Tree}
 use Rattle.rdx_lang.specs.Ascending.{IsAscending}
 use Rattle.rdx_lang.specs.Bindings.{Binding, name_cmp, bound_names, HasAscendingNames}
 use Rattle.rdx_lang.specs.Join.{IsJoin, Agree}
 use Rattle.rdx_lang.specs.Listing.{Matches}
+use Rattle.rdx_lang.specs.Edges.{IsFree}
 use Rattle.rdx_lang.specs.Names.{names}
 use Rattle.rdx_lang.specs.Patterns.{Pattern, Language}
-use Rattle.rdx_lang.specs.Rules.{Match}
+use Rattle.rdx_lang.specs.Ranks.{AreRanks, rank_of, left}
+use Rattle.rdx_lang.specs.Rules.{Match, IsAlternative}
+use Rattle.rdx_lang.specs.WellFormed.{IsWellFormed}
+use Rattle.rdx_lang.specs.declared.pattern.Ref.{Ref}
 
 -- a pattern has one listing of its bindings at most
 abbrev pub OneListing : Type 0
@@ -36,3 +40,11 @@ BindsAMap = (L : Language) (p : Pattern) (t : Tree) (b : Binding) → Match L p 
 -- a match binds exactly the names of its pattern
 abbrev pub BindsItsNames : Type 0
 BindsItsNames = (L : Language) (p : Pattern) (t : Tree) (b : Binding) → Match L p t b → bound_names b ≡ names p
+
+-- where ranks fall along every left edge, the number of an alternative is below that of its nonterminal
+abbrev pub RanksFall : Type 0
+RanksFall = (L : Language) (ns : List ℕ) → IsWellFormed L → AreRanks L ns → (x : Ref) (p : Pattern) → IsAlternative L x p → left (rank_of L ns) p < rank_of L ns x
+
+-- and no nonterminal reaches itself
+abbrev pub RankedIsFree : Type 0
+RankedIsFree = (L : Language) (ns : List ℕ) → IsWellFormed L → AreRanks L ns → IsFree L

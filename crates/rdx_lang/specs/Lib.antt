@@ -10,7 +10,11 @@ pub mod Shown
 pub mod Checked
 pub mod Order
 pub mod Join
+pub mod Literals
 pub mod Rules
+pub mod Edges
+pub mod Ranks
+pub mod RankProps
 pub mod Listing
 pub mod Names
 pub mod OrderLaws

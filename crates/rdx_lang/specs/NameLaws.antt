@@ -12,8 +12,8 @@ use Rattle.rdx_lang.specs.JoinLaws.{bound_names-member}
 use Rattle.rdx_lang.specs.Members.{In, here, there}
 use Rattle.rdx_lang.specs.Names.{placed, with_name, union, names, names_of}
 use Rattle.rdx_lang.specs.OrderLaws.{name_cmp-total, name_cmp-tells, fixed_by_members}
-use Rattle.rdx_lang.specs.Patterns.{Pattern, of_kind, lit, nt, named, seq, Items, nil, one, Language}
-use Rattle.rdx_lang.specs.Rules.{Match, MatchItems, match_kind, match_lit, match_nt, match_named, match_seq, match_none, match_one}
+use Rattle.rdx_lang.specs.Patterns.{Pattern, wild, of_kind, except, prefix, lit, nt, named, seq, Items, nil, one, Language}
+use Rattle.rdx_lang.specs.Rules.{Match, MatchItems, match_wild, match_kind, match_except, match_prefix, match_lit, match_nt, match_named, match_seq, match_none, match_one}
 
 -- ---- one name more
 
@@ -106,7 +106,10 @@ union-right (x ∷ xs) ys z h = with_name-complete x (union xs ys) z (there (uni
 mutual
   -- the names of a pattern ascend
   pub names-ascend : (p : Pattern) → IsAscending name_cmp (names p)
+  names-ascend wild = tt
   names-ascend (of_kind k) = tt
+  names-ascend (except rs) = tt
+  names-ascend (prefix r) = tt
   names-ascend (lit u) = tt
   names-ascend (nt x) = tt
   names-ascend (named x q) = with_name-ascends x (names q) (names-ascend q)
@@ -158,7 +161,10 @@ turned_join a b c j = record {
 mutual
   -- a match binds a finite map
   pub match-ascends : {L : Language} {p : Pattern} {t : Tree} {b : Binding} → Match L p t b → HasAscendingNames b
+  match-ascends match_wild = tt
   match-ascends (match_kind h) = tt
+  match-ascends (match_except h) = tt
+  match-ascends (match_prefix h) = tt
   match-ascends (match_lit h) = tt
   match-ascends (match_nt a h) = tt
   match-ascends (match_named h j) = j.map
@@ -176,7 +182,10 @@ joined a b {c = c} h j e f = bound_names-join a b c h j ∙ (λ i. union (e i) (
 mutual
   -- a match binds exactly the names of its pattern
   pub match-names : {L : Language} {p : Pattern} {t : Tree} {b : Binding} → Match L p t b → bound_names b ≡ names p
+  match-names match_wild = refl
   match-names (match_kind h) = refl
+  match-names (match_except h) = refl
+  match-names (match_prefix h) = refl
   match-names (match_lit h) = refl
   match-names (match_nt a h) = refl
   match-names (match_named {x = x} {t = t} {c = c} {b = b} h j) = joined ((x, one_term t) ∷ []) c (match-ascends h) (turned_join c ((x, one_term t) ∷ []) b j) refl (match-names h)

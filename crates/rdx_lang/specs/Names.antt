@@ -4,7 +4,7 @@ use Rattle.std.specs.Prelude.{ℕ, List, [], ◌∷◌}
 use Rattle.std.specs.declared.cmp.Ordering.{Ordering}
 use Rattle.std.specs.declared.cmp.Ordering.TheVariants.{Less, Equal, Greater}
 use Rattle.rdx_lang.specs.Bindings.{name_cmp}
-use Rattle.rdx_lang.specs.Patterns.{Pattern, of_kind, lit, nt, named, seq, Items, nil, one}
+use Rattle.rdx_lang.specs.Patterns.{Pattern, wild, of_kind, except, prefix, lit, nt, named, seq, Items, nil, one}
 
 -- ascending names y and ys with x put among them: x compares so to y, and further is ys with x put among them
 abbrev pub placed : Ordering → List ℕ → List ℕ → List (List ℕ) → List (List ℕ) → List (List ℕ)
@@ -25,7 +25,10 @@ union (x ∷ xs) ys = with_name x (union xs ys)
 abbrev mutual
   -- the names that the pattern binds
   pub names : Pattern → List (List ℕ)
+  names wild = []
   names (of_kind k) = []
+  names (except rs) = []
+  names (prefix r) = []
   names (lit u) = []
   names (nt x) = []
   names (named x q) = with_name x (names q)

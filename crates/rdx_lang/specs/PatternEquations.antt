@@ -1,7 +1,7 @@
 -- What each form of the code's patterns stands for, for proofs here and in the crates above.
 use Rattle.std.proofs.Common.{◌≡◌, ℕ, List, map, ap, ◌∙◌}
 use Rattle.rdx_term.specs.View.{tree_of}
-use Rattle.rdx_lang.specs.Patterns.{Pattern, of_kind, lit, nt, named, seq}
+use Rattle.rdx_lang.specs.Patterns.{Pattern, wild, of_kind, except, prefix, lit, nt, named, seq}
 use Rattle.rdx_lang.specs.PatternView.{pattern_of, pattern_step, slot_of, slot_step, Slot, just, items_of}
 use Rattle.rdx_lang.specs.declared.pattern.Item as code_item
 use Rattle.rdx_lang.specs.declared.pattern.Item.TheOpen as layer
@@ -19,9 +19,21 @@ pattern_at p o e = code_pattern.fold_out-Pat Slot Pattern slot_step pattern_step
 slot_at : (s : code_item.Item) (o : layer.Item-F code_item.Item code_pattern.Pat) → code_item.out-Item s ≡ o → slot_of s ≡ slot_step (code_item.map-Item code_item.Item code_pattern.Pat Slot Pattern slot_of pattern_of o)
 slot_at s o e = code_item.fold_out-Item Slot Pattern slot_step pattern_step s ∙ ap (λ x. slot_step (code_item.map-Item code_item.Item code_pattern.Pat Slot Pattern slot_of pattern_of x)) e
 
+-- `_`
+pub pattern_wild : pattern_of code_pattern.Wild ≡ wild
+pattern_wild = pattern_at _ _ pattern_variants.outs-Wild
+
 -- a built-in name
 pub pattern_kind : (k : Kind) → pattern_of (code_pattern.Kind k) ≡ of_kind k
 pattern_kind k = pattern_at _ _ (pattern_variants.outs-Kind k)
+
+-- the symbols but these
+pub pattern_except : (rs : _) → pattern_of (code_pattern.Except rs) ≡ except rs.items
+pattern_except rs = pattern_at _ _ (pattern_variants.outs-Except rs)
+
+-- the symbols that begin so
+pub pattern_prefix : (r : List ℕ) → pattern_of (code_pattern.Prefix r) ≡ prefix r
+pattern_prefix r = pattern_at _ _ (pattern_variants.outs-Prefix r)
 
 -- a literal
 pub pattern_lit : (u : _) → pattern_of (code_pattern.Lit u) ≡ lit (tree_of u)

@@ -1,7 +1,7 @@
 -- The patterns and languages that the code's values stand for.
 use Rattle.std.specs.Prelude.{List, [], ◌∷◌, map}
 use Rattle.rdx_term.specs.View.{tree_of}
-use Rattle.rdx_lang.specs.Patterns.{Pattern, of_kind, lit, nt, named, seq, Items, nil, one, Definition, Language}
+use Rattle.rdx_lang.specs.Patterns.{Pattern, wild, of_kind, except, prefix, lit, nt, named, seq, Items, nil, one, Definition, Language}
 use Rattle.rdx_lang.specs.declared.language.Language as code_language
 use Rattle.rdx_lang.specs.declared.pattern.Item as code_item
 use Rattle.rdx_lang.specs.declared.pattern.Item.TheOpen as layer
@@ -21,7 +21,10 @@ items_of (just p ∷ slots) = one p (items_of slots)
 
 -- a form of patterns, once its parts are known
 abbrev pub pattern_step : layer.Pat-F Slot Pattern → Pattern
+pattern_step layer.Wild = wild
 pattern_step (layer.Kind k) = of_kind k
+pattern_step (layer.Except rs) = except rs.items
+pattern_step (layer.Prefix r) = prefix r
 pattern_step (layer.Lit u) = lit (tree_of u)
 pattern_step (layer.Nt x) = nt x
 pattern_step (layer.Named x q) = named x q.value

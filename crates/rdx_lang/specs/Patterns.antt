@@ -5,9 +5,12 @@ use Rattle.rdx_lang.specs.declared.pattern.Kind.{Kind}
 use Rattle.rdx_lang.specs.declared.pattern.Ref.{Ref}
 
 mutual
-  -- a built-in name, a literal term, a nonterminal, a pattern with a name, or a list
+  -- `_`, a built-in name, the symbols but these, the symbols that begin so, a literal term, a nonterminal, a pattern with a name, or a list
   pub data Pattern : Type 0 where
+    wild : Pattern
     of_kind : Kind → Pattern
+    except : List (List ℕ) → Pattern
+    prefix : List ℕ → Pattern
     lit : Tree → Pattern
     nt : Ref → Pattern
     named : List ℕ → Pattern → Pattern

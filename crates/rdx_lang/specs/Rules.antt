@@ -1,24 +1,41 @@
 -- When a pattern of a language matches a term, and with which binding: the least relation with these rules, a constructor for
 -- each (Klein, McCarthy, Jaconette and Findler, "A semantics for context-sensitive reduction semantics", APLAS 2011).
-use Rattle.std.specs.Prelude.{◌≡◌, ℕ, Bool, true, false, List, [], ◌∷◌, Option}
-use Rattle.rdx_term.specs.Tree.{Tree, integer, symbol, list, Trees, cons}
+use Rattle.std.specs.Prelude.{◌≡◌, ℕ, ℤ, pos, negsuc, eqb, Bool, true, false, not, List, [], ◌∷◌, Option, bytes_eq}
+use Rattle.std.specs.List.{list_any, starts_with}
+use Rattle.rdx_term.specs.Tree.{Tree, integer, truth, text, symbol, list, Trees, cons}
 use Rattle.rdx_term.specs.Tree.{nil as no_trees}
 use Rattle.rdx_term.specs.Bare.{bare}
 use Rattle.rdx_lang.specs.Members.{In}
 use Rattle.rdx_lang.specs.Bindings.{Binding}
 use Rattle.rdx_lang.specs.Bindings.{one as one_term}
 use Rattle.rdx_lang.specs.Join.{IsJoin}
-use Rattle.rdx_lang.specs.Patterns.{Pattern, of_kind, lit, nt, named, seq, Items, nil, one, Language}
+use Rattle.rdx_lang.specs.Literals.{is_mentioned}
+use Rattle.rdx_lang.specs.Patterns.{Pattern, wild, of_kind, except, prefix, lit, nt, named, seq, Items, nil, one, Language}
 use Rattle.rdx_lang.specs.declared.pattern.Kind.{Kind}
-use Rattle.rdx_lang.specs.declared.pattern.Kind.TheVariants.{Any, Number, Variable}
+use Rattle.rdx_lang.specs.declared.pattern.Kind.TheVariants.{Any, Number, Natural, Integer, Real, Text, Boolean, Variable, Unmentioned}
 use Rattle.rdx_lang.specs.declared.pattern.Ref.{Ref}
 
--- the terms that a built-in name stands for
-abbrev pub is_of_kind : Kind → Tree → Bool
-is_of_kind Any t = true
-is_of_kind Number (integer z) = true
-is_of_kind Variable (symbol s) = true
-is_of_kind k t = false
+-- not negative
+abbrev pub is_natural : ℤ → Bool
+is_natural (pos n) = true
+is_natural (negsuc n) = false
+
+-- The terms that a built-in name stands for in a language. All numbers are integers so far.
+abbrev pub is_of_kind : Language → Kind → Tree → Bool
+is_of_kind L Any t = true
+is_of_kind L Number (integer z) = true
+is_of_kind L Integer (integer z) = true
+is_of_kind L Real (integer z) = true
+is_of_kind L Natural (integer z) = is_natural z
+is_of_kind L Text (text s) = true
+is_of_kind L Boolean (truth b) = true
+is_of_kind L Variable (symbol s) = true
+is_of_kind L Unmentioned (symbol s) = not (is_mentioned L s)
+is_of_kind L k t = false
+
+-- one of these symbols
+abbrev pub is_one_of : List (List ℕ) → List ℕ → Bool
+is_one_of rs s = list_any (λ r. bytes_eq r s) rs
 
 -- p is an alternative of the nonterminal x
 pub record IsAlternative (L : Language) (x : Ref) (p : Pattern) : Type 0 where
@@ -29,7 +46,10 @@ pub record IsAlternative (L : Language) (x : Ref) (p : Pattern) : Type 0 where
 mutual
   -- p matches t and binds b
   pub data Match (L : Language) : Pattern → Tree → Binding → Type 0 where
-    match_kind : {k : Kind} {t : Tree} → is_of_kind k t ≡ true → Match L (of_kind k) t []
+    match_wild : {t : Tree} → Match L wild t []
+    match_kind : {k : Kind} {t : Tree} → is_of_kind L k t ≡ true → Match L (of_kind k) t []
+    match_except : {rs : List (List ℕ)} {s : List ℕ} → is_one_of rs s ≡ false → Match L (except rs) (symbol s) []
+    match_prefix : {r s : List ℕ} → starts_with eqb s r ≡ true → Match L (prefix r) (symbol s) []
     match_lit : {u t : Tree} → bare t ≡ bare u → Match L (lit u) t []
     match_nt : {x : Ref} {p : Pattern} {t : Tree} {c : Binding} → IsAlternative L x p → Match L p t c → Match L (nt x) t []
     match_named : {x : List ℕ} {q : Pattern} {t : Tree} {c b : Binding} → Match L q t c → IsJoin c ((x, one_term t) ∷ []) b → Match L (named x q) t b

@@ -1,6 +1,6 @@
 -- Which patterns and languages are well formed.
 use Rattle.std.specs.Prelude.{◌≡◌, Bool, true, false, not, ◌&&◌, ◌||◌, List, [], ◌∷◌, map, bytes_eq}
-use Rattle.rdx_lang.specs.Patterns.{Pattern, of_kind, lit, nt, named, seq, Items, nil, one, Definition, Language}
+use Rattle.rdx_lang.specs.Patterns.{Pattern, wild, of_kind, except, prefix, lit, nt, named, seq, Items, nil, one, Definition, Language}
 use Rattle.rdx_lang.specs.declared.pattern.Ref.{Ref}
 use Rattle.rdx_lang.specs.declared.pattern.Ref.TheVariants.{Nt}
 
@@ -21,7 +21,10 @@ are_distinct (x ∷ xs) = not (is_among x xs) && are_distinct xs
 -- each nonterminal of the pattern is one of these
 abbrev mutual
   pub is_well_formed : List Ref → Pattern → Bool
+  is_well_formed xs wild = true
   is_well_formed xs (of_kind k) = true
+  is_well_formed xs (except rs) = true
+  is_well_formed xs (prefix r) = true
   is_well_formed xs (lit u) = true
   is_well_formed xs (nt x) = is_among x xs
   is_well_formed xs (named x q) = is_well_formed xs q
@@ -45,17 +48,7 @@ all_alternatives test (d ∷ ds) = all_patterns test d.1 && all_alternatives tes
 abbrev pub defined : Language → List Ref
 defined L = map (λ d. d.0) L.nonterminals
 
--- no nonterminal by itself, with or without names round it
-abbrev pub is_guarded : Pattern → Bool
-is_guarded (of_kind k) = true
-is_guarded (lit u) = true
-is_guarded (nt x) = false
-is_guarded (named x q) = is_guarded q
-is_guarded (seq ps) = true
-
--- what always holds of a language that patterns are matched in
-pub record IsChecked (L : Language) : Type 0 where
+-- its nonterminals are distinct, and each of its patterns is well formed in it
+pub record IsWellFormed (L : Language) : Type 0 where
   pub distinct : are_distinct (defined L) ≡ true
   pub well_formed : all_alternatives (is_well_formed (defined L)) L.nonterminals ≡ true
-  -- so no nonterminal leads to itself without a list between
-  pub guarded : all_alternatives is_guarded L.nonterminals ≡ true

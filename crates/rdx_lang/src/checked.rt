@@ -1,24 +1,28 @@
 // Languages and patterns that have passed their checks.
 ghost use Rattle.std.proofs.Props.{props};
 ghost use Rattle.rdx_lang.specs.PatternView.{language_of};
-ghost use Rattle.rdx_lang.specs.WellFormed.{IsChecked};
+ghost use Rattle.rdx_lang.specs.Ranks.{AreRanks};
+ghost use Rattle.rdx_lang.specs.RankProps.{AreRanks-prop};
+ghost use Rattle.rdx_lang.specs.WellFormed.{IsWellFormed};
 
 use crate::lookup::alternatives;
 use crate::well_formed::is_well_formed;
-use crate::{Language, Pat, Ref};
+use crate::{Language, Pat, Ranks, Ref};
 use rdx_term::NoMemory;
 
-/// A language whose nonterminals are distinct, each of whose alternatives is well formed, and none
-/// of whose nonterminals leads to itself without a list between.
+/// A well-formed language, with ranks that fall along every left edge of its patterns. So none of
+/// its nonterminals leads to itself with nothing of a term taken off between.
 #[derive(Drop)]
 pub struct CheckedLang {
     language: Language,
-    pub ghost checked: { IsChecked (language_of language) } by { Prim.hlevel props },
+    ranks: Ranks,
+    pub ghost well_formed: { IsWellFormed (language_of language) } by { Prim.hlevel props },
+    pub ghost ranked: { AreRanks (language_of language) ranks.of.items } by { AreRanks-prop (language_of language) ranks.of.items },
 }
 
 impl CheckedLang {
     ghost use Rattle.std.specs.Prelude.{◌≡◌, ◌↔◌};
-    ghost use Rattle.rdx_lang.specs.Checked.{language_in};
+    ghost use Rattle.rdx_lang.specs.Checked.{language_in, ranks_in};
     ghost use Rattle.rdx_lang.specs.Lookup.{alternatives_of};
     ghost use Rattle.rdx_lang.specs.Members.{In};
     ghost use Rattle.rdx_lang.specs.PatternView.{patterns_of};
@@ -26,26 +30,37 @@ impl CheckedLang {
     ghost use Rattle.rdx_lang.specs.Rules.{IsAlternative};
 
     /// The checked language.
-    pub fn new(language: Language) -> CheckedLang
-        requires { IsChecked (language_of language) }
-        ensures { language_in result ≡ language_of language }
+    pub fn new(language: Language, ranks: Ranks) -> CheckedLang
+        requires well_formed { IsWellFormed (language_of language) }
+        requires ranked { AreRanks (language_of language) ranks.of.items }
+        ensures language { language_in result ≡ language_of language }
+        ensures ranks { ranks_in result ≡ ranks.of.items }
     {
-        CheckedLang { language }
+        CheckedLang { language, ranks }
     }
 
     /// The language itself.
     pub fn language(&self) -> &Language
         ensures value { language_of result.now ≡ language_in self.now }
-        ensures checked { IsChecked (language_in self.now) }
+        ensures well_formed { IsWellFormed (language_in self.now) }
     {
         &self.language
+    }
+
+    /// Its ranks.
+    pub fn ranks(&self) -> &Ranks
+        ensures value { result.now.of.items ≡ ranks_in self.now }
+        ensures ranked { AreRanks (language_in self.now) (ranks_in self.now) }
+    {
+        &self.ranks
     }
 
     /// The alternatives of a nonterminal, in their order; none where the language doesn't define it.
     pub fn alternatives(&self, name: &Ref) -> &[Pat]
         ensures same { patterns_of result.now ≡ alternatives_of (language_in self.now) name.now }
         ensures all { (p : Pattern) → (In p (patterns_of result.now) ↔ IsAlternative (language_in self.now) name.now p) }
-        ensures checked { IsChecked (language_in self.now) }
+        ensures well_formed { IsWellFormed (language_in self.now) }
+        ensures ranked { AreRanks (language_in self.now) (ranks_in self.now) }
     {
         alternatives(&self.language, name)
     }

@@ -12,3 +12,11 @@ pub struct Language {
     /// The nonterminals, each with its alternatives.
     pub nts: Vec<(Ref, Vec<Pat>)>,
 }
+
+/// A number for each node of a language's alternatives: the nonterminals in their order, the
+/// alternatives in theirs, the nodes of each in pre-order.
+#[derive(Drop)]
+pub struct Ranks {
+    /// The numbers.
+    pub of: Vec<usize>,
+}

@@ -2,7 +2,7 @@
 ghost use Rattle.std.specs.Cmp.{IsTotalOrder};
 ghost use Rattle.rdx_lang.specs.Order.{value_cmp, binding_cmp};
 ghost use Rattle.rdx_lang.specs.OrderLaws.{TellsApart};
-ghost use Rattle.rdx_lang.specs.Laws.{OneListing, OneJoin, JoinAgrees, JoinExists, NamesAscend, BindsAMap, BindsItsNames};
+ghost use Rattle.rdx_lang.specs.Laws.{OneListing, OneJoin, JoinAgrees, JoinExists, NamesAscend, BindsAMap, BindsItsNames, RanksFall, RankedIsFree};
 
 /// The order of values is total, and values that it doesn't tell apart are equal.
 pub fn values_are_ordered()
@@ -40,4 +40,11 @@ pub fn names_of_matches()
     ensures ascending { NamesAscend }
     ensures map { BindsAMap }
     ensures names { BindsItsNames }
+{}
+
+/// Where ranks fall along every left edge, what a pattern leads to has a lesser number, so no
+/// nonterminal leads to itself.
+pub fn ranks_fall()
+    ensures fall { RanksFall }
+    ensures free { RankedIsFree }
 {}

@@ -8,9 +8,16 @@
 //! What the names of a pattern stand for is a [`Binding`], a finite map. With which bindings a
 //! pattern matches a term is a relation, the least with the rules of `specs/Rules.antt`; a
 //! [`Matcher`] lists these bindings, ascending and each once. It is given a language and a pattern
-//! that passed their checks, a [`CheckedLang`] and a [`CheckedPat`]. [`laws`] has what follows from
-//! the definitions: two bindings have a join exactly where they agree, and one at most; a pattern
-//! has one listing of its bindings for a term; and each of these binds exactly the pattern's names.
+//! that passed their checks, a [`CheckedLang`] and a [`CheckedPat`].
+//!
+//! A checked language carries its [`Ranks`], a number for each node of its alternatives that is
+//! greater than those of the nodes that are matched against the same term, a named pattern's part
+//! and the alternatives of a nonterminal. So none of its nonterminals leads to itself with nothing
+//! of a term taken off between, which is what lets a search end.
+//!
+//! [`laws`] has what follows from the definitions: two bindings have a join exactly where they
+//! agree, and one at most; a pattern has one listing of its bindings for a term; each of these
+//! binds exactly the pattern's names; and where ranks fall, no nonterminal leads to itself.
 #![tactic(auto)]
 
 mod binding;
@@ -27,6 +34,6 @@ mod well_formed;
 
 pub use binding::{Binding, Value};
 pub use checked::{CheckedLang, CheckedPat};
-pub use language::Language;
+pub use language::{Language, Ranks};
 pub use matcher::Matcher;
 pub use pattern::{Item, Kind, Pat, Ref};

@@ -9,8 +9,21 @@ pub enum Kind {
     Any,
     /// `number`: each integer.
     Number,
+    /// `natural`: each integer that isn't negative.
+    Natural,
+    /// `integer`: each integer.
+    Integer,
+    /// `real`: each integer.
+    Real,
+    /// `string`: each string.
+    Text,
+    /// `boolean`: each truth value.
+    Boolean,
     /// `variable`: each symbol.
     Variable,
+    /// `variable-not-otherwise-mentioned`: each symbol that no alternative of the language has as a
+    /// literal.
+    Unmentioned,
 }
 
 /// What a nonterminal goes by.
@@ -24,8 +37,14 @@ pub enum Ref {
 #[cycle(pattern)]
 #[derive(Drop)]
 pub enum Pat {
+    /// `_`: each term.
+    Wild,
     /// The terms of a built-in name.
     Kind(Kind),
+    /// The symbols other than these.
+    Except(Vec<Name>),
+    /// The symbols that begin so.
+    Prefix(Name),
     /// This term alone, marks forgotten.
     Lit(Term),
     /// What an alternative of the nonterminal matches.

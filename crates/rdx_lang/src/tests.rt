@@ -1,5 +1,5 @@
 // Calls with ample memory, and the order of bindings by example.
-use crate::{Binding, CheckedLang, CheckedPat, Kind, Language, Pat, Ref, Value};
+use crate::{Binding, CheckedLang, CheckedPat, Kind, Language, Pat, Ranks, Ref, Value};
 use rdx_term::{Name, Term};
 use std::cmp::Ordering;
 use std::process::Abort;
@@ -53,8 +53,25 @@ fn is_integer(value: Option<&Value>, n: i128) -> bool {
     }
 }
 
-fn is_any(pat: &Pat) -> bool {
-    matches!(pat, Pat::Kind(Kind::Any))
+// Patterns with no nonterminal.
+fn pattern_at<R: Abort + AllocGlobal>(rt: &R, place: usize) -> Result<Pat, Fail> {
+    match place {
+        0 => Ok(Pat::Kind(Kind::Any)),
+        1 => Ok(Pat::Wild),
+        2 => Ok(Pat::Except(vec![in rt.alloc(); name(rt, "a")?]?)),
+        _ => Ok(Pat::Prefix(name(rt, "a")?)),
+    }
+}
+
+// Whether it is the pattern at this place.
+fn is_at(place: usize, pat: &Pat) -> bool {
+    match pat {
+        Pat::Kind(Kind::Any) => place == 0,
+        Pat::Wild => place == 1,
+        Pat::Except(names) => place == 2 && names.len() == 1,
+        Pat::Prefix(start) => place == 3 && start.text() == "a",
+        _ => false,
+    }
 }
 
 #[test]
@@ -86,13 +103,20 @@ fn names_and_shares(rt: HostRuntime) -> Result<(), Fail> {
 
 #[test]
 fn patterns_of_a_language(rt: HostRuntime) -> Result<(), Fail> {
-    let language = CheckedLang::new(Language {
+    let language = Language {
         name: name(&rt, "L")?,
         nts: Vec::new(rt.alloc()),
-    });
-    let any = CheckedPat::new(&language, Pat::Kind(Kind::Any))?;
-    assert!(rt; any.is_some_and(|pat| is_any(pat.pat())));
-    let absent = Pat::Nt(Ref::Nt(name(&rt, "e")?));
-    assert!(rt; CheckedPat::new(&language, absent)?.is_none());
+    };
+    let ranks = Ranks {
+        of: Vec::new(rt.alloc()),
+    };
+    let language = CheckedLang::new(language, ranks);
+    for i in 0..4 {
+        let pat = CheckedPat::new(&language, pattern_at(&rt, i)?)?;
+        assert!(rt; pat.is_some_and(|pat| is_at(i, pat.pat())), "at {i}");
+    }
+    let absent = Ref::Nt(name(&rt, "e")?);
+    assert!(rt; language.ranks().of.is_empty() && language.alternatives(&absent).is_empty());
+    assert!(rt; CheckedPat::new(&language, Pat::Nt(absent))?.is_none());
     Ok(())
 }

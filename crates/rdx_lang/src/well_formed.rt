@@ -12,7 +12,7 @@ pub(crate) fn is_well_formed(language: &Language, pat: &Pat) -> bool
     ensures { result ≡ tests.is_well_formed (tests.defined (language_of language.now)) (pattern_of pat.now) }
 {
     match pat {
-        Pat::Kind(_) | Pat::Lit(_) => true,
+        Pat::Wild | Pat::Kind(_) | Pat::Except(_) | Pat::Prefix(_) | Pat::Lit(_) => true,
         Pat::Nt(name) => is_defined(language, name),
         Pat::Named(_, inner) => is_well_formed(language, inner),
         Pat::Seq(items) => are_well_formed(language, items),

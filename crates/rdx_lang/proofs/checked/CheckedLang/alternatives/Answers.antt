@@ -11,4 +11,4 @@ pub returns-clause-all : goal.returns-clause-all
 returns-clause-all c p =
     let L = language_in c.args.self.now in
     let x = c.args.name.now in
-    subst (λ (ps : List Pattern). In p ps ↔ IsAlternative L x p) (sym c.alternatives.ensures) (alternatives_of-all L x c.args.self.now.checked.distinct p)
+    subst (λ (ps : List Pattern). In p ps ↔ IsAlternative L x p) (sym c.alternatives.ensures) (alternatives_of-all L x c.args.self.now.well_formed.distinct p)

@@ -1,0 +1,144 @@
+-- The patterns of a language that extends another pass the tests that those of the base and the new ones pass.
+use Rattle.std.proofs.Common.{◌≡◌, ◌++◌, ℕ, Bool, true, false, List, [], ◌∷◌, Option, Some, None, map, refl, sym, ap, ◌∙◌, if◌then◌else◌}
+use Rattle.std.specs.Prelude.{◌&&◌, codes}
+use Rattle.rdx_sexp.specs.Sexp.{Sexp}
+use Rattle.rdx_lang.specs.Lookup.{alternatives_of, alternatives_among}
+use Rattle.rdx_lang.specs.Patterns.{Pattern, wild, of_kind, except, prefix, lit, nt, named, seq, Items, nil, one, Language}
+use Rattle.rdx_lang.specs.Patterns as model
+use Rattle.rdx_lang.specs.WellFormed.{is_same, is_among, is_well_formed, are_well_formed, all_patterns, all_alternatives}
+use Rattle.rdx_lang.specs.declared.pattern.Ref.{Ref}
+use Rattle.rdx_lang.specs.declared.pattern.Ref.TheVariants.{Nt}
+use Rattle.rdx_grammar.specs.Languages.{heads, redefined, added, alternatives, defined_by, definitions_of}
+use Rattle.rdx_grammar.specs.Parts.{text_of, is_word, Definition, definition_in}
+use Rattle.rdx_grammar.specs.Reading.{reading}
+use Rattle.rdx_grammar.specs.declared.patterns.Position.TheVariants.{Grammar as InGrammar}
+use Rattle.rdx_grammar.proofs.Booleans.{and_true, and_both}
+use Rattle.rdx_grammar.proofs.ExtendedNames.{Within}
+
+-- ---- patterns over more nonterminals
+
+mutual
+  -- a pattern
+  pub is_well_formed-within : (xs ys : List Ref) → Within xs ys → (p : Pattern) → is_well_formed xs p ≡ true → is_well_formed ys p ≡ true
+  is_well_formed-within xs ys w wild e = refl
+  is_well_formed-within xs ys w (of_kind k) e = refl
+  is_well_formed-within xs ys w (except rs) e = refl
+  is_well_formed-within xs ys w (prefix r) e = refl
+  is_well_formed-within xs ys w (lit u) e = refl
+  is_well_formed-within xs ys w (nt x) e = w x e
+  is_well_formed-within xs ys w (named x q) e = is_well_formed-within xs ys w q e
+  is_well_formed-within xs ys w (seq ps) e = are_well_formed-within xs ys w ps e
+
+  -- items
+  are_well_formed-within : (xs ys : List Ref) → Within xs ys → (ps : Items) → are_well_formed xs ps ≡ true → are_well_formed ys ps ≡ true
+  are_well_formed-within xs ys w nil e = refl
+  are_well_formed-within xs ys w (one p ps) e =
+      let k = and_true (is_well_formed xs p) (are_well_formed xs ps) e in
+      and_both (is_well_formed ys p) (are_well_formed ys ps) (is_well_formed-within xs ys w p k.0) (are_well_formed-within xs ys w ps k.1)
+
+-- alternatives
+all_patterns-within : (xs ys : List Ref) → Within xs ys → (ps : List Pattern) → all_patterns (is_well_formed xs) ps ≡ true → all_patterns (is_well_formed ys) ps ≡ true
+all_patterns-within xs ys w [] e = refl
+all_patterns-within xs ys w (p ∷ ps) e =
+    let k = and_true (is_well_formed xs p) (all_patterns (is_well_formed xs) ps) e in
+    and_both (is_well_formed ys p) (all_patterns (is_well_formed ys) ps) (is_well_formed-within xs ys w p k.0) (all_patterns-within xs ys w ps k.1)
+
+-- those of several definitions
+pub all_alternatives-within : (xs ys : List Ref) → Within xs ys → (ds : List model.Definition) → all_alternatives (is_well_formed xs) ds ≡ true → all_alternatives (is_well_formed ys) ds ≡ true
+all_alternatives-within xs ys w [] e = refl
+all_alternatives-within xs ys w (d ∷ ds) e =
+    let k = and_true (all_patterns (is_well_formed xs) d.1) (all_alternatives (is_well_formed xs) ds) e in
+    and_both (all_patterns (is_well_formed ys) d.1) (all_alternatives (is_well_formed ys) ds) (all_patterns-within xs ys w d.1 k.0) (all_alternatives-within xs ys w ds k.1)
+
+-- ---- lists of patterns, and of definitions
+
+module _ (test : Pattern → Bool) where
+  -- patterns, one list behind the other
+  all_patterns-append : (ps qs : List Pattern) → all_patterns test ps ≡ true → all_patterns test qs ≡ true → all_patterns test (ps ++ qs) ≡ true
+  all_patterns-append [] qs e f = f
+  all_patterns-append (p ∷ ps) qs e f =
+      let k = and_true (test p) (all_patterns test ps) e in
+      and_both (test p) (all_patterns test (ps ++ qs)) k.0 (all_patterns-append ps qs k.1 f)
+
+  -- definitions, one list behind the other
+  all_alternatives-append : (ds es : List model.Definition) → all_alternatives test ds ≡ true → all_alternatives test es ≡ true → all_alternatives test (ds ++ es) ≡ true
+  all_alternatives-append [] es e f = f
+  all_alternatives-append (d ∷ ds) es e f =
+      let k = and_true (all_patterns test d.1) (all_alternatives test ds) e in
+      and_both (all_patterns test d.1) (all_alternatives test (ds ++ es)) k.0 (all_alternatives-append ds es k.1 f)
+
+  -- one list or the other
+  found_by : (b : Bool) (ps qs : List Pattern) → all_patterns test ps ≡ true → all_patterns test qs ≡ true → all_patterns test (if b then ps else qs) ≡ true
+  found_by true ps qs e f = e
+  found_by false ps qs e f = f
+
+  -- the alternatives of a nonterminal
+  pub all_patterns-among : (ds : List model.Definition) (x : Ref) → all_alternatives test ds ≡ true → all_patterns test (alternatives_among ds x) ≡ true
+  all_patterns-among [] x e = refl
+  all_patterns-among (d ∷ ds) x e =
+      let k = and_true (all_patterns test d.1) (all_alternatives test ds) e in
+      found_by (is_same x d.0) d.1 (alternatives_among ds x) k.0 (all_patterns-among ds x k.1)
+
+  -- ---- what is read
+
+  module _ (base : Language) (ns : List (List ℕ)) (old : all_alternatives test base.nonterminals ≡ true) (read : (d : Sexp) → test (reading ns InGrammar d) ≡ true) where
+    -- one alternative, or those that are inherited
+    written : (b : Bool) (x : List ℕ) (d : Sexp) → all_patterns test (if b then alternatives_of base (Nt x) else reading ns InGrammar d ∷ []) ≡ true
+    written true x d = all_patterns-among base.nonterminals (Nt x) old
+    written false x d = and_both (test (reading ns InGrammar d)) true (read d) refl
+
+    -- all alternatives
+    all_patterns-alternatives : (x : List ℕ) (ds : List Sexp) → all_patterns test (alternatives base ns x ds) ≡ true
+    all_patterns-alternatives x [] = refl
+    all_patterns-alternatives x (d ∷ ds) =
+        all_patterns-append (if is_word (codes "....") d then alternatives_of base (Nt x) else reading ns InGrammar d ∷ []) (alternatives base ns x ds)
+        (written (is_word (codes "....") d) x d) (all_patterns-alternatives x ds)
+
+    -- those of several names
+    of_names : (es ds : List Sexp) → all_alternatives test (map (λ e. (Nt (text_of e), alternatives base ns (text_of e) ds)) es) ≡ true
+    of_names [] ds = refl
+    of_names (e ∷ es) ds =
+        and_both (all_patterns test (alternatives base ns (text_of e) ds)) (all_alternatives test (map (λ f. (Nt (text_of f), alternatives base ns (text_of f) ds)) es))
+        (all_patterns-alternatives (text_of e) ds) (of_names es ds)
+
+    -- those of a definition
+    of_definition : (o : Option Definition) → all_alternatives test (defined_by base ns o) ≡ true
+    of_definition None = refl
+    of_definition (Some def) = of_names def.names def.alternatives
+
+    -- those of all definitions
+    pub all_alternatives-definitions : (ds : List Sexp) → all_alternatives test (definitions_of base ns ds) ≡ true
+    all_alternatives-definitions [] = refl
+    all_alternatives-definitions (d ∷ ds) =
+        all_alternatives-append (defined_by base ns (definition_in d)) (definitions_of base ns ds) (of_definition (definition_in d)) (all_alternatives-definitions ds)
+
+  -- ---- the extension
+
+  module _ (old new : List model.Definition) (e : all_alternatives test old ≡ true) (f : all_alternatives test new ≡ true) where
+    -- a definition of the base, with the new alternatives where it has some
+    redefined_by : (b : Bool) (d : model.Definition) → all_patterns test d.1 ≡ true → all_patterns test (if b then (d.0, alternatives_among new d.0) else d).1 ≡ true
+    redefined_by true d k = all_patterns-among new d.0 f
+    redefined_by false d k = k
+
+    -- all of the base
+    all_redefined : (ds : List model.Definition) → all_alternatives test ds ≡ true → all_alternatives test (map (redefined new) ds) ≡ true
+    all_redefined [] k = refl
+    all_redefined (d ∷ ds) k =
+        let l = and_true (all_patterns test d.1) (all_alternatives test ds) k in
+        and_both (all_patterns test (redefined new d).1) (all_alternatives test (map (redefined new) ds)) (redefined_by (is_among d.0 (heads new)) d l.0) (all_redefined ds l.1)
+
+    -- a new definition, unless the base has it
+    added_by : (b : Bool) (d : model.Definition) → all_patterns test d.1 ≡ true → all_alternatives test (if b then [] else d ∷ []) ≡ true
+    added_by true d k = refl
+    added_by false d k = and_both (all_patterns test d.1) true k refl
+
+    -- all that are added
+    all_added : (ds : List model.Definition) → all_alternatives test ds ≡ true → all_alternatives test (added old ds) ≡ true
+    all_added [] k = refl
+    all_added (d ∷ ds) k =
+        let l = and_true (all_patterns test d.1) (all_alternatives test ds) k in
+        all_alternatives-append (if is_among d.0 (heads old) then [] else d ∷ []) (added old ds) (added_by (is_among d.0 (heads old)) d l.0) (all_added ds l.1)
+
+    -- all
+    pub all_alternatives-extended : all_alternatives test (map (redefined new) old ++ added old new) ≡ true
+    all_alternatives-extended = all_alternatives-append (map (redefined new) old) (added old new) (all_redefined old e) (all_added new f)

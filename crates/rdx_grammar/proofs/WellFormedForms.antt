@@ -1,0 +1,115 @@
+-- The language of a form that passes the checks is well formed.
+use Rattle.std.proofs.Common.{◌≡◌, ◌++◌, ◌||◌, ℕ, Bool, true, false, List, [], ◌∷◌, Option, Some, None, map, refl, sym, ap, ◌∙◌, subst}
+use Rattle.rdx_sexp.specs.Sexp.{Sexp}
+use Rattle.rdx_lang.specs.Patterns.{Pattern, Language}
+use Rattle.rdx_lang.specs.Patterns as model
+use Rattle.rdx_lang.specs.WellFormed.{is_among as is_defined_among, are_distinct, is_well_formed, all_alternatives, defined, IsWellFormed}
+use Rattle.rdx_lang.specs.declared.pattern.Ref.{Ref}
+use Rattle.rdx_lang.specs.declared.pattern.Ref.TheVariants.{Nt}
+use Rattle.rdx_grammar.specs.Checks.{bad_names, bad_patterns}
+use Rattle.rdx_grammar.specs.Languages.{GrammarForm, form_stands, names_of, names_by, names_in, all_names, ref_text, heads, redefined, added, alternatives, defined_by, definitions_of, extended, language_over}
+use Rattle.rdx_grammar.specs.Parts.{text_of, Definition, definition_in}
+use Rattle.rdx_grammar.specs.Reading.{reading}
+use Rattle.rdx_grammar.specs.Refusal.{Refusal, or_else}
+use Rattle.rdx_grammar.specs.Refused.{refusal_over, unbuilt_at, shape_at, duplicate_at, bad_name_at, bad_pattern_at}
+use Rattle.rdx_grammar.specs.declared.patterns.Position.TheVariants.{Grammar as InGrammar}
+use Rattle.rdx_grammar.proofs.Booleans.{or_true}
+use Rattle.rdx_grammar.proofs.ExtendedNames.{Within, is_among-append, heads-append, Within-old, Within-new, are_distinct-extended}
+use Rattle.rdx_grammar.proofs.ExtendedPatterns.{is_well_formed-within, all_alternatives-within, all_alternatives-definitions, all_alternatives-extended}
+use Rattle.rdx_grammar.proofs.FormNonterminals.{nonterminals_in-definitions}
+use Rattle.rdx_grammar.proofs.Repeated.{are_distinct-nonterminals}
+use Rattle.rdx_grammar.proofs.WellRead.{reading_wf}
+
+-- ---- the heads of definitions
+
+-- the nonterminals of these names
+abbrev refs : List (List ℕ) → List Ref
+refs xs = map (λ x. Nt x) xs
+
+-- of two lists of names
+refs-append : (xs ys : List (List ℕ)) → refs (xs ++ ys) ≡ refs xs ++ refs ys
+refs-append [] ys = refl
+refs-append (x ∷ xs) ys = ap (λ (z : List Ref). Nt x ∷ z) (refs-append xs ys)
+
+-- of the definitions of several names
+heads_of_names : (base : Language) (ns : List (List ℕ)) (es ds : List Sexp) → heads (map (λ e. (Nt (text_of e), alternatives base ns (text_of e) ds)) es) ≡ refs (map text_of es)
+heads_of_names base ns [] ds = refl
+heads_of_names base ns (e ∷ es) ds = ap (λ (x : List Ref). Nt (text_of e) ∷ x) (heads_of_names base ns es ds)
+
+-- of those of a definition
+heads-defined_by : (base : Language) (ns : List (List ℕ)) (o : Option Definition) → heads (defined_by base ns o) ≡ refs (names_by o)
+heads-defined_by base ns None = refl
+heads-defined_by base ns (Some def) = heads_of_names base ns def.names def.alternatives
+
+-- they are the nonterminals that are defined
+pub heads-definitions_of : (base : Language) (ns : List (List ℕ)) (ds : List Sexp) → heads (definitions_of base ns ds) ≡ refs (names_in ds)
+heads-definitions_of base ns [] = refl
+heads-definitions_of base ns (d ∷ ds) =
+    heads-append (defined_by base ns (definition_in d)) (definitions_of base ns ds)
+    ∙ ap (λ (x : List Ref). x ++ heads (definitions_of base ns ds)) (heads-defined_by base ns (definition_in d))
+    ∙ ap (λ (x : List Ref). refs (names_by (definition_in d)) ++ x) (heads-definitions_of base ns ds)
+    ∙ sym (refs-append (names_by (definition_in d)) (names_in ds))
+
+-- ---- the names that patterns may have
+
+-- of two lists of nonterminals
+texts-append : (xs ys : List Ref) → map ref_text (xs ++ ys) ≡ map ref_text xs ++ map ref_text ys
+texts-append [] ys = refl
+texts-append (x ∷ xs) ys = ap (λ (z : List (List ℕ)). ref_text x ∷ z) (texts-append xs ys)
+
+-- of nonterminals of these names
+texts-refs : (xs : List (List ℕ)) → map ref_text (refs xs) ≡ xs
+texts-refs [] = refl
+texts-refs (x ∷ xs) = ap (λ (z : List (List ℕ)). x ∷ z) (texts-refs xs)
+
+-- of all nonterminals of a form
+pub all_names-texts : (base : Language) (ds : List Sexp) → map ref_text (defined base ++ refs (names_in ds)) ≡ all_names base ds
+all_names-texts base ds = texts-append (defined base) (refs (names_in ds)) ∙ ap (λ (z : List (List ℕ)). names_of base ++ z) (texts-refs (names_in ds))
+
+-- what is read in a grammar is well formed over more nonterminals
+reading_within : (base : Language) (ds : List Sexp) (ys : List Ref) → Within (defined base ++ refs (names_in ds)) ys → (d : Sexp) → is_well_formed ys (reading (all_names base ds) InGrammar d) ≡ true
+reading_within base ds ys w d =
+    is_well_formed-within (defined base ++ refs (names_in ds)) ys w (reading (all_names base ds) InGrammar d)
+    (ap (λ (ns : List (List ℕ)). is_well_formed (defined base ++ refs (names_in ds)) (reading ns InGrammar d)) (sym (all_names-texts base ds)) ∙ reading_wf (defined base ++ refs (names_in ds)) InGrammar d)
+
+-- those of two lists are among others if those of each are
+Within-both : (xs ys zs : List Ref) → Within xs zs → Within ys zs → Within (xs ++ ys) zs
+Within-both xs ys zs f g x e = or_true (is_defined_among x xs) (is_defined_among x ys) (is_defined_among x zs ≡ true) (sym (is_among-append x xs ys) ∙ e) (f x) (g x)
+
+-- ---- what the checks pass
+
+-- the second of two that don't refuse
+second_none : {A : Type 0} (o p : Option A) → or_else o p ≡ None → p ≡ None
+second_none None p e = e
+second_none (Some x) p e = absurd cc
+
+-- and the first
+first_none : {A : Type 0} (o p : Option A) → or_else o p ≡ None → o ≡ None
+first_none None p e = refl
+first_none (Some x) p e = absurd cc
+
+-- the names that the form defines are distinct
+are_distinct-names : (base : Language) (d : Sexp) (g : GrammarForm) → refusal_over base d (Some g) ≡ None → are_distinct (refs (names_in g.definitions)) ≡ true
+are_distinct-names base d g e =
+    let ss = form_stands d (Some g) in
+    let f = second_none (unbuilt_at d) _ e in
+    let h = second_none (shape_at ss) _ f in
+    let k : duplicate_at ss ≡ None = first_none (duplicate_at ss) _ h in
+    ap (λ (xs : List (List ℕ)). are_distinct (refs xs)) (sym (nonterminals_in-definitions g.definitions)) ∙ are_distinct-nonterminals ss k
+
+-- the language of a form that the checks pass is well formed
+pub IsWellFormed-language_over : (base : Language) (d : Sexp) (g : GrammarForm) → IsWellFormed base → refusal_over base d (Some g) ≡ None → IsWellFormed (language_over base g)
+IsWellFormed-language_over base d g w e =
+    let ns = all_names base g.definitions in
+    let old = base.nonterminals in
+    let new = definitions_of base ns g.definitions in
+    let h : heads new ≡ refs (names_in g.definitions) = heads-definitions_of base ns g.definitions in
+    let zs = heads (map (redefined new) old ++ added old new) in
+    let within : Within (heads new) zs = Within-new old new in
+    let both : Within (defined base ++ refs (names_in g.definitions)) zs = Within-both (defined base) (refs (names_in g.definitions)) zs (Within-old old new) (subst (λ (xs : List Ref). Within xs zs) h within) in
+    let o : all_alternatives (is_well_formed zs) old ≡ true = all_alternatives-within (defined base) zs (Within-old old new) old w.well_formed in
+    let n : all_alternatives (is_well_formed zs) new ≡ true = all_alternatives-definitions (is_well_formed zs) base ns o (reading_within base g.definitions zs both) g.definitions in
+    record {
+      distinct = are_distinct-extended old new w.distinct (ap are_distinct h ∙ are_distinct-names base d g e);
+      well_formed = all_alternatives-extended (is_well_formed zs) old new o n;
+    }

@@ -1,0 +1,19 @@
+use Rattle.std.proofs.Common.{◌≡◌, Some, arith}
+use Rattle.std.proofs.lemmas.Grind.{common_steps}
+use Rattle.rdx_grammar.specs.PartViews as views
+use Rattle.rdx_grammar.specs.Parts.{definition_in}
+use Rattle.rdx_grammar.proofs.DefinitionNames.{AreNamed-definition}
+use Rattle.rdx_grammar.proofs.Rests.{names-at}
+use Rattle.rdx_grammar.proofs.definitions.read_definitions.Goals as goal
+
+pub add_definition-requires-clause-named : goal.add_definition-requires-clause-named
+add_definition-requires-clause-named c =
+    let h = names-at c.args.definitions.now c.loop-d.d-index c.d-item.result c.loop-d-test.true c.d-item.is c.loop-d.invariant.named in
+    let e : Some (views.definition_of c.in-Some.definition) ≡ definition_in c.d-item.result = grind (arith, common_steps) in
+    (AreNamed-definition c.d-item.result (views.definition_of c.in-Some.definition) e h.0).0
+
+pub add_definition-requires-clause-alternatives : goal.add_definition-requires-clause-alternatives
+add_definition-requires-clause-alternatives c =
+    let h = names-at c.args.definitions.now c.loop-d.d-index c.d-item.result c.loop-d-test.true c.d-item.is c.loop-d.invariant.named in
+    let e : Some (views.definition_of c.in-Some.definition) ≡ definition_in c.d-item.result = grind (arith, common_steps) in
+    (AreNamed-definition c.d-item.result (views.definition_of c.in-Some.definition) e h.0).1

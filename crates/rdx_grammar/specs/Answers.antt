@@ -1,0 +1,39 @@
+-- What the readers answer.
+use Rattle.std.specs.Prelude.{◌≡◌, ℕ, List, Option, Some, None, option_map, Result, Ok, Err}
+use Rattle.std.specs.Rc.{rc_str_bytes}
+use Rattle.rdx_sexp.specs.Sexp.{Sexp}
+use Rattle.rdx_lang.specs.Checked.{language_in, pattern_in}
+use Rattle.rdx_lang.specs.Patterns.{Language}
+use Rattle.rdx_lang.specs.declared.checked.CheckedLang.{CheckedLang}
+use Rattle.rdx_lang.specs.declared.checked.CheckedPat.{CheckedPat}
+use Rattle.rdx_grammar.specs.Languages.{GrammarForm, names_of}
+use Rattle.rdx_grammar.specs.Reading.{reading}
+use Rattle.rdx_grammar.specs.Refusal.{Refusal}
+use Rattle.rdx_grammar.specs.Refused.{IsLanguage, IsRefused, pattern_refusal}
+use Rattle.rdx_grammar.specs.declared.fault.DefFault.{DefFault}
+use Rattle.rdx_grammar.specs.declared.fault.DefFault.TheVariants.{Refused, NoMemory}
+use Rattle.rdx_grammar.specs.declared.fault.DefRefusal.{DefRefusal}
+use Rattle.rdx_grammar.specs.declared.patterns.Position.TheVariants.{Query}
+
+-- the refusal that a refusal of the code stands for
+abbrev pub refusal_of : DefRefusal → Refusal
+refusal_of r = record { kind = r.kind; place = r.place; name = option_map rc_str_bytes r.name }
+
+-- the form is refused so, unless memory ran out
+abbrev pub IsFaultOf : Language → Sexp → Option GrammarForm → DefFault → Type 0
+IsFaultOf base d g (Refused r) = IsRefused base d g (refusal_of r)
+IsFaultOf base d g NoMemory = Unit {0}
+
+-- the form is this language, or it is refused so
+abbrev pub ReadsForm : Language → Sexp → Option GrammarForm → Result CheckedLang DefFault → Type 0
+ReadsForm base d g (Ok c) = IsLanguage base d g (language_in c)
+ReadsForm base d g (Err e) = IsFaultOf base d g e
+
+abbrev pub IsPatternFault : List (List ℕ) → Sexp → DefFault → Type 0
+IsPatternFault ns d (Refused r) = pattern_refusal ns d ≡ Some (refusal_of r)
+IsPatternFault ns d NoMemory = Unit {0}
+
+-- the datum is this pattern over these nonterminals, or it is refused so
+abbrev pub ReadsPattern : List (List ℕ) → Sexp → Result CheckedPat DefFault → Type 0
+ReadsPattern ns d (Ok c) = (pattern_refusal ns d ≡ None) × (pattern_in c ≡ reading ns Query d)
+ReadsPattern ns d (Err e) = IsPatternFault ns d e

@@ -1,0 +1,66 @@
+-- When a form is refused, and which language it is else.
+use Rattle.std.specs.Prelude.{◌≡◌, ℕ, Bool, List, [], ◌∷◌, Option, Some, None, option_map, if◌then◌else◌}
+use Rattle.rdx_sexp.specs.Sexp.{Sexp, span_of}
+use Rattle.rdx_lang.specs.Edges.{IsFree, IsFirstRecursive}
+use Rattle.rdx_lang.specs.Patterns.{Pattern, Language}
+use Rattle.rdx_lang.specs.declared.pattern.Ref.TheVariants.{Nt}
+use Rattle.rdx_grammar.specs.Checks.{shape_faults, repeats, bad_names, bad_patterns}
+use Rattle.rdx_grammar.specs.Languages.{GrammarForm, all_names, empty_language, form_stands, language_over, names_of}
+use Rattle.rdx_grammar.specs.Reading.{reading}
+use Rattle.rdx_grammar.specs.Refusal.{Refusal, unnamed, named, or_else, first}
+use Rattle.rdx_grammar.specs.Stands.{Stand, stands}
+use Rattle.rdx_grammar.specs.Unbuilt.{has_word_to_come}
+use Rattle.rdx_grammar.specs.declared.fault.DefKind.TheVariants.{Unbuilt, Shape, Duplicate, BadName, BadPattern, LeftRecursive}
+use Rattle.rdx_grammar.specs.declared.patterns.Position.TheVariants.{Query}
+
+-- ---- check by check: the first place at which each refuses
+
+-- a word of a form to come stands in the datum
+abbrev pub unbuilt_at : Sexp → Option Refusal
+unbuilt_at d = if has_word_to_come d then Some (unnamed Unbuilt d) else None
+
+abbrev pub shape_at : List Stand → Option Refusal
+shape_at ss = option_map (unnamed Shape) (first (shape_faults ss))
+
+abbrev pub duplicate_at : List Stand → Option Refusal
+duplicate_at ss = option_map (named Duplicate) (first (repeats [] ss))
+
+abbrev pub bad_name_at : List Stand → Option Refusal
+bad_name_at ss = option_map (named BadName) (first (bad_names ss))
+
+abbrev pub bad_pattern_at : Language → List (List ℕ) → List Stand → Option Refusal
+bad_pattern_at base ns ss = option_map (unnamed BadPattern) (first (bad_patterns base ns ss))
+
+-- ---- forms
+
+abbrev pub names_over : Language → Option GrammarForm → List (List ℕ)
+names_over base None = []
+names_over base (Some g) = all_names base g.definitions
+
+-- the check with the least number that refuses a form with these parts over a base, but for left recursion
+abbrev pub refusal_over : Language → Sexp → Option GrammarForm → Option Refusal
+refusal_over base d g =
+    or_else (unbuilt_at d) (or_else (shape_at (form_stands d g)) (or_else (duplicate_at (form_stands d g))
+    (or_else (bad_name_at (form_stands d g)) (bad_pattern_at base (names_over base g) (form_stands d g)))))
+
+abbrev pub recursion_at : Sexp → List ℕ → Refusal
+recursion_at d x = record { kind = LeftRecursive; place = (span_of d).start; name = Some x }
+
+-- a form is the language L
+pub record IsLanguage (base : Language) (d : Sexp) (g : Option GrammarForm) (L : Language) : Type 0 where
+  pub passes : refusal_over base d g ≡ None
+  pub parts : GrammarForm
+  pub are : g ≡ Some parts
+  pub reads : L ≡ language_over base parts
+  pub free : IsFree L
+
+-- a form is refused so
+pub data IsRefused (base : Language) (d : Sexp) (g : Option GrammarForm) (r : Refusal) : Type 0 where
+  by_check : refusal_over base d g ≡ Some r → IsRefused base d g r
+  by_recursion : (parts : GrammarForm) (x : List ℕ) → refusal_over base d g ≡ None → g ≡ Some parts → IsFirstRecursive (language_over base parts) (Nt x) → r ≡ recursion_at d x → IsRefused base d g r
+
+-- ---- patterns by themselves
+
+-- the check with the least number that refuses a pattern outside grammars, over these nonterminals
+abbrev pub pattern_refusal : List (List ℕ) → Sexp → Option Refusal
+pattern_refusal ns d = or_else (unbuilt_at d) (or_else (shape_at (stands d)) (or_else (bad_name_at (stands d)) (bad_pattern_at empty_language ns (stands d))))

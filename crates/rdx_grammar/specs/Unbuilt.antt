@@ -1,0 +1,38 @@
+-- Forms and words that are not built yet.
+use Rattle.std.specs.Prelude.{ℕ, Bool, true, false, not, ◌&&◌, ◌||◌, List, [], ◌∷◌, codes, bytes_eq, nat_eq}
+use Rattle.std.specs.List.{starts_with}
+use Rattle.rdx_sexp.specs.Sexp.{integer, truth, text, symbol, keyword, Atom, Sexp, Sexps, leaf, list, nil, cons}
+use Rattle.rdx_grammar.specs.Names.{is_one_of, begins_with_dots, is_inherited}
+
+-- the words that forms to come are written with
+abbrev pub words_to_come : List (List ℕ)
+words_to_come =
+    codes "hole" ∷ codes "in-hole" ∷ codes "hide-hole" ∷ codes "reduction-relation" ∷ codes "where" ∷ codes "unquote" ∷ codes "unquote-splicing"
+    ∷ codes "side-condition" ∷ codes "judgment-holds" ∷ codes "context-closure" ∷ codes "compatible-closure" ∷ codes "cross" ∷ codes "with"
+    ∷ codes "fresh" ∷ []
+
+-- y stands somewhere in x
+abbrev pub occurs_in : List ℕ → List ℕ → Bool
+occurs_in y [] = starts_with nat_eq [] y
+occurs_in y (b ∷ x) = starts_with nat_eq (b ∷ x) y || occurs_in y x
+
+-- a form to come gives the symbol a meaning: a word, an ellipsis, or a mismatch name
+abbrev pub is_word_to_come : List ℕ → Bool
+is_word_to_come x = is_one_of words_to_come x || (begins_with_dots x && not (is_inherited x)) || (occurs_in (codes "_!_") x && not (begins_with_dots x))
+
+abbrev pub is_atom_to_come : Atom → Bool
+is_atom_to_come (integer n) = false
+is_atom_to_come (truth b) = false
+is_atom_to_come (text t) = false
+is_atom_to_come (symbol x) = is_word_to_come x
+is_atom_to_come (keyword k) = bytes_eq k (codes "binding-forms")
+
+-- such a word stands in the datum, however deep
+abbrev mutual
+  pub has_word_to_come : Sexp → Bool
+  has_word_to_come (leaf a s) = is_atom_to_come a
+  has_word_to_come (list ds s) = have_word_to_come ds
+
+  pub have_word_to_come : Sexps → Bool
+  have_word_to_come nil = false
+  have_word_to_come (cons d ds) = has_word_to_come d || have_word_to_come ds

@@ -1,0 +1,36 @@
+//! Languages and patterns from data.
+//!
+//! A form `(define-language L def ...)` gives a language, and `(define-extended-language L L0 def ...)` one that extends another. A
+//! definition is `(e p ...)`, `((e f ...) p ...)` or `(e f ... ::= p ...)`, with at least one pattern, and where several names stand,
+//! each has all the alternatives. What forms and patterns mean follows the Redex reference manual ("Languages" and "Patterns").
+//!
+//! A reader gives what the form means, or refuses the form at the first place of the check with the least number that refuses it. Each
+//! check is a definition of its own in `specs/Checks.antt`, over the list of what stands in a form (`specs/Stands.antt`); what forms mean
+//! is in `specs/Reading.antt` and `specs/Languages.antt`, and `specs/Refused.antt` puts both together.
+#![tactic(auto)]
+
+mod bases;
+mod checks;
+mod copies;
+mod definition_stands;
+mod definitions;
+mod extension;
+mod fault;
+mod form_parts;
+mod heads;
+mod languages;
+mod names;
+mod nonterminals;
+mod parts;
+mod pattern_checks;
+mod patterns;
+mod readings;
+mod recursion;
+mod refusal;
+mod stands;
+mod texts_of;
+mod unbuilt;
+
+pub use fault::{DefFault, DefKind, DefRefusal};
+pub use languages::{extend, read_language};
+pub use patterns::read_pattern;

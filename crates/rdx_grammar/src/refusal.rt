@@ -1,0 +1,124 @@
+// Why a form or a pattern is refused.
+ghost use Rattle.std.specs.Prelude.{◌≡◌, IfOk, map, option_map};
+ghost use Rattle.rdx_grammar.specs.Answers.{refusal_of};
+ghost use Rattle.rdx_grammar.specs.BaseView.{base_in};
+ghost use Rattle.rdx_grammar.specs.PartViews.{parts_of};
+ghost use Rattle.rdx_grammar.specs.Refusal as places;
+ghost use Rattle.rdx_grammar.specs.Refused as model;
+ghost use Rattle.rdx_grammar.specs.StandView.{stands_of};
+
+use crate::checks::{first_bad_name, first_repeated, first_shape_fault};
+use crate::definition_stands::{form_stands, pattern_stands};
+use crate::form_parts::FormParts;
+use crate::parts::text;
+use crate::pattern_checks::first_bad_pattern;
+use crate::stands::Stand;
+use crate::texts_of::{all_texts, texts};
+use crate::unbuilt::has_word_to_come;
+use crate::{DefKind, DefRefusal};
+use rdx_lang::CheckedLang;
+use rdx_sexp::Datum;
+use rdx_term::{Name, NoMemory};
+use std::alloc::Global;
+use std::rc::RcStr;
+
+// A refusal at a datum, without a name.
+fn unnamed(kind: DefKind, d: &Datum) -> DefRefusal
+    ensures { refusal_of result ≡ places.unnamed kind d.now }
+{
+    DefRefusal {
+        kind,
+        place: d.span.start,
+        name: None,
+    }
+}
+
+// A refusal at a symbol, by its name.
+fn named(alloc: Global, kind: DefKind, d: &Datum) -> Result<DefRefusal, NoMemory>
+    ensures { IfOk result (λ r. refusal_of r ≡ places.named kind d.now) }
+{
+    let name = RcStr::from_str(alloc, text(d))?;
+    Ok(DefRefusal {
+        kind,
+        place: d.span.start,
+        name: Some(name),
+    })
+}
+
+// The nonterminals of a form with these parts.
+fn names_over<'a>(
+    alloc: Global,
+    base: Option<&'a CheckedLang>,
+    parts: Option<FormParts<'a>>,
+) -> Result<Vec<&'a str>, NoMemory>
+    ensures { IfOk result (λ names. map (λ x. x.now) names.items ≡ model.names_over (base_in (option_map (λ c. c.now) base.entry)) (option_map parts_of parts.entry)) }
+{
+    match parts {
+        None => Ok(Vec::new(alloc)),
+        Some(parts) => all_texts(alloc, base, parts.definitions),
+    }
+}
+
+// The refusal by names among what stands in a form, if one refuses it.
+fn refuse_names(alloc: Global, found: &[Stand]) -> Result<Option<DefRefusal>, NoMemory>
+    ensures { IfOk result (λ r. option_map refusal_of r ≡ places.or_else (model.duplicate_at (stands_of found.now)) (model.bad_name_at (stands_of found.now))) }
+{
+    if let Some(d) = first_repeated(found) {
+        return Ok(Some(named(alloc, DefKind::Duplicate, d)?));
+    }
+    if let Some(d) = first_bad_name(found) {
+        return Ok(Some(named(alloc, DefKind::BadName, d)?));
+    }
+    Ok(None)
+}
+
+/// The refusal by the check with the least number that refuses a form with these parts over a base, but for left recursion.
+pub(crate) fn refuse_form(
+    alloc: Global,
+    base: Option<&CheckedLang>,
+    form: &Datum,
+    parts: Option<FormParts<'_>>,
+) -> Result<Option<DefRefusal>, NoMemory>
+    ensures { IfOk result (λ r. option_map refusal_of r ≡ model.refusal_over (base_in (option_map (λ c. c.now) base.entry)) form.now (option_map parts_of parts.entry)) }
+{
+    if has_word_to_come(form) {
+        return Ok(Some(unnamed(DefKind::Unbuilt, form)));
+    }
+    let found = form_stands(alloc, form, parts)?;
+    if let Some(d) = first_shape_fault(&found) {
+        return Ok(Some(unnamed(DefKind::Shape, d)));
+    }
+    if let Some(refusal) = refuse_names(alloc, &found)? {
+        return Ok(Some(refusal));
+    }
+    let names = names_over(alloc, base, parts)?;
+    if let Some(d) = first_bad_pattern(base, &names, &found) {
+        return Ok(Some(unnamed(DefKind::BadPattern, d)));
+    }
+    Ok(None)
+}
+
+/// The refusal by the check with the least number that refuses a pattern outside grammars, over these nonterminals.
+pub(crate) fn refuse_pattern(
+    alloc: Global,
+    names: &[Name],
+    d: &Datum,
+) -> Result<Option<DefRefusal>, NoMemory>
+    ensures { IfOk result (λ r. option_map refusal_of r ≡ model.pattern_refusal names.now d.now) }
+{
+    if has_word_to_come(d) {
+        return Ok(Some(unnamed(DefKind::Unbuilt, d)));
+    }
+    let found = pattern_stands(alloc, d)?;
+    if let Some(d) = first_shape_fault(&found) {
+        return Ok(Some(unnamed(DefKind::Shape, d)));
+    }
+    if let Some(d) = first_bad_name(&found) {
+        return Ok(Some(named(alloc, DefKind::BadName, d)?));
+    }
+    let texts = texts(alloc, names)?;
+    if let Some(d) = first_bad_pattern(None, &texts, &found) {
+        return Ok(Some(unnamed(DefKind::BadPattern, d)));
+    }
+    Ok(None)
+}

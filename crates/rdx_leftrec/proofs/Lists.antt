@@ -1,0 +1,105 @@
+-- Lists and their places.
+use Rattle.std.proofs.Common.{◌≡◌, ℕ, zero, suc, ◌<◌, List, [], ◌∷◌, ◌++◌, length, get_or, take, drop, map, refl, sym, ◌∙◌, ap, ◌⊎◌, inl, inr, arith}
+use Rattle.rdx_lang.specs.Members.{In, here, there}
+
+-- x stands at the place i
+abbrev pub At : {A : Type 0} → List A → ℕ → A → Type 0
+At [] i x = ⊥
+At (y ∷ ys) zero x = x ≡ y
+At (y ∷ ys) (suc i) x = At ys i x
+
+-- what is read at a place stands there
+pub at_read : {A : Type 0} (xs : List A) (i : ℕ) (x : A) → i < length xs → x ≡ get_or xs i x → At xs i x
+at_read [] i x h e = absurd (omega arith)
+at_read (y ∷ ys) zero x h e = e
+at_read (y ∷ ys) (suc i) x h e = at_read ys i x (omega arith) e
+
+-- what is made of it stands there among what is made of all
+pub at_mapped : {A B : Type 0} (f : A → B) (xs : List A) (i : ℕ) (x : A) → i < length xs → x ≡ get_or xs i x → At (map f xs) i (f x)
+at_mapped f [] i x h e = absurd (omega arith)
+at_mapped f (y ∷ ys) zero x h e = ap f e
+at_mapped f (y ∷ ys) (suc i) x h e = at_mapped f ys i x (omega arith) e
+
+-- something stands at each place
+pub at_inside : {A : Type 0} (xs : List A) (i : ℕ) → i < length xs → (x : A) × At xs i x
+at_inside [] i h = absurd (omega arith)
+at_inside (y ∷ ys) zero h = (y, refl)
+at_inside (y ∷ ys) (suc i) h = at_inside ys i (omega arith)
+
+-- where something stands is a place
+pub at-length : {A : Type 0} (xs : List A) (i : ℕ) (x : A) → At xs i x → i < length xs
+at-length [] i x h = absurd h
+at-length (y ∷ ys) zero x h = omega arith
+at-length (y ∷ ys) (suc i) x h = let k = at-length ys i x h in omega arith
+
+-- what stands at a place is a member
+pub at-in : {A : Type 0} (xs : List A) (i : ℕ) (x : A) → At xs i x → In x xs
+at-in [] i x h = absurd h
+at-in (y ∷ ys) zero x h = here h
+at-in (y ∷ ys) (suc i) x h = there (at-in ys i x h)
+
+-- a member stands at a place
+pub in-at : {A : Type 0} (xs : List A) (x : A) → In x xs → (i : ℕ) × At xs i x
+in-at [] x h = elim h [ ]
+in-at (y ∷ ys) x (here e) = (0, e)
+in-at (y ∷ ys) x (there h) = let k : (i : ℕ) × At ys i x = in-at ys x h in (suc k.0, k.1)
+
+-- one thing stands at a place
+pub at_same : {A : Type 0} (xs : List A) (i : ℕ) (x y : A) → At xs i x → At xs i y → x ≡ y
+at_same [] i x y h k = absurd h
+at_same (z ∷ zs) zero x y h k = h ∙ sym k
+at_same (z ∷ zs) (suc i) x y h k = at_same zs i x y h k
+
+-- what is made of it stands at its place
+pub at-map : {A B : Type 0} (f : A → B) (xs : List A) (i : ℕ) (x : A) (d : B) → At xs i x → get_or (map f xs) i d ≡ f x
+at-map f [] i x d h = absurd h
+at-map f (y ∷ ys) zero x d h = ap f (sym h)
+at-map f (y ∷ ys) (suc i) x d h = at-map f ys i x d h
+
+-- what stands before and behind a place
+pub at-split : {A : Type 0} (xs : List A) (i : ℕ) (x : A) → At xs i x → xs ≡ take i xs ++ x ∷ drop (suc i) xs
+at-split [] i x h = absurd h
+at-split (y ∷ ys) zero x h = ap (λ z. z ∷ ys) (sym h)
+at-split (y ∷ ys) (suc i) x h = ap (λ zs. y ∷ zs) (at-split ys i x h)
+
+-- a member of the front stands at a place in it
+pub in-take : {A : Type 0} (xs : List A) (i : ℕ) (x : A) → In x (take i xs) → (k : ℕ) × (k < i) × At xs k x
+in-take xs zero x h = elim h [ ]
+in-take [] (suc i) x h = elim h [ ]
+in-take (y ∷ ys) (suc i) x (here e) = (0, omega arith, e)
+in-take (y ∷ ys) (suc i) x (there h) = let k : (k : ℕ) × (k < i) × At ys k x = in-take ys i x h in (suc k.0, let l : k.0 < i = k.1 in omega arith, k.2)
+
+-- a member of a list of images is the image of a member
+pub in-map : {A B : Type 0} (f : A → B) (xs : List A) (y : B) → In y (map f xs) → (x : A) × In x xs × (y ≡ f x)
+in-map f [] y h = elim h [ ]
+in-map f (x ∷ xs) y (here e) = (x, here refl, e)
+in-map f (x ∷ xs) y (there h) = let k = in-map f xs y h in (k.0, there k.1, k.2)
+
+-- the image of a member is a member of the images
+pub map-in : {A B : Type 0} (f : A → B) (xs : List A) (x : A) → In x xs → In (f x) (map f xs)
+map-in f [] x h = elim h [ ]
+map-in f (y ∷ ys) x (here e) = here (ap f e)
+map-in f (y ∷ ys) x (there h) = there (map-in f ys x h)
+
+-- a member of two lists together is one of either
+pub in-append : {A : Type 0} (xs ys : List A) (x : A) → In x (xs ++ ys) → In x xs ⊎ In x ys
+in-append [] ys x h = inr h
+in-append (z ∷ xs) ys x (here e) = inl (here e)
+in-append (z ∷ xs) ys x (there h) = elim (in-append xs ys x h) [ inl l ↦ inl (there l) | inr r ↦ inr r ]
+
+-- a member of the first is one of both together
+pub append-left : {A : Type 0} (xs ys : List A) (x : A) → In x xs → In x (xs ++ ys)
+append-left [] ys x h = elim h [ ]
+append-left (z ∷ xs) ys x (here e) = here e
+append-left (z ∷ xs) ys x (there h) = there (append-left xs ys x h)
+
+-- a member of the second is one of both together
+pub append-right : {A : Type 0} (xs ys : List A) (x : A) → In x ys → In x (xs ++ ys)
+append-right [] ys x h = h
+append-right (z ∷ xs) ys x h = there (append-right xs ys x h)
+
+-- what is read at a place is a member
+pub read-in : {A : Type 0} (xs : List A) (i : ℕ) (d : A) → i < length xs → In (get_or xs i d) xs
+read-in [] i d h = absurd (omega arith)
+read-in (y ∷ ys) zero d h = here refl
+read-in (y ∷ ys) (suc i) d h = there (read-in ys i d (omega arith))

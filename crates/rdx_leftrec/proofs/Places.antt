@@ -1,0 +1,131 @@
+-- Nonterminals and their places, where none comes twice.
+use Rattle.std.proofs.Common.{◌≡◌, ℕ, zero, suc, Bool, true, false, List, [], ◌∷◌, map, refl, sym, ap, subst, ◌⊎◌, inl, inr, if◌then◌else◌}
+use Rattle.std.specs.Prelude.{not, ◌||◌}
+use Rattle.std.specs.Cmp.{first_so, second_so}
+use Rattle.std.specs.Cmp.Lexicographic.{bytes_decides}
+use Rattle.rdx_lang.specs.Lookup.{alternatives_among, alternatives_of}
+use Rattle.rdx_lang.specs.Members.{In, here, there}
+use Rattle.rdx_lang.specs.Patterns.{Pattern, wild, of_kind, except, prefix, lit, nt, named, seq, Definition, Language}
+use Rattle.rdx_lang.specs.Rules.{IsAlternative}
+use Rattle.rdx_lang.specs.WellFormed.{is_same, is_among, are_distinct, is_well_formed, all_patterns, all_alternatives}
+use Rattle.rdx_lang.specs.declared.pattern.Ref.{Ref}
+use Rattle.rdx_lang.specs.declared.pattern.Ref.TheVariants.{Nt}
+use Rattle.rdx_leftrec.specs.Leads.{leads, all_leads, place}
+use Rattle.rdx_leftrec.proofs.Lists.{At, in-append, append-left, append-right}
+
+-- the nonterminals of definitions
+abbrev pub names_of : List Definition → List Ref
+names_of ds = map (λ d. d.0) ds
+
+-- what is the same is equal
+is_same-equal : (x y : Ref) → is_same x y ≡ true → x ≡ y
+is_same-equal (Nt x) (Nt y) h = ap Nt ((bytes_decides x y).0 h)
+
+-- equals are the same
+equal-is_same : (x y : Ref) → x ≡ y → is_same x y ≡ true
+equal-is_same (Nt x) (Nt y) h = (bytes_decides x y).1 cc
+
+-- what its second part makes true
+or_right : (a b : Bool) → b ≡ true → (a || b) ≡ true
+or_right true b h = refl
+or_right false b h = h
+
+-- what its first part makes true
+or_left : (a b : Bool) → a ≡ true → (a || b) ≡ true
+or_left true b h = refl
+or_left false b h = absurd cc
+
+-- what is not so is not true
+not_true : (a : Bool) → not a ≡ true → a ≡ true → ⊥
+not_true true h k = absurd cc
+not_true false h k = absurd cc
+
+-- a nonterminal with a definition is among those of the definitions
+among-at : (ds : List Definition) (i : ℕ) (d : Definition) → At ds i d → is_among d.0 (names_of ds) ≡ true
+among-at [] i d h = absurd h
+among-at (c ∷ ds) zero d h = or_left (is_same d.0 c.0) (is_among d.0 (names_of ds)) (equal-is_same d.0 c.0 (ap (λ (e : Definition). e.0) h))
+among-at (c ∷ ds) (suc i) d h = or_right (is_same d.0 c.0) (is_among d.0 (names_of ds)) (among-at ds i d h)
+
+-- the place of a nonterminal is where it is defined
+pub place-at : (ds : List Definition) (i : ℕ) (d : Definition) → are_distinct (names_of ds) ≡ true → At ds i d → place d.0 (names_of ds) ≡ i
+place-at [] i d w h = absurd h
+place-at (c ∷ ds) zero d w h = by_test (is_same d.0 c.0) (equal-is_same d.0 c.0 (ap (λ (e : Definition). e.0) h))
+  where
+    by_test : (s : Bool) → s ≡ true → (if s then 0 else suc (place d.0 (names_of ds))) ≡ 0
+    by_test true e = refl
+    by_test false e = absurd cc
+place-at (c ∷ ds) (suc i) d w h = by_test (is_same d.0 c.0) refl (place-at ds i d (second_so (not (is_among c.0 (names_of ds))) (are_distinct (names_of ds)) w) h)
+  where
+    alone : d.0 ≡ c.0 → ⊥
+    alone e =
+        not_true (is_among c.0 (names_of ds)) (first_so (not (is_among c.0 (names_of ds))) (are_distinct (names_of ds)) w)
+        (subst (λ (x : Ref). is_among x (names_of ds) ≡ true) e (among-at ds i d h))
+
+    by_test : (s : Bool) → is_same d.0 c.0 ≡ s → place d.0 (names_of ds) ≡ i → (if s then 0 else suc (place d.0 (names_of ds))) ≡ suc i
+    by_test true e k = absurd (alone (is_same-equal d.0 c.0 e))
+    by_test false e k = ap suc k
+
+-- a nonterminal among those of the definitions is defined at its place
+pub at-place : (ds : List Definition) (x : Ref) → is_among x (names_of ds) ≡ true → (d : Definition) × At ds (place x (names_of ds)) d × (x ≡ d.0)
+at-place [] x h = absurd cc
+at-place (c ∷ ds) x h = by_test (is_same x c.0) refl h (at-place ds x)
+  where
+    by_test : (s : Bool) → is_same x c.0 ≡ s → (s || is_among x (names_of ds)) ≡ true
+        → (is_among x (names_of ds) ≡ true → (d : Definition) × At ds (place x (names_of ds)) d × (x ≡ d.0))
+        → (d : Definition) × At (c ∷ ds) (if s then 0 else suc (place x (names_of ds))) d × (x ≡ d.0)
+    by_test true e k f = (c, refl, is_same-equal x c.0 e)
+    by_test false e k f = f k
+
+-- where all patterns of a list pass, each does
+all_patterns-in : (test : Pattern → Bool) (ps : List Pattern) (p : Pattern) → all_patterns test ps ≡ true → In p ps → test p ≡ true
+all_patterns-in test [] p h i = elim i [ ]
+all_patterns-in test (q ∷ ps) p h (here e) = subst (λ (r : Pattern). test r ≡ true) (sym e) (first_so (test q) (all_patterns test ps) h)
+all_patterns-in test (q ∷ ps) p h (there i) = all_patterns-in test ps p (second_so (test q) (all_patterns test ps) h) i
+
+-- where all alternatives pass, each does
+pub all_alternatives-in : (test : Pattern → Bool) (ds : List Definition) (d : Definition) (p : Pattern) → all_alternatives test ds ≡ true → In d ds → In p d.1 → test p ≡ true
+all_alternatives-in test [] d p h i j = elim i [ ]
+all_alternatives-in test (c ∷ ds) d p h (here e) j =
+    all_patterns-in test c.1 p (first_so (all_patterns test c.1) (all_alternatives test ds) h) (subst (λ (ps : List Pattern). In p ps) (ap (λ (b : Definition). b.1) e) j)
+all_alternatives-in test (c ∷ ds) d p h (there i) j = all_alternatives-in test ds d p (second_so (all_patterns test c.1) (all_alternatives test ds) h) i j
+
+-- a well-formed pattern leads to nonterminals that are there
+pub leads-among : (xs : List Ref) (p : Pattern) (z : Ref) → is_well_formed xs p ≡ true → In z (leads p) → is_among z xs ≡ true
+leads-among xs wild z h i = elim i [ ]
+leads-among xs (of_kind k) z h i = elim i [ ]
+leads-among xs (except rs) z h i = elim i [ ]
+leads-among xs (prefix r) z h i = elim i [ ]
+leads-among xs (lit u) z h i = elim i [ ]
+leads-among xs (nt x) z h (here e) = subst (λ (y : Ref). is_among y xs ≡ true) (sym e) h
+leads-among xs (nt x) z h (there i) = elim i [ ]
+leads-among xs (named x q) z h i = leads-among xs q z h i
+leads-among xs (seq ps) z h i = elim i [ ]
+
+-- what a list of patterns leads to, one of them does
+pub all_leads-in : (ps : List Pattern) (z : Ref) → In z (all_leads ps) → (p : Pattern) × In p ps × In z (leads p)
+all_leads-in [] z h = elim h [ ]
+all_leads-in (p ∷ ps) z h = of_either (in-append (leads p) (all_leads ps) z h) (all_leads-in ps z)
+  where
+    of_either : In z (leads p) ⊎ In z (all_leads ps) → (In z (all_leads ps) → (q : Pattern) × In q ps × In z (leads q)) → (q : Pattern) × In q (p ∷ ps) × In z (leads q)
+    of_either (inl l) f = (p, here refl, l)
+    of_either (inr r) f = let k = f r in (k.0, there k.1, k.2)
+
+-- what one of them leads to, the list does
+pub in-all_leads : (ps : List Pattern) (p : Pattern) (z : Ref) → In p ps → In z (leads p) → In z (all_leads ps)
+in-all_leads [] p z h i = elim h [ ]
+in-all_leads (q ∷ ps) p z (here e) i = append-left (leads q) (all_leads ps) z (subst (λ (r : Pattern). In z (leads r)) e i)
+in-all_leads (q ∷ ps) p z (there h) i = append-right (leads q) (all_leads ps) z (in-all_leads ps p z h i)
+
+-- what is looked up among definitions is in one of them
+looked_up : (ds : List Definition) (x : Ref) (p : Pattern) → In p (alternatives_among ds x) → (all : List Pattern) × In (x, all) ds × In p all
+looked_up [] x p h = elim h [ ]
+looked_up (d ∷ ds) x p h = by_test (is_same x d.0) refl (looked_up ds x p) h
+  where
+    by_test : (s : Bool) → is_same x d.0 ≡ s → (In p (alternatives_among ds x) → (all : List Pattern) × In (x, all) ds × In p all) → In p (if s then d.1 else alternatives_among ds x)
+        → (all : List Pattern) × In (x, all) (d ∷ ds) × In p all
+    by_test true e f i = let n : x ≡ d.0 = is_same-equal x d.0 e in (d.1, here (λ j. (n j, d.1)), i)
+    by_test false e f i = let k = f i in (k.0, there k.1, k.2)
+
+-- what is looked up is an alternative
+pub alternatives_of-alternative : (L : Language) (x : Ref) (p : Pattern) → In p (alternatives_of L x) → IsAlternative L x p
+alternatives_of-alternative L x p h = let k = looked_up L.nonterminals x p h in record { all = k.0; defined = k.1; among = k.2 }

@@ -1,0 +1,6 @@
+pub mod Answers
+pub mod Leads
+pub mod Reach
+pub mod Marking
+pub mod Numbers
+pub mod Preorder

@@ -1,0 +1,9 @@
+pub mod Inserting
+pub mod Joins
+pub mod Collecting
+pub mod Keys
+pub mod Measures
+pub mod ItemSizes
+pub mod AnyOf
+pub mod AtomListings
+pub mod RuleSteps

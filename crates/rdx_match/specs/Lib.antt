@@ -1,0 +1,4 @@
+pub mod Atoms
+pub mod Inserting
+pub mod Combining
+pub mod Searching

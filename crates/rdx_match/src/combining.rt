@@ -1,0 +1,86 @@
+// Joins of whole lists of bindings.
+ghost use Rattle.std.specs.Prelude.{◌≡◌, ◌∷◌, [], IfOk, OnOk};
+ghost use Rattle.rdx_lang.specs.Bindings.{one};
+ghost use Rattle.rdx_lang.specs.Join.{IsJoin};
+ghost use Rattle.rdx_lang.specs.Listing.{IsListing};
+ghost use Rattle.rdx_lang.specs.Order.{binding_cmp};
+ghost use Rattle.rdx_lang.specs.Shown.{binding_of, bindings_of};
+ghost use Rattle.rdx_term.specs.View.{tree_of};
+ghost use Rattle.rdx_match.specs.Combining.{Adds, JoinsWith, Joined, Named};
+
+use crate::joining::join;
+use crate::listing::listing;
+use rdx_lang::{Binding, Value};
+use rdx_term::{Name, NoMemory, Term};
+use std::alloc::Global;
+
+// Adds the join of the two, where they have one.
+fn add_join(
+    alloc: Global,
+    a: &Binding,
+    b: &Binding,
+    found: &mut Vec<Binding>,
+) -> Result<(), NoMemory>
+    ensures { OnOk result (Adds (IsJoin (binding_of a.now) (binding_of b.now)) (bindings_of found.old.items) (bindings_of found.new.items)) }
+{
+    if let Some(joined) = join(alloc, a, b)? {
+        found.push(joined)?;
+    }
+    Ok(())
+}
+
+// Adds each join of `first` with one of `others`.
+fn add_joins(
+    alloc: Global,
+    first: &Binding,
+    others: &[Binding],
+    found: &mut Vec<Binding>,
+) -> Result<(), NoMemory>
+    ensures { OnOk result (Adds (JoinsWith (bindings_of others.now) (binding_of first.now)) (bindings_of found.old.items) (bindings_of found.new.items)) }
+{
+    for other in others {
+        add_join(alloc, first, other, found)?;
+    }
+    Ok(())
+}
+
+/// The joins of each of `firsts` with each of `others`.
+pub fn joins(
+    alloc: Global,
+    firsts: &[Binding],
+    others: &[Binding],
+) -> Result<Vec<Binding>, NoMemory>
+    ensures { IfOk result (λ v. IsListing binding_cmp (bindings_of v.items) (Joined (bindings_of firsts.now) (bindings_of others.now))) }
+{
+    let mut found = Vec::new(alloc);
+    for first in firsts {
+        add_joins(alloc, first, others, &mut found)?;
+    }
+    listing(alloc, found)
+}
+
+// The binding with this one pair.
+fn one_pair(alloc: Global, name: &Name, t: &Term) -> Result<Binding, NoMemory>
+    ensures { IfOk result (λ b. binding_of b ≡ (name.now, one (tree_of t.now)) ∷ []) }
+{
+    let mut pairs = Vec::with_capacity(alloc, 1)?;
+    pairs.push((name.share()?, Value::One(t.share()?)))?;
+    Ok(Binding::new(pairs))
+}
+
+/// Each of `firsts` joined with the binding of the name to the term.
+pub fn with_name(
+    alloc: Global,
+    firsts: &[Binding],
+    name: &Name,
+    t: &Term,
+) -> Result<Vec<Binding>, NoMemory>
+    ensures { IfOk result (λ v. IsListing binding_cmp (bindings_of v.items) (Named (bindings_of firsts.now) name.now (tree_of t.now))) }
+{
+    let named = one_pair(alloc, name, t)?;
+    let mut found = Vec::new(alloc);
+    for first in firsts {
+        add_join(alloc, first, &named, &mut found)?;
+    }
+    listing(alloc, found)
+}

@@ -1,0 +1,130 @@
+-- Which check refuses a form that defines a language.
+use Rattle.std.proofs.Common.{◌≡◌, ℕ, Bool, true, false, List, [], ◌∷◌, Option, Some, None, Result, Ok, Err, refl, sym, ◌∙◌, ap, subst}
+use Rattle.std.specs.Prelude.{option_map, is_some, codes, if◌then◌else◌}
+use Rattle.rdx_sexp.specs.Sexp.{Sexp}
+use Rattle.rdx_lang.specs.Checked.{language_in}
+use Rattle.rdx_lang.specs.Edges.{IsFree, IsFirstRecursive}
+use Rattle.rdx_lang.specs.Patterns.{Language}
+use Rattle.rdx_lang.specs.declared.checked.CheckedLang.{CheckedLang}
+use Rattle.rdx_grammar.specs.Answers.{ReadsForm, refusal_of}
+use Rattle.rdx_grammar.specs.Checks.{shape_faults, repeats, bad_names, bad_patterns}
+use Rattle.rdx_grammar.specs.Languages.{GrammarForm, empty_language, language_over, form_stands, form_parts, headed, language_parts, extension_parts, language_form, extension_form}
+use Rattle.rdx_grammar.specs.Parts.{parts, text_of, is_word, is_symbol}
+use Rattle.rdx_grammar.specs.Refusal.{Refusal, unnamed, named, or_else, first}
+use Rattle.rdx_grammar.specs.Refused.{IsLanguage, IsRefused, by_check, by_recursion, unbuilt_at, shape_at, duplicate_at, bad_name_at, bad_pattern_at, names_over, refusal_over, recursion_at}
+use Rattle.rdx_grammar.specs.Stands.{Stand}
+use Rattle.rdx_grammar.specs.Unbuilt.{has_word_to_come}
+use Rattle.rdx_grammar.specs.declared.fault.DefFault.{DefFault}
+use Rattle.rdx_grammar.specs.declared.fault.DefFault.TheVariants.{Refused, NoMemory}
+use Rattle.rdx_grammar.specs.declared.fault.DefKind.{DefKind}
+use Rattle.rdx_grammar.specs.declared.fault.DefKind.TheVariants.{Unbuilt, Shape, UnknownLanguage, Duplicate, BadName, BadPattern}
+use Rattle.rdx_query.specs.Defining.{is_early_kind, is_settled, IsDefined, IsRefusedLanguage, language_by_check, language_by_recursion, DefinesOver, IsNamed, taken_among, taken_name}
+use Rattle.rdx_query.specs.FormChecks.{language_refusal, unknown_at, unknown_by, taken_at, taken_by}
+use Rattle.rdx_query.specs.FormParts.{base_among, base_name}
+use Rattle.rdx_query.specs.Known.{language_named}
+use Rattle.rdx_query.specs.PartViews.{second_among, second_item}
+
+-- ---- early refusals
+
+-- if it is a refusal, it is one that comes before each look at the languages so far
+abbrev IsEarly : Option Refusal → Type 0
+IsEarly o = (q : Refusal) → o ≡ Some q → is_early_kind q.kind ≡ true
+
+early_test : (b : Bool) (d : Sexp) → IsEarly (if b then Some (unnamed Unbuilt d) else None)
+early_test true d q e = let g : unnamed Unbuilt d ≡ q = cc in ap (λ (r : Refusal). is_early_kind r.kind) (sym g)
+early_test false d q e = absurd cc
+
+unbuilt_early : (d : Sexp) → IsEarly (unbuilt_at d)
+unbuilt_early d = early_test (has_word_to_come d) d
+
+early_shape : (o : Option Sexp) → IsEarly (option_map (unnamed Shape) o)
+early_shape None q e = absurd cc
+early_shape (Some d) q e = let g : unnamed Shape d ≡ q = cc in ap (λ (r : Refusal). is_early_kind r.kind) (sym g)
+
+shape_early : (ss : List Stand) → IsEarly (shape_at ss)
+shape_early ss = early_shape (first (shape_faults ss))
+
+-- the checks of a form behind that of its shape
+abbrev later : Language → Option GrammarForm → List Stand → Option Refusal
+later base g ss = or_else (duplicate_at ss) (or_else (bad_name_at ss) (bad_pattern_at base (names_over base g) ss))
+
+-- ---- in a chain of checks
+
+-- what passes or is refused late passes the early checks
+record ArePassed (u s : Option Refusal) : Type 0 where
+  pub unbuilt : u ≡ None
+  pub shape : s ≡ None
+
+chain_none : (u s o : Option Refusal) → or_else u (or_else s o) ≡ None → ArePassed u s
+chain_none None None o e = record { unbuilt = refl; shape = refl }
+chain_none None (Some x) o e = absurd cc
+chain_none (Some x) s o e = absurd cc
+
+chain_late : (u s o : Option Refusal) (r : Refusal) → IsEarly u → IsEarly s → is_early_kind r.kind ≡ false → or_else u (or_else s o) ≡ Some r → ArePassed u s
+chain_late None None o r f g k e = record { unbuilt = refl; shape = refl }
+chain_late None (Some x) o r f g k e = let h = g r e in absurd cc
+chain_late (Some x) s o r f g k e = let h = f r e in absurd cc
+
+-- the form passes the checks that come before
+abbrev IsBuilt : Sexp → Option GrammarForm → Type 0
+IsBuilt d g = ArePassed (unbuilt_at d) (shape_at (form_stands d g))
+
+unsettled : (base : Language) (d : Sexp) (g : Option GrammarForm) (x : Result CheckedLang DefFault) → is_settled x ≡ false → ReadsForm base d g x → IsBuilt d g
+unsettled base d g (Ok c) e a = chain_none (unbuilt_at d) (shape_at (form_stands d g)) (later base g (form_stands d g)) a.passes
+unsettled base d g (Err NoMemory) e a = absurd cc
+unsettled base d g (Err (Refused r)) e (by_check f) =
+    chain_late (unbuilt_at d) (shape_at (form_stands d g)) (later base g (form_stands d g)) (refusal_of r) (unbuilt_early d) (shape_early (form_stands d g)) e f
+unsettled base d g (Err (Refused r)) e (by_recursion ps x f h k i) = chain_none (unbuilt_at d) (shape_at (form_stands d g)) (later base g (form_stands d g)) f
+
+-- ---- the name is taken
+
+taken_found : (Ls : List Language) (l m : Sexp) (o : Option Language) → (if is_some o then Some l else None) ≡ Some m → taken_by o l ≡ Some (named Duplicate m)
+taken_found Ls l m None e = absurd cc
+taken_found Ls l m (Some L) e = let f : l ≡ m = cc in ap (λ (k : Sexp). Some (named Duplicate k)) f
+
+taken_not : (l : Sexp) (o : Option Language) → (let p : Option Sexp = if is_some o then Some l else None in p) ≡ None → taken_by o l ≡ None
+taken_not l None e = refl
+taken_not l (Some L) e = absurd cc
+
+-- a form without the shape of one is refused before
+taken-some : (Ls : List Language) (d : Sexp) (g : Option GrammarForm) (m : Sexp) → IsBuilt d g → IsNamed d g → taken_name Ls d ≡ Some m → taken_at Ls g ≡ Some (named Duplicate m)
+taken-some Ls d None m p n e = let f = p.shape in absurd cc
+taken-some Ls d (Some g) m p n e = taken_found Ls g.name m (language_named Ls (text_of g.name)) (ap (taken_among Ls) (sym (n g refl)) ∙ e)
+
+taken-none : (Ls : List Language) (d : Sexp) (g : Option GrammarForm) → IsNamed d g → taken_name Ls d ≡ None → taken_at Ls g ≡ None
+taken-none Ls d None n e = refl
+taken-none Ls d (Some g) n e = taken_not g.name (language_named Ls (text_of g.name)) (ap (taken_among Ls) (sym (n g refl)) ∙ e)
+
+pub taken : (Ls : List Language) (base : Language) (l0 : Option Sexp) (d : Sexp) (g : Option GrammarForm) (x : Result CheckedLang DefFault) (m : Sexp) (r : Refusal) → is_settled x ≡ false → ReadsForm base d g x → unknown_at Ls l0 ≡ None → IsNamed d g → taken_name Ls d ≡ Some m → r ≡ named Duplicate m → IsRefusedLanguage Ls base l0 d g r
+taken Ls base l0 d g x m r e a u n t f =
+    let p = unsettled base d g x e a in
+    let k = taken-some Ls d g m p n t in
+    let h : language_refusal Ls base l0 d g ≡ Some (named Duplicate m) = λ i.
+    or_else (p.unbuilt i) (or_else (p.shape i) (or_else (u i) (or_else (or_else (k i) (duplicate_at (form_stands d g)))
+    (or_else (bad_name_at (form_stands d g)) (bad_pattern_at base (names_over base g) (form_stands d g))))))
+    in language_by_check (h ∙ ap Some (sym f))
+
+-- ---- it is not taken
+
+same_refusal : (Ls : List Language) (base : Language) (l0 : Option Sexp) (d : Sexp) (g : Option GrammarForm) → IsBuilt d g → unknown_at Ls l0 ≡ None → taken_at Ls g ≡ None → language_refusal Ls base l0 d g ≡ refusal_over base d g
+same_refusal Ls base l0 d g p u k =
+    let h : language_refusal Ls base l0 d g ≡ later base g (form_stands d g) = λ i.
+    or_else (p.unbuilt i) (or_else (p.shape i) (or_else (u i) (or_else (or_else (k i) (duplicate_at (form_stands d g)))
+    (or_else (bad_name_at (form_stands d g)) (bad_pattern_at base (names_over base g) (form_stands d g))))))
+    in
+    let m : refusal_over base d g ≡ later base g (form_stands d g) = λ i. or_else (p.unbuilt i) (or_else (p.shape i) (later base g (form_stands d g))) in
+    h ∙ sym m
+
+as_read : (Ls : List Language) (base : Language) (l0 : Option Sexp) (d : Sexp) (g : Option GrammarForm) (x : Result CheckedLang DefFault) → language_refusal Ls base l0 d g ≡ refusal_over base d g → ReadsForm base d g x → DefinesOver Ls base l0 d g x
+as_read Ls base l0 d g (Ok c) e a = record {
+  passes = e ∙ a.passes;
+  means = ap (option_map (language_over base)) a.are ∙ ap Some (sym a.reads);
+  free = a.free;
+}
+as_read Ls base l0 d g (Err NoMemory) e a = tt
+as_read Ls base l0 d g (Err (Refused r)) e (by_check f) = language_by_check (e ∙ f)
+as_read Ls base l0 d g (Err (Refused r)) e (by_recursion ps x f h k i) =
+    language_by_recursion (language_over base ps) x (e ∙ f) (ap (option_map (language_over base)) h) k i
+
+pub untaken : (Ls : List Language) (base : Language) (l0 : Option Sexp) (d : Sexp) (g : Option GrammarForm) (x : Result CheckedLang DefFault) → is_settled x ≡ false → ReadsForm base d g x → unknown_at Ls l0 ≡ None → IsNamed d g → taken_name Ls d ≡ None → DefinesOver Ls base l0 d g x
+untaken Ls base l0 d g x e a u n t = as_read Ls base l0 d g x (same_refusal Ls base l0 d g (unsettled base d g x e a) u (taken-none Ls d g n t)) a

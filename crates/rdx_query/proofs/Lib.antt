@@ -1,0 +1,16 @@
+pub mod Upto
+pub mod FirstRecursive
+pub mod OneReading
+pub mod OneText
+pub mod Truths
+pub mod Occurs
+pub mod Sexps
+pub mod Keywords
+pub mod ReadTerms
+pub mod LanguageChecks
+pub mod FormNames
+pub mod QueryParts
+pub mod QueryChecks
+pub mod Replaced
+pub mod FileRead
+pub mod FormSteps

@@ -1,0 +1,6 @@
+use Rattle.std.proofs.Common.{[]}
+use Rattle.rdx_query.proofs.OneReading.{refuses-one}
+use Rattle.rdx_query.proofs.laws.one_refusal.Goals as goal
+
+pub returns : goal.returns
+returns c ds r q = refuses-one [] ds r q

@@ -1,0 +1,66 @@
+-- What is answered to a query.
+use Rattle.std.specs.Prelude.{◌≡◌, ◌++◌, ℕ, true, false, List, Option, Some, None, is_some, Result, Ok, Err}
+use Rattle.rdx_sexp.specs.Sexp.{Sexp}
+use Rattle.rdx_term.specs.Tree.{Tree}
+use Rattle.rdx_term.specs.View.{tree_of}
+use Rattle.rdx_lang.specs.Checked.{pattern_in}
+use Rattle.rdx_lang.specs.Patterns.{Pattern, Language}
+use Rattle.rdx_grammar.specs.Answers.{refusal_of}
+use Rattle.rdx_grammar.specs.Checks.{shape_faults}
+use Rattle.rdx_grammar.specs.Languages.{names_of}
+use Rattle.rdx_grammar.specs.Parts.{text_of, is_symbol}
+use Rattle.rdx_grammar.specs.Reading.{reading}
+use Rattle.rdx_grammar.specs.Refusal.{Refusal, or_else, first}
+use Rattle.rdx_grammar.specs.Refused.{unbuilt_at, shape_at}
+use Rattle.rdx_grammar.specs.Stands.{keys, stands}
+use Rattle.rdx_grammar.specs.declared.fault.DefFault.{DefFault}
+use Rattle.rdx_grammar.specs.declared.fault.DefFault.TheVariants.{Refused, NoMemory}
+use Rattle.rdx_grammar.specs.declared.patterns.Position.TheVariants as position
+use Rattle.rdx_query.specs.FormChecks.{named_base, query_refusal, host_at, query_shape, checked_parts}
+use Rattle.rdx_query.specs.FormParts.{QueryParts, query_parts, template_in, has_dots}
+use Rattle.rdx_query.specs.FormReadings.{term_of}
+use Rattle.rdx_query.specs.Known.{language_named}
+use Rattle.rdx_query.specs.declared.queries.Asked.{Asked}
+use Rattle.rdx_query.specs.declared.queries.Fit.{Fit}
+
+-- the fault is this refusal, or want of memory
+abbrev pub IsFaultAt : Option Refusal → DefFault → Type 0
+IsFaultAt o (Refused r) = o ≡ Some (refusal_of r)
+IsFaultAt o NoMemory = Unit {0}
+
+-- ---- the shape
+
+-- the refusal of a query by the checks up to that of its shape
+abbrev pub early_refusal : Sexp → Option QueryParts → Option Refusal
+early_refusal d q = or_else (unbuilt_at d) (or_else (host_at d q) (shape_at (query_shape d (checked_parts q))))
+
+-- a query over the language l passes these checks, with the pattern p and the term t
+pub record IsFit (d l p t : Sexp) : Type 0 where
+  pub host : Sexp
+  pub parts : query_parts d ≡ Some (record { language = l; pattern = p; host = host })
+  pub template : template_in host ≡ Some t
+  pub plain : has_dots t ≡ false
+  pub symbol : is_symbol l ≡ true
+  pub built : unbuilt_at d ≡ None
+  pub unkeyed : first (shape_faults (stands p ++ keys t)) ≡ None
+
+abbrev pub FitsBy : Sexp → Result Fit DefFault → Type 0
+FitsBy d (Ok f) = IsFit d f.language.now f.pattern.now f.term.now
+FitsBy d (Err e) = IsFaultAt (early_refusal d (query_parts d)) e
+
+-- ---- all checks
+
+-- the query is accepted, and asks for the pattern p and the term t in the language of this name
+pub record IsAsked (Ls : List Language) (d : Sexp) (name : List ℕ) (p : Pattern) (t : Tree) : Type 0 where
+  pub passes : query_refusal Ls d (query_parts d) ≡ None
+  pub parts : QueryParts
+  pub are : query_parts d ≡ Some parts
+  pub named : name ≡ text_of parts.language
+  pub pattern : p ≡ reading (names_of (named_base Ls (Some parts.language))) position.Query parts.pattern
+  pub term : t ≡ term_of (template_in parts.host)
+  pub known : is_some (language_named Ls name) ≡ true
+
+-- the answer to a query
+abbrev pub AsksBy : List Language → Sexp → Result Asked DefFault → Type 0
+AsksBy Ls d (Ok a) = IsAsked Ls d a.name (pattern_in a.pat) (tree_of a.term)
+AsksBy Ls d (Err e) = IsFaultAt (query_refusal Ls d (query_parts d)) e

@@ -1,0 +1,75 @@
+-- The forms of a file and their parts.
+use Rattle.std.specs.Prelude.{ℕ, Bool, false, ◌||◌, List, [], ◌∷◌, Option, Some, None, codes, if◌then◌else◌}
+use Rattle.rdx_sexp.specs.Sexp.{Atom, integer, truth, text, symbol, keyword, Sexp, Sexps, leaf, list, nil, cons}
+use Rattle.rdx_grammar.specs.Names.{begins_with_dots}
+use Rattle.rdx_grammar.specs.Parts.{parts, text_of, is_symbol, is_word}
+use Rattle.rdx_query.specs.declared.kind.FormKind.{FormKind}
+use Rattle.rdx_query.specs.declared.kind.FormKind.TheVariants.{Language, Extension, Match, Whether}
+
+-- ---- heads
+
+abbrev pub kind_by_head : Sexp → Option FormKind
+kind_by_head h =
+    if is_word (codes "define-language") h then Some Language
+    else if is_word (codes "define-extended-language") h then Some Extension
+    else if is_word (codes "redex-match") h then Some Match
+    else if is_word (codes "redex-match?") h then Some Whether
+    else None
+
+abbrev pub kind_among : Option (List Sexp) → Option FormKind
+kind_among None = None
+kind_among (Some []) = None
+kind_among (Some (h ∷ ds)) = kind_by_head h
+
+-- what a form is by its head
+abbrev pub form_kind : Sexp → Option FormKind
+form_kind d = kind_among (parts d)
+
+-- ---- the language that an extension names
+
+abbrev pub base_among : Option (List Sexp) → Option Sexp
+base_among (Some (h ∷ l ∷ l0 ∷ ds)) = Some l0
+base_among o = None
+
+abbrev pub base_name : Sexp → Option Sexp
+base_name d = base_among (parts d)
+
+-- ---- queries
+
+-- the term of `(term t)`
+abbrev pub template_among : Option (List Sexp) → Option Sexp
+template_among (Some (h ∷ t ∷ [])) = if is_word (codes "term") h then Some t else None
+template_among o = None
+
+abbrev pub template_in : Sexp → Option Sexp
+template_in d = template_among (parts d)
+
+-- the name of a language, a pattern, and the host expression that gives the term
+pub record QueryParts : Type 0 where
+  pub language : Sexp
+  pub pattern : Sexp
+  pub host : Sexp
+
+-- `(head L p h)`
+abbrev pub query_among : Option (List Sexp) → Option QueryParts
+query_among (Some (h ∷ l ∷ p ∷ t ∷ [])) = Some (record { language = l; pattern = p; host = t })
+query_among o = None
+
+abbrev pub query_parts : Sexp → Option QueryParts
+query_parts d = query_among (parts d)
+
+-- ---- terms
+
+abbrev pub is_dotted_atom : Atom → Bool
+is_dotted_atom (symbol x) = begins_with_dots x
+is_dotted_atom a = false
+
+-- a symbol that begins like an ellipsis stands in the term
+abbrev mutual
+  pub has_dots : Sexp → Bool
+  has_dots (leaf a s) = is_dotted_atom a
+  has_dots (list ds s) = have_dots ds
+
+  pub have_dots : Sexps → Bool
+  have_dots nil = false
+  have_dots (cons d ds) = has_dots d || have_dots ds

@@ -1,0 +1,15 @@
+pub mod FormParts
+pub mod Known
+pub mod FormChecks
+pub mod FormReadings
+pub mod File
+pub mod AnswerText
+pub mod Answering
+pub mod Appending
+pub mod Views
+pub mod Laws
+pub mod PartViews
+pub mod Sizes
+pub mod Defining
+pub mod Asking
+pub mod Steps

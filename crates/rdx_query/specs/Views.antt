@@ -1,0 +1,43 @@
+-- What the values of the code stand for.
+use Rattle.std.specs.Prelude.{◌≡◌, ℕ, List, [], ◌∷◌, map, Option, Some, None, Result, Ok, Err, is_some, Bool, true}
+use Rattle.rdx_sexp.specs.Sexp.{Sexp}
+use Rattle.rdx_term.specs.View.{tree_of}
+use Rattle.rdx_lang.specs.Checked.{language_in, pattern_in}
+use Rattle.rdx_lang.specs.Patterns as model
+use Rattle.rdx_grammar.specs.Answers.{refusal_of}
+use Rattle.rdx_grammar.specs.declared.fault.DefFault.{DefFault}
+use Rattle.rdx_grammar.specs.declared.fault.DefFault.TheVariants.{Refused, NoMemory}
+use Rattle.rdx_query.specs.File.{Accepts, Refuses}
+use Rattle.rdx_query.specs.FormReadings as readings
+use Rattle.rdx_query.specs.Known.{language_named}
+use Rattle.rdx_query.specs.declared.file.CheckedFile.{CheckedFile}
+use Rattle.rdx_query.specs.declared.file.Query.{Query}
+use Rattle.rdx_query.specs.declared.file.Query.TheVariants.{Match, Whether}
+
+abbrev pub query_of : Query → readings.Query
+query_of (Match name p t) = readings.matches name (pattern_in p) (tree_of t)
+query_of (Whether name p t) = readings.whether name (pattern_in p) (tree_of t)
+
+abbrev pub queries_of : CheckedFile → List readings.Query
+queries_of f = map query_of f.queries.items
+
+abbrev pub languages_of : CheckedFile → List model.Language
+languages_of f = map language_in f.program.languages.items
+
+abbrev pub query_name : readings.Query → List ℕ
+query_name (readings.matches name p t) = name
+query_name (readings.whether name p t) = name
+
+-- each query is over a known language
+abbrev pub AreNamed : List model.Language → List readings.Query → Type 0
+AreNamed Ls [] = Unit {0}
+AreNamed Ls (q ∷ qs) = (is_some (language_named Ls (query_name q)) ≡ true) × AreNamed Ls qs
+
+abbrev pub IsFileFault : List Sexp → DefFault → Type 0
+IsFileFault ds (Refused r) = Refuses [] ds (refusal_of r)
+IsFileFault ds NoMemory = Unit {0}
+
+-- the data are accepted and mean this file, or they are refused so
+abbrev pub Checks : List Sexp → Result CheckedFile DefFault → Type 0
+Checks ds (Ok f) = Accepts [] ds (languages_of f) (queries_of f)
+Checks ds (Err e) = IsFileFault ds e

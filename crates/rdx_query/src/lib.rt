@@ -1,0 +1,23 @@
+//! Files: what their forms mean, and the answers to their queries.
+//!
+//! [`check_file`] reads the forms of a file one after the other, and refuses the file at the first form that is refused. [`answer`] writes
+//! the answers to the queries of an accepted file. What a file means, and why it is refused, is in `specs/File.antt`; the text of the answers,
+//! from the rules of matching alone, in `specs/Answering.antt`.
+#![tactic(auto)]
+
+mod answers;
+mod definitions;
+mod file;
+mod firsts;
+mod forms;
+mod kind;
+mod known;
+pub mod laws;
+mod parts;
+mod queries;
+mod refusals;
+mod terms;
+mod unbuilt;
+
+pub use answers::{Answered, answer};
+pub use file::{CheckedFile, Program, Query, check_file};

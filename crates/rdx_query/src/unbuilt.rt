@@ -1,0 +1,89 @@
+// Forms and words that are not built yet.
+ghost use Rattle.std.specs.Prelude.{◌≡◌, codes};
+ghost use Rattle.rdx_grammar.specs.Names as names;
+ghost use Rattle.rdx_grammar.specs.Unbuilt as unbuilt;
+ghost use Rattle.rdx_query.specs.FormParts as forms;
+
+use rdx_sexp::{Datum, Form};
+
+/// Whether an ellipsis stands first.
+fn begins_with_dots(text: &str) -> bool
+    ensures { result ≡ names.begins_with_dots text.now }
+{
+    text.starts_with("...")
+}
+
+// Whether forms to come are written with this word.
+fn is_form_word(text: &str) -> bool
+    ensures { result ≡ names.is_one_of unbuilt.words_to_come text.now }
+{
+    matches!(
+        text,
+        "hole"
+            | "in-hole"
+            | "hide-hole"
+            | "reduction-relation"
+            | "where"
+            | "unquote"
+            | "unquote-splicing"
+            | "side-condition"
+            | "judgment-holds"
+            | "context-closure"
+            | "compatible-closure"
+            | "cross"
+            | "with"
+            | "fresh"
+    )
+}
+
+// Whether this is a name that stands for different terms wherever it comes.
+fn is_mismatch(text: &str) -> bool
+    ensures { result ≡ unbuilt.occurs_in (codes "_!_") text.now }
+{
+    text.contains("_!_")
+}
+
+// Whether a form to come gives the symbol a meaning.
+fn is_word_to_come(text: &str) -> bool
+    ensures { result ≡ unbuilt.is_word_to_come text.now }
+{
+    let is_dotted = begins_with_dots(text);
+    is_form_word(text) || (is_dotted && text != "....") || (is_mismatch(text) && !is_dotted)
+}
+
+/// Whether such a word stands in the datum, however deep.
+pub(crate) fn has_word_to_come(d: &Datum) -> bool
+    ensures { result ≡ unbuilt.has_word_to_come d.now }
+{
+    match &d.form {
+        Form::Int(_) | Form::Bool(_) | Form::Str(_) => false,
+        Form::Sym(text) => is_word_to_come(text.as_str()),
+        Form::Key(text) => text.as_str() == "binding-forms",
+        Form::List(items) => {
+            for item in items {
+                if has_word_to_come(item) {
+                    return true;
+                }
+            }
+            false
+        }
+    }
+}
+
+/// Whether a symbol that begins like an ellipsis stands in the datum, however deep.
+pub(crate) fn has_dots(d: &Datum) -> bool
+    ensures { result ≡ forms.has_dots d.now }
+{
+    match &d.form {
+        Form::Int(_) | Form::Bool(_) | Form::Str(_) | Form::Key(_) => false,
+        Form::Sym(text) => begins_with_dots(text.as_str()),
+        Form::List(items) => {
+            for item in items {
+                if has_dots(item) {
+                    return true;
+                }
+            }
+            false
+        }
+    }
+}
