@@ -1,5 +1,5 @@
 -- Nonterminals by their names.
-use Rattle.std.proofs.Common.{◌≡◌, ℕ, Bool, true, false, List, [], ◌∷◌, map, refl, sym, ap, ◌∙◌}
+use Rattle.std.proofs.Common.{◌≡◌, ℕ, Bool, List, [], ◌∷◌, map, refl, sym}
 use Rattle.std.specs.Prelude.{◌||◌, bytes_eq}
 use Rattle.std.specs.Cmp.Lexicographic.{bytes_decides}
 use Rattle.rdx_lang.specs.WellFormed.{is_among as is_defined_among}

@@ -1,6 +1,6 @@
 -- The names that a definition defines are names, and so are the symbols of its alternatives.
-use Rattle.std.proofs.Common.{◌≡◌, ℕ, Bool, true, false, List, [], ◌∷◌, Option, Some, None, refl, sym, ap, subst, if◌then◌else◌}
-use Rattle.std.specs.Prelude.{◌&&◌, option_map, codes}
+use Rattle.std.proofs.Common.{◌≡◌, Bool, true, false, List, [], ◌∷◌, Option, Some, None, refl, sym, ap, subst, if◌then◌else◌}
+use Rattle.std.specs.Prelude.{option_map, codes}
 use Rattle.rdx_term.specs.Spelling.{is_name}
 use Rattle.rdx_sexp.specs.Sexp.{Sexp, Sexps, leaf, list, integer, truth, text, symbol, keyword, sexps, nil, cons}
 use Rattle.rdx_grammar.specs.Parts.{listed, text_of, is_symbol, is_word, are_symbols, Definition, definition, further, at_sign, named_by, named_all, definition_by, definition_among, definition_in}

@@ -1,10 +1,10 @@
 -- The nonterminals that stand in a form.
-use Rattle.std.proofs.Common.{◌≡◌, ◌++◌, ℕ, Bool, true, false, List, [], ◌∷◌, Option, Some, None, map, refl, sym, ap, ◌∙◌, if◌then◌else◌}
+use Rattle.std.proofs.Common.{◌≡◌, ◌++◌, ℕ, Bool, true, false, List, [], ◌∷◌, Option, Some, None, map, refl, ap, ◌∙◌, if◌then◌else◌}
 use Rattle.std.specs.Prelude.{◌||◌, codes}
-use Rattle.rdx_sexp.specs.Sexp.{Atom, integer, truth, text, symbol, keyword, Sexp, Sexps, leaf, list, nil, cons}
+use Rattle.rdx_sexp.specs.Sexp.{integer, truth, text, symbol, keyword, Sexp, Sexps, leaf, list, nil, cons}
 use Rattle.rdx_grammar.specs.Languages.{names_by, names_in}
 use Rattle.rdx_grammar.specs.Parts.{listed, text_of, are_symbols, is_word, Definition, definition_in}
-use Rattle.rdx_grammar.specs.Stands.{Stand, misshaped, key, defined, nonterminal, binder, pattern, excepted, malformed, inherited, head_among, keys, keys_in, malformed_list, all_excepted, avoiding, atom_stands, stands, stands_by, stands_in, alternatives_stand, definition_stands, definitions_stand}
+use Rattle.rdx_grammar.specs.Stands.{Stand, misshaped, key, defined, nonterminal, binder, pattern, excepted, malformed, inherited, head_among, keys, keys_in, malformed_list, all_excepted, stands, stands_by, stands_in, alternatives_stand, definition_stands, definitions_stand}
 use Rattle.rdx_grammar.specs.declared.stands.Head.{Head}
 use Rattle.rdx_grammar.specs.declared.stands.Head.TheVariants.{Naming, Avoiding, Prefixing, Plain}
 

@@ -1,7 +1,7 @@
 -- Where the symbols of a form are names, those of its parts are.
 use Rattle.std.proofs.Common.{◌≡◌, ℕ, Bool, true, false, List, [], ◌∷◌, Option, Some, None, refl, sym, subst, if◌then◌else◌}
 use Rattle.rdx_sexp.specs.Sexp.{Sexp, leaf, list, sexps}
-use Rattle.rdx_grammar.specs.CheckedForms.{AreNamedParts, AreNamedIn}
+use Rattle.rdx_grammar.specs.CheckedForms.{AreNamedIn}
 use Rattle.rdx_grammar.specs.Languages.{GrammarForm, language_parts, extension_parts, headed, language_form, extension_form}
 use Rattle.rdx_grammar.specs.Parts.{listed, is_symbol, is_word}
 use Rattle.rdx_grammar.specs.SymbolNames.{AreNames, AllAreNames}

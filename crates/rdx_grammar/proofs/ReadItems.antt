@@ -1,5 +1,5 @@
 -- The items of a list pattern, read one by one.
-use Rattle.std.proofs.Common.{◌≡◌, ◌++◌, ℕ, ◌+◌, ◌<◌, length, drop, get_or, List, [], ◌∷◌, refl, ap, sym, ◌∙◌}
+use Rattle.std.proofs.Common.{◌≡◌, ◌++◌, ℕ, ◌+◌, ◌<◌, length, drop, get_or, List, [], ◌∷◌, refl, ap}
 use Rattle.rdx_sexp.specs.Sexp.{Sexp, sexps}
 use Rattle.rdx_lang.specs.Patterns.{Pattern, Items, nil, one, seq}
 use Rattle.rdx_lang.specs.PatternView.{Slot, just, items_of}

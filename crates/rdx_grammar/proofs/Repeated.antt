@@ -1,15 +1,14 @@
 -- Where no nonterminal is defined twice, the names are distinct.
-use Rattle.std.proofs.Common.{◌≡◌, ◌++◌, ℕ, Bool, true, false, List, [], ◌∷◌, Option, Some, None, map, refl, sym, ap, ◌∙◌, subst, if◌then◌else◌}
-use Rattle.std.specs.Prelude.{◌&&◌, ◌||◌, not, bytes_eq, option_map}
+use Rattle.std.proofs.Common.{◌≡◌, ◌++◌, ℕ, Bool, true, false, List, [], ◌∷◌, None, map, refl, sym, subst, if◌then◌else◌}
+use Rattle.std.specs.Prelude.{◌&&◌, not, bytes_eq, option_map}
 use Rattle.std.specs.List.{list_any}
 use Rattle.std.specs.Cmp.Lexicographic.{bytes_decides}
 use Rattle.rdx_sexp.specs.Sexp.{Sexp}
 use Rattle.rdx_lang.specs.WellFormed.{is_among, are_distinct}
-use Rattle.rdx_lang.specs.declared.pattern.Ref.{Ref}
 use Rattle.rdx_lang.specs.declared.pattern.Ref.TheVariants.{Nt}
 use Rattle.rdx_grammar.specs.Checks.{is_seen, repeats}
 use Rattle.rdx_grammar.specs.Parts.{text_of}
-use Rattle.rdx_grammar.specs.Refusal.{Refusal, or_else, first, named}
+use Rattle.rdx_grammar.specs.Refusal.{first, named}
 use Rattle.rdx_grammar.specs.Refused.{duplicate_at}
 use Rattle.rdx_grammar.specs.Stands.{Stand, misshaped, key, defined, nonterminal, binder, pattern, excepted, malformed, inherited}
 use Rattle.rdx_grammar.specs.declared.fault.DefKind.{DefKind}

@@ -3,7 +3,7 @@ use Rattle.std.proofs.Common.{◌≡◌, ℕ, Bool, true, false, List, [], ◌�
 use Rattle.std.specs.Prelude.{◌&&◌, ◌||◌, not, bytes_eq, codes}
 use Rattle.std.specs.Cmp.Lexicographic.{pointwise}
 use Rattle.std.specs.Prelude.{nat_eq}
-use Rattle.rdx_term.specs.Spelling.{is_name, is_symbol_spelling}
+use Rattle.rdx_term.specs.Spelling.{is_symbol_spelling}
 use Rattle.rdx_sexp.specs.Sexp.{Atom, integer, truth, text, symbol, keyword, Sexp, Sexps, leaf, list, nil, cons}
 use Rattle.rdx_sexp.specs.Size.{IsSpelled, IsSpelledSexp, AreSpelled}
 use Rattle.rdx_grammar.specs.Names.{is_one_of, begins_with_dots, is_inherited}

@@ -1,17 +1,15 @@
 -- The language of a form that passes the checks is well formed.
-use Rattle.std.proofs.Common.{◌≡◌, ◌++◌, ◌||◌, ℕ, Bool, true, false, List, [], ◌∷◌, Option, Some, None, map, refl, sym, ap, ◌∙◌, subst}
+use Rattle.std.proofs.Common.{◌≡◌, ◌++◌, ℕ, true, List, [], ◌∷◌, Option, Some, None, map, refl, sym, ap, ◌∙◌, subst}
 use Rattle.rdx_sexp.specs.Sexp.{Sexp}
-use Rattle.rdx_lang.specs.Patterns.{Pattern, Language}
-use Rattle.rdx_lang.specs.Patterns as model
+use Rattle.rdx_lang.specs.Patterns.{Language}
 use Rattle.rdx_lang.specs.WellFormed.{is_among as is_defined_among, are_distinct, is_well_formed, all_alternatives, defined, IsWellFormed}
 use Rattle.rdx_lang.specs.declared.pattern.Ref.{Ref}
 use Rattle.rdx_lang.specs.declared.pattern.Ref.TheVariants.{Nt}
-use Rattle.rdx_grammar.specs.Checks.{bad_names, bad_patterns}
-use Rattle.rdx_grammar.specs.Languages.{GrammarForm, form_stands, names_of, names_by, names_in, all_names, ref_text, heads, redefined, added, alternatives, defined_by, definitions_of, extended, language_over}
+use Rattle.rdx_grammar.specs.Languages.{GrammarForm, form_stands, names_of, names_by, names_in, all_names, ref_text, heads, redefined, added, alternatives, defined_by, definitions_of, language_over}
 use Rattle.rdx_grammar.specs.Parts.{text_of, Definition, definition_in}
 use Rattle.rdx_grammar.specs.Reading.{reading}
-use Rattle.rdx_grammar.specs.Refusal.{Refusal, or_else}
-use Rattle.rdx_grammar.specs.Refused.{refusal_over, unbuilt_at, shape_at, duplicate_at, bad_name_at, bad_pattern_at}
+use Rattle.rdx_grammar.specs.Refusal.{or_else}
+use Rattle.rdx_grammar.specs.Refused.{refusal_over, unbuilt_at, shape_at, duplicate_at}
 use Rattle.rdx_grammar.specs.declared.patterns.Position.TheVariants.{Grammar as InGrammar}
 use Rattle.rdx_grammar.proofs.Booleans.{or_true}
 use Rattle.rdx_grammar.proofs.ExtendedNames.{Within, is_among-append, heads-append, Within-old, Within-new, are_distinct-extended}

@@ -6,7 +6,7 @@ use Rattle.rdx_lang.specs.Checked.{language_in, pattern_in}
 use Rattle.rdx_lang.specs.Patterns.{Language}
 use Rattle.rdx_lang.specs.declared.checked.CheckedLang.{CheckedLang}
 use Rattle.rdx_lang.specs.declared.checked.CheckedPat.{CheckedPat}
-use Rattle.rdx_grammar.specs.Languages.{GrammarForm, names_of}
+use Rattle.rdx_grammar.specs.Languages.{GrammarForm}
 use Rattle.rdx_grammar.specs.Reading.{reading}
 use Rattle.rdx_grammar.specs.Refusal.{Refusal}
 use Rattle.rdx_grammar.specs.Refused.{IsLanguage, IsRefused, pattern_refusal}

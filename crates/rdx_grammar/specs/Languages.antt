@@ -1,6 +1,6 @@
 -- The language that a form stands for, over a base whose nonterminals it extends; a form that defines a language by itself has an empty base.
-use Rattle.std.specs.Prelude.{ℕ, Bool, not, List, [], ◌∷◌, ◌++◌, Option, Some, None, map, codes, if◌then◌else◌}
-use Rattle.rdx_sexp.specs.Sexp.{Sexp, Sexps, leaf, list}
+use Rattle.std.specs.Prelude.{ℕ, List, [], ◌∷◌, ◌++◌, Option, Some, None, map, codes, if◌then◌else◌}
+use Rattle.rdx_sexp.specs.Sexp.{Sexp}
 use Rattle.rdx_lang.specs.Lookup.{alternatives_of, alternatives_among}
 use Rattle.rdx_lang.specs.Patterns.{Pattern, Language}
 use Rattle.rdx_lang.specs.Patterns as model

@@ -1,6 +1,6 @@
 -- The parts of data and of definitions.
 use Rattle.std.specs.Prelude.{ℕ, Bool, true, false, ◌&&◌, List, [], ◌∷◌, Option, Some, None, option_map, codes, bytes_eq, if◌then◌else◌}
-use Rattle.rdx_sexp.specs.Sexp.{Atom, integer, truth, text, symbol, keyword, Sexp, Sexps, leaf, list, nil, cons}
+use Rattle.rdx_sexp.specs.Sexp.{symbol, Sexp, Sexps, leaf, list, nil, cons}
 
 -- the data of a list
 abbrev pub listed : Sexps → List Sexp

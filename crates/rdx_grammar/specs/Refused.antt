@@ -1,17 +1,15 @@
 -- When a form is refused, and which language it is else.
-use Rattle.std.specs.Prelude.{◌≡◌, ℕ, Bool, List, [], ◌∷◌, Option, Some, None, option_map, if◌then◌else◌}
+use Rattle.std.specs.Prelude.{◌≡◌, ℕ, List, [], Option, Some, None, option_map, if◌then◌else◌}
 use Rattle.rdx_sexp.specs.Sexp.{Sexp, span_of}
 use Rattle.rdx_lang.specs.Edges.{IsFree, IsFirstRecursive}
-use Rattle.rdx_lang.specs.Patterns.{Pattern, Language}
+use Rattle.rdx_lang.specs.Patterns.{Language}
 use Rattle.rdx_lang.specs.declared.pattern.Ref.TheVariants.{Nt}
 use Rattle.rdx_grammar.specs.Checks.{shape_faults, repeats, bad_names, bad_patterns}
-use Rattle.rdx_grammar.specs.Languages.{GrammarForm, all_names, empty_language, form_stands, language_over, names_of}
-use Rattle.rdx_grammar.specs.Reading.{reading}
+use Rattle.rdx_grammar.specs.Languages.{GrammarForm, all_names, empty_language, form_stands, language_over}
 use Rattle.rdx_grammar.specs.Refusal.{Refusal, unnamed, named, or_else, first}
 use Rattle.rdx_grammar.specs.Stands.{Stand, stands}
 use Rattle.rdx_grammar.specs.Unbuilt.{has_word_to_come}
 use Rattle.rdx_grammar.specs.declared.fault.DefKind.TheVariants.{Unbuilt, Shape, Duplicate, BadName, BadPattern, LeftRecursive}
-use Rattle.rdx_grammar.specs.declared.patterns.Position.TheVariants.{Query}
 
 -- ---- check by check: the first place at which each refuses
 

@@ -1,8 +1,7 @@
 -- What stands in a form, one thing after the other from its beginning to its end, with all that the checks of the form want to know of it.
-use Rattle.std.specs.Prelude.{ℕ, Bool, true, false, ◌||◌, List, [], ◌∷◌, ◌++◌, Option, Some, None, codes, bytes_eq, map, if◌then◌else◌}
+use Rattle.std.specs.Prelude.{ℕ, Bool, false, ◌||◌, List, [], ◌∷◌, ◌++◌, Option, Some, None, codes, bytes_eq, map, if◌then◌else◌}
 use Rattle.rdx_sexp.specs.Sexp.{Atom, integer, truth, text, symbol, keyword, Sexp, Sexps, leaf, list, nil, cons}
-use Rattle.rdx_grammar.specs.Names.{is_inherited}
-use Rattle.rdx_grammar.specs.Parts.{listed, is_symbol, are_symbols, is_word, Definition, definition_in}
+use Rattle.rdx_grammar.specs.Parts.{listed, are_symbols, is_word, Definition, definition_in}
 use Rattle.rdx_grammar.specs.declared.stands.Head.{Head}
 use Rattle.rdx_grammar.specs.declared.stands.Head.TheVariants.{Naming, Avoiding, Prefixing, Plain}
 

@@ -1,5 +1,5 @@
 -- Forms and words that are not built yet.
-use Rattle.std.specs.Prelude.{ℕ, Bool, true, false, not, ◌&&◌, ◌||◌, List, [], ◌∷◌, codes, bytes_eq, nat_eq}
+use Rattle.std.specs.Prelude.{ℕ, Bool, false, not, ◌&&◌, ◌||◌, List, [], ◌∷◌, codes, bytes_eq, nat_eq}
 use Rattle.std.specs.List.{starts_with}
 use Rattle.rdx_sexp.specs.Sexp.{integer, truth, text, symbol, keyword, Atom, Sexp, Sexps, leaf, list, nil, cons}
 use Rattle.rdx_grammar.specs.Names.{is_one_of, begins_with_dots, is_inherited}

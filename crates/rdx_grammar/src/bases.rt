@@ -7,7 +7,7 @@ ghost use Rattle.rdx_lang.specs.declared.pattern.Ref.TheVariants as refs;
 ghost use Rattle.rdx_grammar.specs.BaseView.{base_in};
 ghost use Rattle.rdx_grammar.specs.Checks as model;
 
-use crate::parts::text;
+use crate::shape::text;
 use rdx_lang::{CheckedLang, Language, Ref};
 use rdx_sexp::Datum;
 

@@ -6,7 +6,7 @@ ghost use Rattle.rdx_grammar.specs.Repeats.{seen_with, seen_behind, repeated};
 ghost use Rattle.rdx_grammar.specs.StandView.{stand_of, stands_of};
 
 use crate::names;
-use crate::parts::text;
+use crate::shape::text;
 use crate::stands::Stand;
 use rdx_sexp::Datum;
 

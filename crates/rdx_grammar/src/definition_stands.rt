@@ -7,7 +7,8 @@ ghost use Rattle.rdx_grammar.specs.StandView.{stands_of};
 ghost use Rattle.rdx_grammar.specs.Stands as model;
 
 use crate::form_parts::FormParts;
-use crate::parts::{definition_in, is_word};
+use crate::parts::definition_in;
+use crate::shape::is_word;
 use crate::stands::{Stand, add_pattern};
 use rdx_sexp::Datum;
 use rdx_term::NoMemory;

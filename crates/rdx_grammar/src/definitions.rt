@@ -10,9 +10,10 @@ ghost use Rattle.rdx_grammar.specs.SymbolNames.{AllAreNames, AreNamed};
 
 use crate::copies::add_copies;
 use crate::nonterminals::text_name;
-use crate::parts::{Definition, definition_in, is_word};
+use crate::parts::{Definition, definition_in};
 use crate::patterns::Position;
 use crate::readings::read_datum;
+use crate::shape::is_word;
 use rdx_lang::{CheckedLang, Pat, Ref};
 use rdx_sexp::Datum;
 use rdx_term::{Name, NoMemory};

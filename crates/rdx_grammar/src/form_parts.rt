@@ -3,7 +3,7 @@ ghost use Rattle.std.specs.Prelude.{◌≡◌, option_map};
 ghost use Rattle.rdx_grammar.specs.Languages as model;
 ghost use Rattle.rdx_grammar.specs.PartViews.{parts_of};
 
-use crate::parts::{is_symbol, is_word, items};
+use crate::shape::{is_symbol, is_word, items};
 use rdx_sexp::Datum;
 
 /// The name of a language, and the definitions of its nonterminals.

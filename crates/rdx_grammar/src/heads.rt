@@ -9,7 +9,7 @@ ghost use Rattle.rdx_grammar.specs.Parts.{symbol_text};
 ghost use Rattle.rdx_grammar.specs.Stands as stands;
 ghost use Rattle.rdx_grammar.specs.SymbolNames.{AreNames, AllAreNames};
 
-use crate::parts::symbol;
+use crate::shape::symbol;
 use rdx_lang::Pat;
 use rdx_sexp::Datum;
 use rdx_term::{Name, NoMemory};

@@ -6,7 +6,8 @@
 //!
 //! A reader gives what the form means, or refuses the form at the first place of the check with the least number that refuses it. Each
 //! check is a definition of its own in `specs/Checks.antt`, over the list of what stands in a form (`specs/Stands.antt`); what forms mean
-//! is in `specs/Reading.antt` and `specs/Languages.antt`, and `specs/Refused.antt` puts both together.
+//! is in `specs/Reading.antt` and `specs/Languages.antt`, and `specs/Refused.antt` puts both together. The tests of [`shape`], [`names`] and
+//! [`unbuilt`] are those that the readers of other forms need too.
 #![tactic(auto)]
 
 mod bases;
@@ -19,7 +20,7 @@ mod fault;
 mod form_parts;
 mod heads;
 mod languages;
-mod names;
+pub mod names;
 mod nonterminals;
 mod parts;
 mod pattern_checks;
@@ -27,9 +28,10 @@ mod patterns;
 mod readings;
 mod recursion;
 mod refusal;
+pub mod shape;
 mod stands;
 mod texts_of;
-mod unbuilt;
+pub mod unbuilt;
 
 pub use fault::{DefFault, DefKind, DefRefusal};
 pub use languages::{extend, read_language};

@@ -1,4 +1,4 @@
-// The names that patterns and languages are built from.
+//! The names that patterns and languages are built from.
 ghost use Rattle.std.specs.Prelude.{◌≡◌};
 ghost use Rattle.rdx_grammar.specs.Names as words;
 
@@ -40,7 +40,7 @@ pub(crate) fn front(text: &str) -> &str
 }
 
 /// Whether an ellipsis stands first.
-pub(crate) fn begins_with_dots(text: &str) -> bool
+pub fn begins_with_dots(text: &str) -> bool
     ensures { result ≡ words.begins_with_dots text.now }
 {
     text.starts_with("...")

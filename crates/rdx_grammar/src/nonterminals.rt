@@ -9,7 +9,8 @@ ghost use Rattle.rdx_grammar.specs.Parts.{text_of};
 ghost use Rattle.rdx_grammar.specs.SymbolNames.{AllAreNames, AreNamed};
 
 use crate::heads::name;
-use crate::parts::{definition_in, symbol};
+use crate::parts::definition_in;
+use crate::shape::symbol;
 use rdx_lang::{CheckedLang, Ref};
 use rdx_sexp::Datum;
 use rdx_term::{Name, NoMemory};

@@ -8,7 +8,7 @@ ghost use Rattle.rdx_grammar.specs.StandView.{stand_of, stands_of};
 use crate::bases::all_inherit;
 use crate::checks::when;
 use crate::names::{begins_with_dots, front, has_suffix, kind};
-use crate::parts::text;
+use crate::shape::text;
 use crate::stands::Stand;
 use rdx_lang::CheckedLang;
 use rdx_sexp::Datum;

@@ -5,7 +5,7 @@ ghost use Rattle.rdx_grammar.specs.StandView.{stands_of};
 ghost use Rattle.rdx_grammar.specs.Stands as model;
 ghost use Rattle.rdx_grammar.specs.declared.stands.Head.TheVariants as kind;
 
-use crate::parts::{are_symbols, is_symbol};
+use crate::shape::{are_symbols, is_symbol};
 use rdx_sexp::{Datum, Form};
 use rdx_term::NoMemory;
 

@@ -6,7 +6,8 @@ ghost use Rattle.rdx_grammar.specs.Languages as model;
 ghost use Rattle.rdx_grammar.specs.Parts.{text_of};
 ghost use Rattle.rdx_grammar.specs.Parts as parts;
 
-use crate::parts::{definition_in, text};
+use crate::parts::definition_in;
+use crate::shape::text;
 use rdx_lang::{CheckedLang, Language, Ref};
 use rdx_sexp::Datum;
 use rdx_term::{Name, NoMemory};

@@ -1,4 +1,4 @@
-// Forms and words that are not built yet.
+//! Forms and words that are not built yet.
 ghost use Rattle.std.specs.Prelude.{◌≡◌, codes};
 ghost use Rattle.rdx_grammar.specs.Names.{is_one_of};
 ghost use Rattle.rdx_grammar.specs.Unbuilt as unbuilt;
@@ -45,7 +45,7 @@ fn is_word_to_come(text: &str) -> bool
 }
 
 /// Whether such a word stands in the datum, however deep.
-pub(crate) fn has_word_to_come(d: &Datum) -> bool
+pub fn has_word_to_come(d: &Datum) -> bool
     ensures { result ≡ unbuilt.has_word_to_come d.now }
 {
     match &d.form {

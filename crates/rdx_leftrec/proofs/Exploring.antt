@@ -1,9 +1,9 @@
 -- The walk from one place: what is known while places are pending, and that it finds all that is reached.
 use Rattle.std.proofs.Common.{◌≡◌, ℕ, ◌<◌, false, get_or, List, [], ◌∷◌, ◌++◌, length, replicate, refl, sym, ◌∙◌, ap, subst, ◌⊎◌, inl, inr, arith, length-append, Bool}
-use Rattle.std.proofs.lemmas.List.{length-replicate}
-use Rattle.rdx_lang.specs.Members.{In, here, there}
 use Rattle.std.specs.Prelude.{Vec}
 use Rattle.std.specs.declared.alloc.Global.{Global}
+use Rattle.std.proofs.lemmas.List.{length-map, length-replicate}
+use Rattle.rdx_lang.specs.Members.{In, here, there}
 use Rattle.rdx_leftrec.specs.Leads.{lists_of}
 use Rattle.rdx_leftrec.specs.Marking.{Marking, marking, mark_all}
 use Rattle.rdx_leftrec.specs.Reach.{targets_at, Path, once, more, AreTargets, IsMarked, IsReach}
@@ -93,6 +93,13 @@ module _ (ts : List (List ℕ)) (i j : ℕ) (rest : List ℕ) (s : Marking) (e :
           | inl l ↦ was_pending k (subst (λ (ks : List ℕ). In k ks) e l)
           | inr c ↦ inr (λ m i. growth.kept m (c m i))
         ]
+
+-- a place that is left has targets to be read
+pub left-read : (vs : List (Vec ℕ Global)) (i j : ℕ) (rest : List ℕ) (s : Marking) → s.pending ≡ rest ++ j ∷ [] → Explores (lists_of vs) i s → j < length vs
+left-read vs i j rest s e x =
+    let k = left-inside (lists_of vs) i j rest s e x in
+    let l = length-map vs (λ (v : Vec ℕ Global). v.items) in
+    omega arith
 
 -- where no place is pending, exactly what is reached is marked
 pub explores_last : (ts : List (List ℕ)) (i : ℕ) (s : Marking) → s.pending ≡ [] → Explores ts i s → IsReach ts i s.marks

@@ -1,5 +1,5 @@
 -- Forms read one by one.
-use Rattle.std.proofs.Common.{◌≡◌, ◌++◌, ℕ, zero, suc, ◌+◌, ◌<◌, ◌≤◌, max, length, drop, get_or, Bool, true, false, List, [], ◌∷◌, map, Option, Some, None, refl, ap, sym, ◌∙◌, subst, append_assoc, append-nil, arith}
+use Rattle.std.proofs.Common.{◌≡◌, ◌++◌, ℕ, zero, suc, ◌+◌, ◌<◌, ◌≤◌, length, drop, get_or, Bool, true, false, List, [], ◌∷◌, Option, Some, refl, sym, subst, append_assoc, append-nil, arith}
 use Rattle.std.specs.Prelude.{is_some, bytes_eq, if◌then◌else◌}
 use Rattle.rdx_sexp.specs.Sexp.{Sexp}
 use Rattle.rdx_sexp.specs.Size.{IsOfFileSize}
@@ -19,18 +19,22 @@ use Rattle.rdx_query.proofs.ReadTerms.{drop-at}
 
 -- ---- names stay known
 
-named-by : (b : Bool) (L : Language) (o p : Option Language) → (is_some o ≡ true → is_some p ≡ true) → is_some (if b then Some L else o) ≡ true → is_some (if b then Some L else p) ≡ true
-named-by true L o p f e = refl
-named-by false L o p f e = f e
+-- the same language first, and what is known behind it stays known
+known-by : (b : Bool) (L : Language) (o p : Option Language) → (is_some o ≡ true → is_some p ≡ true) → is_some (if b then Some L else o) ≡ true → is_some (if b then Some L else p) ≡ true
+known-by true L o p f e = refl
+known-by false L o p f e = f e
 
+-- a name that is known stays known behind one more language
 named-more : (Ls : List Language) (M : Language) (x : List ℕ) → is_some (language_named Ls x) ≡ true → is_some (language_named (Ls ++ M ∷ []) x) ≡ true
 named-more [] M x e = absurd cc
-named-more (L ∷ Ls) M x e = named-by (bytes_eq L.name x) L (language_named Ls x) (language_named (Ls ++ M ∷ []) x) (named-more Ls M x) e
+named-more (L ∷ Ls) M x e = known-by (bytes_eq L.name x) L (language_named Ls x) (language_named (Ls ++ M ∷ []) x) (named-more Ls M x) e
 
+-- so do the names of queries
 are_named-more : (Ls : List Language) (M : Language) (qs : List Query) → AreNamed Ls qs → AreNamed (Ls ++ M ∷ []) qs
 are_named-more Ls M [] n = tt
 are_named-more Ls M (q ∷ qs) n = (named-more Ls M (query_name q) n.0, are_named-more Ls M qs n.1)
 
+-- one more query over a known language
 are_named-push : (Ls : List Language) (qs : List Query) (q : Query) → AreNamed Ls qs → is_some (language_named Ls (query_name q)) ≡ true → AreNamed Ls (qs ++ q ∷ [])
 are_named-push Ls [] q n e = (e, tt)
 are_named-push Ls (p ∷ qs) q n e = (n.0, are_named-push Ls qs q n.1 e)
@@ -43,6 +47,7 @@ pub record SoFar (all rest : List Sexp) (Ls : List Language) (qs : List Query) :
   pub refused : (r : Refusal) → Refuses Ls rest r → Refuses [] all r
   pub named : AreNamed Ls qs
 
+-- the next form defines a language
 behind_language : (all more : List Sexp) (d : Sexp) (Ls : List Language) (qs : List Query) (L : Language) → Defines Ls d L → SoFar all (d ∷ more) Ls qs → SoFar all more (Ls ++ L ∷ []) qs
 behind_language all more d Ls qs L f s = record {
   accepted = λ Ms rs a. s.accepted Ms rs (accepts_language f a);
@@ -50,6 +55,7 @@ behind_language all more d Ls qs L f s = record {
   named = are_named-more Ls L qs s.named;
 }
 
+-- the next form asks something
 behind_query : (all more : List Sexp) (d : Sexp) (Ls : List Language) (qs : List Query) (q : Query) → Asks Ls d q → is_some (language_named Ls (query_name q)) ≡ true → SoFar all (d ∷ more) Ls qs → SoFar all more Ls (qs ++ q ∷ [])
 behind_query all more d Ls qs q f e s = record {
   accepted = λ Ms rs a. subst (λ (ps : List Query). Accepts [] all Ms ps) (sym (append_assoc qs (q ∷ []) rs)) (s.accepted Ms (q ∷ rs) (accepts_query f a));
@@ -57,6 +63,7 @@ behind_query all more d Ls qs q f e s = record {
   named = are_named-push Ls qs q s.named e;
 }
 
+-- the next form does what it does
 stepped : (all more : List Sexp) (d : Sexp) (Ls Ms : List Language) (qs rs : List Query) → Step Ls qs d Ms rs → SoFar all (d ∷ more) Ls qs → SoFar all more Ms rs
 stepped all more d Ls Ms qs rs (step_defines L f e g) s =
     subst (λ (ps : List Query). SoFar all more Ms ps) (sym g) (subst (λ (Ns : List Language). SoFar all more Ns qs) (sym e) (behind_language all more d Ls qs L f s))
@@ -73,6 +80,7 @@ pub so_far-fault : (all : List Sexp) (i : ℕ) (d : Sexp) (Ls : List Language) (
 so_far-fault all i d Ls qs NoMemory h e a s = tt
 so_far-fault all i d Ls qs (Refused r) h e a s = s.refused (refusal_of r) (subst (λ (ds : List Sexp). Refuses Ls ds (refusal_of r)) (sym (drop-at all i d h e)) (refuses_here a))
 
+-- behind the last element nothing is left
 drop-none : {A : Type 0} (xs : List A) (i : ℕ) → length xs ≤ i → drop i xs ≡ []
 drop-none [] zero h = refl
 drop-none [] (suc i) h = refl

@@ -1,24 +1,20 @@
 -- The names in forms that define languages.
-use Rattle.std.proofs.Common.{◌≡◌, ℕ, Bool, true, false, List, [], ◌∷◌, Option, Some, None, refl, sym, ◌∙◌, ap, subst, Result, Ok, Err}
+use Rattle.std.proofs.Common.{◌≡◌, ℕ, Bool, true, false, List, [], ◌∷◌, Option, Some, None, ◌∙◌, ap, Result, Ok, Err}
 use Rattle.std.specs.Prelude.{codes, if◌then◌else◌, option_map}
 use Rattle.rdx_sexp.specs.Sexp.{Sexp}
-use Rattle.rdx_lang.specs.Checked.{language_in}
 use Rattle.rdx_lang.specs.Patterns.{Language}
 use Rattle.rdx_lang.specs.declared.checked.CheckedLang.{CheckedLang}
 use Rattle.rdx_grammar.specs.Languages.{GrammarForm, empty_language, language_over, form_parts, language_parts, extension_parts, language_form, extension_form}
 use Rattle.rdx_grammar.specs.Parts.{parts, text_of, is_word, is_symbol}
-use Rattle.rdx_grammar.specs.Refusal.{Refusal, unnamed, or_else}
-use Rattle.rdx_grammar.specs.Refused.{unbuilt_at}
 use Rattle.rdx_grammar.specs.declared.fault.DefFault.{DefFault}
 use Rattle.rdx_grammar.specs.declared.fault.DefFault.TheVariants.{Refused, NoMemory}
-use Rattle.rdx_grammar.specs.declared.fault.DefKind.TheVariants.{Shape}
-use Rattle.rdx_query.specs.Defining.{IsDefined, IsRefusedLanguage, language_by_check, language_by_recursion, DefinesOver, DefinesBy, IsNamed}
-use Rattle.rdx_query.specs.File.{by_check, by_recursion, IsRefusedForm}
+use Rattle.rdx_query.specs.Defining.{language_by_check, language_by_recursion, DefinesOver, DefinesBy, IsNamed}
+use Rattle.rdx_query.specs.File.{by_check, by_recursion}
 use Rattle.rdx_query.specs.FormChecks.{language_refusal, form_refusal, refusal_by_kind, named_base, unknown_at, unknown_by}
-use Rattle.rdx_query.specs.FormParts.{form_kind, base_among, base_name}
+use Rattle.rdx_query.specs.FormParts.{form_kind, base_name}
 use Rattle.rdx_query.specs.FormReadings.{form_language, language_by_kind}
 use Rattle.rdx_query.specs.Known.{language_named, or_empty}
-use Rattle.rdx_query.specs.PartViews.{second_among, second_item}
+use Rattle.rdx_query.specs.PartViews.{second_among}
 use Rattle.rdx_query.specs.declared.kind.FormKind.TheVariants as kind
 
 -- ---- the name of the language that is defined
@@ -43,6 +39,7 @@ named_language head (Some (h ∷ [])) g e = absurd (no_test (is_word head h) g e
 named_language head (Some (h ∷ l ∷ ds)) g e =
     ap (λ (f : GrammarForm). Some f.name) (by_test (is_word head h) (is_symbol l) (record { name = l; definitions = ds }) g e)
 
+-- the second of the parts of such a form is its name
 named_extension : (head : List ℕ) (o : Option (List Sexp)) (g : GrammarForm) → form_parts head extension_parts o ≡ Some g → second_among o ≡ Some g.name
 named_extension head None g e = absurd cc
 named_extension head (Some []) g e = absurd cc
@@ -51,9 +48,11 @@ named_extension head (Some (h ∷ l ∷ [])) g e = absurd (no_test (is_word head
 named_extension head (Some (h ∷ l ∷ l0 ∷ ds)) g e =
     ap (λ (f : GrammarForm). Some f.name) (by_tests (is_word head h) (is_symbol l) (is_symbol l0) (record { name = l; definitions = ds }) g e)
 
+-- the name of a `define-language` form
 pub language_form-named : (d : Sexp) → IsNamed d (language_form d)
 language_form-named d g e = named_language (codes "define-language") (parts d) g e
 
+-- the name of a `define-extended-language` form
 pub extension_form-named : (d : Sexp) → IsNamed d (extension_form d)
 extension_form-named d g e = named_extension (codes "define-extended-language") (parts d) g e
 
@@ -63,6 +62,7 @@ extension_form-named d g e = named_extension (codes "define-extended-language") 
 pub named_base-known : (Ls : List Language) (l : Sexp) (L : Language) → language_named Ls (text_of l) ≡ Some L → named_base Ls (Some l) ≡ L
 named_base-known Ls l L e = ap or_empty e
 
+-- and the check of unknown languages lets it pass
 pub unknown_at-known : (Ls : List Language) (l : Sexp) (L : Language) → language_named Ls (text_of l) ≡ Some L → unknown_at Ls (Some l) ≡ None
 unknown_at-known Ls l L e = ap (λ o. unknown_by o l) e
 
@@ -75,9 +75,11 @@ by_parts Ls base l0 d g (Err NoMemory) e f a = tt
 by_parts Ls base l0 d g (Err (Refused r)) e f (language_by_check h) = by_check (e ∙ h)
 by_parts Ls base l0 d g (Err (Refused r)) e f (language_by_recursion L x h k i j) = by_recursion L x (e ∙ h) (f ∙ k) i j
 
+-- what is said of its parts is said of a `define-language` form
 pub by_language : (Ls : List Language) (d : Sexp) (x : Result CheckedLang DefFault) → form_kind d ≡ Some kind.Language → DefinesOver Ls empty_language None d (language_form d) x → DefinesBy Ls d x
 by_language Ls d x e a = by_parts Ls empty_language None d (language_form d) x (ap (refusal_by_kind Ls d) e) (ap (language_by_kind Ls d) e) a
 
+-- what is said of its parts, over the base that it names, is said of a `define-extended-language` form
 pub by_extension : (Ls : List Language) (base : Language) (l0 : Option Sexp) (d : Sexp) (x : Result CheckedLang DefFault) → form_kind d ≡ Some kind.Extension → base_name d ≡ l0 → named_base Ls l0 ≡ base → DefinesOver Ls base l0 d (extension_form d) x → DefinesBy Ls d x
 by_extension Ls base l0 d x e f h a =
     by_parts Ls base l0 d (extension_form d) x

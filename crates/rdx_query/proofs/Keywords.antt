@@ -3,11 +3,11 @@ use Rattle.std.proofs.Common.{◌≡◌, ◌++◌, List, [], ◌∷◌, refl, sy
 use Rattle.rdx_sexp.specs.Sexp.{Sexp, Sexps, leaf, list, nil, cons, integer, truth, text, symbol, keyword}
 use Rattle.rdx_grammar.specs.Checks.{shape_fault, shape_faults}
 use Rattle.rdx_grammar.specs.Refusal.{first, or_else}
-use Rattle.rdx_grammar.specs.Stands.{Stand, keys, keys_in, stands, stands_in, stands_by, head_among, malformed_list, all_excepted, excepted, avoiding, head_of}
-use Rattle.rdx_grammar.specs.Parts.{listed, are_symbols, is_symbol}
+use Rattle.rdx_grammar.specs.Stands.{Stand, keys, keys_in, stands, stands_in, stands_by, head_among, malformed_list, all_excepted}
+use Rattle.rdx_grammar.specs.Parts.{listed, are_symbols}
 use Rattle.rdx_grammar.specs.declared.stands.Head.{Head}
 use Rattle.rdx_grammar.specs.declared.stands.Head.TheVariants.{Naming, Avoiding, Prefixing, Plain}
-use Rattle.std.specs.Prelude.{Bool, true, false, ◌&&◌, if◌then◌else◌}
+use Rattle.std.specs.Prelude.{Bool, true, false, if◌then◌else◌}
 
 -- the first of two lists, one behind the other
 pub first-append : {A : Type 0} (xs ys : List A) → first (xs ++ ys) ≡ or_else (first xs) (first ys)
@@ -41,6 +41,7 @@ excepted-faults : (ds : List Sexp) → shape_faults (all_excepted ds) ≡ []
 excepted-faults [] = refl
 excepted-faults (d ∷ ds) = excepted-faults ds
 
+-- in a list that names the symbols to avoid, or that has not the shape of one, only keywords are faults
 avoiding-by : (b : Bool) (whole : Sexp) (ds rest : Sexps) → (b ≡ true → shape_faults (keys_in ds) ≡ []) → shape_faults (if b then all_excepted (listed rest) else malformed_list whole ds) ≡ shape_faults (keys_in ds)
 avoiding-by true whole ds rest f = excepted-faults (listed rest) ∙ sym (f refl)
 avoiding-by false whole ds rest f = refl
@@ -54,6 +55,7 @@ head-keys (leaf (symbol x) s) ds k e f = refl
 head-keys (leaf (keyword x) s) ds k e f = absurd (f (sym e))
 head-keys (list es s) ds k e f = absurd (f (sym e))
 
+-- lists with the same faults, behind lists with the same faults
 both-keys : (ss ts us vs : List Stand) → shape_faults ss ≡ shape_faults ts → shape_faults us ≡ shape_faults vs → shape_faults (ss ++ us) ≡ shape_faults (ts ++ vs)
 both-keys ss ts us vs e f = shape_faults-append ss us ∙ (λ i. e i ++ f i) ∙ sym (shape_faults-append ts vs)
 

@@ -2,9 +2,6 @@ pub mod Upto
 pub mod FirstRecursive
 pub mod OneReading
 pub mod OneText
-pub mod Truths
-pub mod Occurs
-pub mod Sexps
 pub mod Keywords
 pub mod ReadTerms
 pub mod LanguageChecks

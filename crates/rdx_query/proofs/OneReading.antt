@@ -1,5 +1,5 @@
 -- The forms of a file are accepted in one way at most, or refused in one way.
-use Rattle.std.proofs.Common.{◌≡◌, ◌++◌, ℕ, List, [], ◌∷◌, Option, Some, None, refl, sym, ◌∙◌, ap, subst}
+use Rattle.std.proofs.Common.{◌≡◌, ◌++◌, List, [], ◌∷◌, Option, Some, None, refl, sym, ◌∙◌, ap, subst}
 use Rattle.rdx_sexp.specs.Sexp.{Sexp}
 use Rattle.rdx_lang.specs.Edges.{IsFree, IsFirstRecursive}
 use Rattle.rdx_lang.specs.Patterns.{Language}
@@ -16,7 +16,7 @@ use Rattle.rdx_query.proofs.FirstRecursive.{first_recursive-one, first_recursive
 
 -- ---- forms
 
--- no form both defines a language and asks something
+-- no kind of form both defines a language and asks something
 by_kind : (Ls : List Language) (d : Sexp) (k : Option FormKind) (L : Language) (q : Query) → language_by_kind Ls d k ≡ Some L → query_by_kind Ls d k ≡ Some q → ⊥
 by_kind Ls d None L q e f = absurd cc
 by_kind Ls d (Some kind.Language) L q e f = absurd cc
@@ -24,6 +24,7 @@ by_kind Ls d (Some kind.Extension) L q e f = absurd cc
 by_kind Ls d (Some kind.Match) L q e f = absurd cc
 by_kind Ls d (Some kind.Whether) L q e f = absurd cc
 
+-- no form does both
 not_both : (Ls : List Language) (d : Sexp) (L : Language) (q : Query) → form_language Ls d ≡ Some L → form_query Ls d ≡ Some q → ⊥
 not_both Ls d L q e f = by_kind Ls d (form_kind d) L q e f
 
@@ -35,9 +36,11 @@ same_some o x y e f = cc
 not_some : {A : Type 0} (o : Option A) (x : A) → o ≡ None → o ≡ Some x → ⊥
 not_some o x e f = absurd cc
 
+-- a form defines one language at most
 one_definition : (Ls : List Language) (d : Sexp) (L M : Language) → Defines Ls d L → Defines Ls d M → L ≡ M
 one_definition Ls d L M a b = same_some (form_language Ls d) L M a.means b.means
 
+-- a form asks one thing at most
 one_question : (Ls : List Language) (d : Sexp) (q r : Query) → Asks Ls d q → Asks Ls d r → q ≡ r
 one_question Ls d q r a b = same_some (form_query Ls d) q r a.means b.means
 
@@ -69,6 +72,7 @@ pub record AreSame (Ms Ns : List Language) (qs rs : List Query) : Type 0 where
   pub languages : Ms ≡ Ns
   pub queries : qs ≡ rs
 
+-- one more query in front
 same_more : (Ms Ns : List Language) (q r : Query) (qs rs : List Query) → q ≡ r → AreSame Ms Ns qs rs → AreSame Ms Ns (q ∷ qs) (r ∷ rs)
 same_more Ms Ns q r qs rs e s = record { languages = s.languages; queries = λ i. e i ∷ s.queries i }
 
@@ -76,6 +80,7 @@ same_more Ms Ns q r qs rs e s = record { languages = s.languages; queries = λ i
 behind : {A : Type 0} (P : List Language → A → Type 0) (Ls : List Language) (L M : Language) (a : A) → L ≡ M → P (Ls ++ L ∷ []) a → P (Ls ++ M ∷ []) a
 behind P Ls L M a e p = subst (λ (N : Language). P (Ls ++ N ∷ []) a) e p
 
+-- forms are accepted in one way at most
 pub accepts-one : (Ls : List Language) (ds : List Sexp) (Ms Ns : List Language) (qs rs : List Query) → Accepts Ls ds Ms qs → Accepts Ls ds Ns rs → AreSame Ms Ns qs rs
 accepts-one Ls [] Ms Ns qs rs accepts_none accepts_none = record { languages = refl; queries = refl }
 accepts-one Ls (d ∷ ds) Ms Ns qs rs (accepts_language {L} a more) (accepts_language {L = M} b rest) =
@@ -85,6 +90,7 @@ accepts-one Ls (d ∷ ds) Ms Ns qs rs (accepts_query {q} a more) (accepts_langua
 accepts-one Ls (d ∷ ds) Ms Ns qs rs (accepts_query {q} {qs = more_qs} a more) (accepts_query {q = r} {qs = more_rs} b rest) =
     same_more Ms Ns q r more_qs more_rs (one_question Ls d q r a b) (accepts-one Ls ds Ms Ns more_qs more_rs more rest)
 
+-- forms have one refusal at most
 pub refuses-one : (Ls : List Language) (ds : List Sexp) (r q : Refusal) → Refuses Ls ds r → Refuses Ls ds q → r ≡ q
 refuses-one Ls [] r q a b = elim a [ ]
 refuses-one Ls (d ∷ ds) r q (refuses_here a) (refuses_here b) = one_form_refusal Ls d r q a b
@@ -98,6 +104,7 @@ refuses-one Ls (d ∷ ds) r q (refuses_behind_query {q = asked} a more) (refuses
 refuses-one Ls (d ∷ ds) r q (refuses_behind_query {q = asked} a more) (refuses_behind_language {L} b rest) = absurd (not_both Ls d L asked b.means a.means)
 refuses-one Ls (d ∷ ds) r q (refuses_behind_query a more) (refuses_behind_query b rest) = refuses-one Ls ds r q more rest
 
+-- forms that are accepted are not refused
 pub accepts-refuses : (Ls : List Language) (ds : List Sexp) (Ms : List Language) (qs : List Query) (r : Refusal) → Accepts Ls ds Ms qs → Refuses Ls ds r → ⊥
 accepts-refuses Ls [] Ms qs r a b = elim b [ ]
 accepts-refuses Ls (d ∷ ds) Ms qs r (accepts_language {L} a more) (refuses_here b) = defined_not_refused Ls d L r a b

@@ -1,30 +1,28 @@
 -- Which check refuses a query.
-use Rattle.std.proofs.Common.{◌≡◌, ◌++◌, ℕ, Bool, true, false, List, [], ◌∷◌, Option, Some, None, Result, Ok, Err, refl, sym, ◌∙◌, ap, subst}
+use Rattle.std.proofs.Common.{◌≡◌, ◌++◌, ℕ, Bool, true, false, List, [], ◌∷◌, Option, Some, None, Ok, Err, refl, sym, ◌∙◌, ap, subst}
 use Rattle.std.specs.Prelude.{option_map, is_some, bytes_eq, if◌then◌else◌}
 use Rattle.std.specs.Cmp.Lexicographic.{bytes_decides}
 use Rattle.rdx_sexp.specs.Meaning.{meaning}
 use Rattle.rdx_sexp.specs.Sexp.{Sexp}
 use Rattle.rdx_term.specs.Tree.{Tree}
-use Rattle.rdx_term.specs.View.{tree_of}
-use Rattle.rdx_lang.specs.Checked.{language_in, pattern_in}
-use Rattle.rdx_lang.specs.Patterns.{Pattern, Language}
+use Rattle.rdx_lang.specs.Checked.{pattern_in}
+use Rattle.rdx_lang.specs.Patterns.{Language}
 use Rattle.rdx_lang.specs.declared.checked.CheckedPat.{CheckedPat}
-use Rattle.rdx_grammar.specs.Answers.{ReadsPattern, refusal_of}
+use Rattle.rdx_grammar.specs.Answers.{ReadsPattern}
 use Rattle.rdx_grammar.specs.Checks.{shape_faults}
 use Rattle.rdx_grammar.specs.Languages.{empty_language, names_of}
-use Rattle.rdx_grammar.specs.Parts.{text_of, is_symbol}
+use Rattle.rdx_grammar.specs.Parts.{text_of}
 use Rattle.rdx_grammar.specs.Reading.{reading}
-use Rattle.rdx_grammar.specs.Refusal.{Refusal, unnamed, named, or_else, first}
+use Rattle.rdx_grammar.specs.Refusal.{Refusal, unnamed, or_else, first}
 use Rattle.rdx_grammar.specs.Refused.{unbuilt_at, shape_at, bad_name_at, bad_pattern_at, pattern_refusal}
-use Rattle.rdx_grammar.specs.Stands.{Stand, keys, stands}
-use Rattle.rdx_grammar.specs.Unbuilt.{has_word_to_come}
+use Rattle.rdx_grammar.specs.Stands.{keys, stands}
 use Rattle.rdx_grammar.specs.declared.fault.DefFault.{DefFault}
 use Rattle.rdx_grammar.specs.declared.fault.DefFault.TheVariants.{Refused, NoMemory}
 use Rattle.rdx_grammar.specs.declared.fault.DefKind.TheVariants.{Unbuilt, Shape}
 use Rattle.rdx_grammar.specs.declared.patterns.Position.TheVariants as position
-use Rattle.rdx_query.specs.Asking.{IsFaultAt, early_refusal, IsFit, IsAsked}
-use Rattle.rdx_query.specs.FormChecks.{named_base, unknown_at, unknown_by, host_at, host_by, query_shape, checked_parts, keys_of, query_refusal}
-use Rattle.rdx_query.specs.FormParts.{QueryParts, query_parts, template_in}
+use Rattle.rdx_query.specs.Asking.{IsFaultAt, IsFit, IsAsked}
+use Rattle.rdx_query.specs.FormChecks.{named_base, unknown_at, unknown_by, host_by, query_shape, keys_of, query_refusal}
+use Rattle.rdx_query.specs.FormParts.{query_parts}
 use Rattle.rdx_query.specs.FormReadings.{term_of, tree_or_hole}
 use Rattle.rdx_query.specs.Known.{language_named, or_empty}
 use Rattle.rdx_query.specs.Sizes.{IsFormSize}
@@ -33,6 +31,7 @@ use Rattle.rdx_query.proofs.QueryParts.{query_parts-size, template_in-size, quer
 
 -- ---- chains of checks
 
+-- where none of two refuses, the first does not
 or_else-none : {A : Type 0} (a b : Option A) → or_else a b ≡ None → a ≡ None
 or_else-none None b e = refl
 or_else-none (Some x) b e = absurd cc
@@ -40,9 +39,11 @@ or_else-none (Some x) b e = absurd cc
 -- ---- the checks behind that of the shape
 
 module _ (Ls : List Language) (d l p t : Sexp) (f : IsFit d l p t) where
+  -- the checks of a query behind that of its shape
   abbrev behind : Option Refusal
   behind = or_else (unknown_at Ls (Some l)) (or_else (bad_name_at (stands p)) (bad_pattern_at empty_language (names_of (named_base Ls (Some l))) (stands p)))
 
+  -- a query of that shape is refused by these alone
   fit-refusal : query_refusal Ls d (query_parts d) ≡ behind
   fit-refusal =
       ap (query_refusal Ls d) f.parts
@@ -50,9 +51,11 @@ module _ (Ls : List Language) (d l p t : Sexp) (f : IsFit d l p t) where
       ∙ (λ i. or_else (if f.plain i then Some (unnamed Unbuilt d) else None) (or_else (option_map (unnamed Shape) (first (shape_faults (stands p ++ keys_of (f.template i))))) behind))
       ∙ (λ i. or_else (option_map (unnamed Shape) (f.unkeyed i)) behind)
 
+  -- no keyword stands in the pattern
   unkeyed-pattern : first (shape_faults (stands p)) ≡ None
   unkeyed-pattern = or_else-none (first (shape_faults (stands p))) (first (shape_faults (keys t))) (sym (first_fault-append (stands p) (keys t)) ∙ f.unkeyed)
 
+  -- no word to come stands in the pattern
   built-pattern : unbuilt_at p ≡ None
   built-pattern = unbuilt_at-built p (query_parts-built d (record { language = l; pattern = p; host = f.host }) f.parts (unbuilt_at-none d f.built))
 
@@ -67,10 +70,12 @@ module _ (Ls : List Language) (d l p t : Sexp) (f : IsFit d l p t) where
       in
       whole ∙ sym part
 
+  -- the pattern is refused
   pub pattern_fault : (L : Language) (x : DefFault) → language_named Ls (text_of l) ≡ Some L → ReadsPattern (names_of L) p (Err x) → IsFaultAt (query_refusal Ls d (query_parts d)) x
   pattern_fault L NoMemory k e = tt
   pattern_fault L (Refused r) k e = known-refusal L k ∙ e
 
+  -- the pattern is accepted
   pub is_asked : (L : Language) (c : CheckedPat) (name : List ℕ) (u : Tree) → language_named Ls (text_of l) ≡ Some L → ReadsPattern (names_of L) p (Ok c) → name ≡ text_of l → u ≡ tree_or_hole (meaning t) → IsAsked Ls d name (pattern_in c) u
   is_asked L c name u k e n h = record {
     passes = known-refusal L k ∙ e.0;
@@ -82,14 +87,17 @@ module _ (Ls : List Language) (d l p t : Sexp) (f : IsFit d l p t) where
     known = ap (λ x. is_some (language_named Ls x)) n ∙ ap is_some k;
   }
 
+  -- the pattern is of the size of forms
   pub pattern-size : IsFormSize d → IsFormSize p
   pattern-size z = (query_parts-size d (record { language = l; pattern = p; host = f.host }) f.parts z).pattern
 
+  -- and so is the term
   pub term-size : IsFormSize d → IsFormSize t
   term-size z = template_in-size f.host t f.template (query_parts-size d (record { language = l; pattern = p; host = f.host }) f.parts z).host
 
 -- ---- names
 
+-- the language by a test, or one behind it
 named-by : (b : Bool) (L M : Language) (x : List ℕ) (o : Option Language) → bytes_eq L.name x ≡ b → (o ≡ Some M → M.name ≡ x) → (if b then Some L else o) ≡ Some M → M.name ≡ x
 named-by true L M x o e f g = let h : L ≡ M = cc in subst (λ (N : Language). N.name ≡ x) h ((bytes_decides L.name x).0 e)
 named-by false L M x o e f g = f g

@@ -44,6 +44,7 @@ pub record IsFit (d l p t : Sexp) : Type 0 where
   pub built : unbuilt_at d ≡ None
   pub unkeyed : first (shape_faults (stands p ++ keys t)) ≡ None
 
+-- the answer of these checks
 abbrev pub FitsBy : Sexp → Result Fit DefFault → Type 0
 FitsBy d (Ok f) = IsFit d f.language.now f.pattern.now f.term.now
 FitsBy d (Err e) = IsFaultAt (early_refusal d (query_parts d)) e

@@ -32,6 +32,7 @@ is_early_kind BadName = false
 is_early_kind BadPattern = false
 is_early_kind LeftRecursive = false
 
+-- a fault that is such a refusal, or want of memory
 abbrev pub is_early_fault : DefFault → Bool
 is_early_fault (Refused r) = is_early_kind r.kind
 is_early_fault NoMemory = true
@@ -54,6 +55,7 @@ pub data IsRefusedLanguage (Ls : List Language) (base : Language) (l0 : Option S
   language_by_check : language_refusal Ls base l0 d g ≡ Some r → IsRefusedLanguage Ls base l0 d g r
   language_by_recursion : (L : Language) (x : List ℕ) → language_refusal Ls base l0 d g ≡ None → option_map (language_over base) g ≡ Some L → IsFirstRecursive L (Nt x) → r ≡ recursion_at d x → IsRefusedLanguage Ls base l0 d g r
 
+-- the form is refused so, unless memory ran out
 abbrev pub IsLanguageFault : List Language → Language → Option Sexp → Sexp → Option GrammarForm → DefFault → Type 0
 IsLanguageFault Ls base l0 d g (Refused r) = IsRefusedLanguage Ls base l0 d g (refusal_of r)
 IsLanguageFault Ls base l0 d g NoMemory = Unit {0}
@@ -65,6 +67,7 @@ DefinesOver Ls base l0 d g (Err e) = IsLanguageFault Ls base l0 d g e
 
 -- ---- by the form alone
 
+-- the form is refused so, unless memory ran out
 abbrev pub IsFormFault : List Language → Sexp → DefFault → Type 0
 IsFormFault Ls d (Refused r) = IsRefusedForm Ls d (refusal_of r)
 IsFormFault Ls d NoMemory = Unit {0}
@@ -80,6 +83,7 @@ DefinesBy Ls d (Err e) = IsFormFault Ls d e
 abbrev pub IsNamed : Sexp → Option GrammarForm → Type 0
 IsNamed d g = (h : GrammarForm) → g ≡ Some h → second_item d ≡ Some h.name
 
+-- the name, where a language has it
 abbrev pub taken_among : List Language → Option Sexp → Option Sexp
 taken_among Ls None = None
 taken_among Ls (Some l) = if is_some (language_named Ls (text_of l)) then Some l else None

@@ -1,5 +1,5 @@
 -- What a file means, form by form, or the first refusal of its forms.
-use Rattle.std.specs.Prelude.{◌≡◌, ℕ, List, [], ◌∷◌, ◌++◌, Option, Some, None}
+use Rattle.std.specs.Prelude.{◌≡◌, ℕ, List, [], ◌∷◌, ◌++◌, Some, None}
 use Rattle.rdx_sexp.specs.Sexp.{Sexp}
 use Rattle.rdx_lang.specs.Edges.{IsFree, IsFirstRecursive}
 use Rattle.rdx_lang.specs.Patterns.{Language}

@@ -1,15 +1,14 @@
 -- When a form is refused, given the languages that earlier forms define: by the check with the least number that refuses it, at the first
 -- place at which it does.
-use Rattle.std.specs.Prelude.{ℕ, List, [], ◌∷◌, ◌++◌, Option, Some, None, option_map, if◌then◌else◌}
+use Rattle.std.specs.Prelude.{List, [], ◌∷◌, ◌++◌, Option, Some, None, if◌then◌else◌}
 use Rattle.rdx_sexp.specs.Sexp.{Sexp}
 use Rattle.rdx_lang.specs.Patterns.{Language}
-use Rattle.rdx_grammar.specs.Checks.{shape_faults, bad_patterns}
 use Rattle.rdx_grammar.specs.Languages.{GrammarForm, empty_language, language_form, extension_form, form_stands, names_of}
 use Rattle.rdx_grammar.specs.Parts.{is_symbol, text_of}
-use Rattle.rdx_grammar.specs.Refusal.{Refusal, unnamed, named, or_else, first}
+use Rattle.rdx_grammar.specs.Refusal.{Refusal, unnamed, named, or_else}
 use Rattle.rdx_grammar.specs.Refused.{unbuilt_at, shape_at, duplicate_at, bad_name_at, bad_pattern_at, names_over}
 use Rattle.rdx_grammar.specs.Stands.{Stand, misshaped, stands, keys}
-use Rattle.rdx_grammar.specs.declared.fault.DefKind.TheVariants.{Unbuilt, UnknownLanguage, Duplicate, BadPattern}
+use Rattle.rdx_grammar.specs.declared.fault.DefKind.TheVariants.{Unbuilt, UnknownLanguage, Duplicate}
 use Rattle.rdx_query.specs.FormParts.{form_kind, base_name, QueryParts, query_parts, template_in, has_dots}
 use Rattle.rdx_query.specs.Known.{language_named, or_empty}
 use Rattle.rdx_query.specs.declared.kind.FormKind.{FormKind}
@@ -22,6 +21,7 @@ abbrev pub unknown_by : Option Language → Sexp → Option Refusal
 unknown_by None l = Some (named UnknownLanguage l)
 unknown_by (Some L) l = None
 
+-- the name, where one stands, is that of no language
 abbrev pub unknown_at : List Language → Option Sexp → Option Refusal
 unknown_at Ls None = None
 unknown_at Ls (Some l) = unknown_by (language_named Ls (text_of l)) l
@@ -31,18 +31,19 @@ abbrev pub taken_by : Option Language → Sexp → Option Refusal
 taken_by None l = None
 taken_by (Some L) l = Some (named Duplicate l)
 
+-- the name of the form is that of an earlier one
 abbrev pub taken_at : List Language → Option GrammarForm → Option Refusal
 taken_at Ls None = None
 taken_at Ls (Some g) = taken_by (language_named Ls (text_of g.name)) g.name
 
 -- ---- languages
 
--- the language with this name, by itself or where the name is one that no form defines one without nonterminals
+-- the language of this name; one without nonterminals where no form defines it, or where no name stands
 abbrev pub named_base : List Language → Option Sexp → Language
 named_base Ls None = empty_language
 named_base Ls (Some l) = or_empty (language_named Ls (text_of l))
 
--- a form with these parts that defines a language over a base, which an extension names so
+-- the refusal of a form with these parts that defines a language over a base; l0 is the name of the base, where the form extends one
 abbrev pub language_refusal : List Language → Language → Option Sexp → Sexp → Option GrammarForm → Option Refusal
 language_refusal Ls base l0 d g =
     or_else (unbuilt_at d) (or_else (shape_at (form_stands d g)) (or_else (unknown_at Ls l0) (or_else (or_else (taken_at Ls g) (duplicate_at (form_stands d g)))
@@ -60,28 +61,32 @@ abbrev pub host_by : Sexp → Option Sexp → Option Refusal
 host_by d None = Some (unnamed Unbuilt d)
 host_by d (Some t) = if has_dots t then Some (unnamed Unbuilt d) else None
 
+-- of a query with four items
 abbrev pub host_at : Sexp → Option QueryParts → Option Refusal
 host_at d None = None
 host_at d (Some q) = host_by d (template_in q.host)
 
+-- the keywords in the term
 abbrev pub keys_of : Option Sexp → List Stand
 keys_of None = []
 keys_of (Some t) = keys t
 
--- what has a shape in a query
+-- what the check of shapes looks at: the query itself, or what stands in its pattern, and the keywords in its term
 abbrev pub query_shape : Sexp → Option QueryParts → List Stand
 query_shape d None = misshaped d ∷ []
 query_shape d (Some q) = stands q.pattern ++ keys_of (template_in q.host)
 
+-- the name of its language
 abbrev pub query_language : Option QueryParts → Option Sexp
 query_language None = None
 query_language (Some q) = Some q.language
 
+-- what stands in its pattern
 abbrev pub pattern_stands : Option QueryParts → List Stand
 pattern_stands None = []
 pattern_stands (Some q) = stands q.pattern
 
--- a query with these parts
+-- the refusal of a query with these parts
 abbrev pub query_refusal : List Language → Sexp → Option QueryParts → Option Refusal
 query_refusal Ls d q =
     or_else (unbuilt_at d) (or_else (host_at d q) (or_else (shape_at (query_shape d (checked_parts q))) (or_else (unknown_at Ls (query_language q))
@@ -89,6 +94,7 @@ query_refusal Ls d q =
 
 -- ---- forms
 
+-- by what the form is by its head
 abbrev pub refusal_by_kind : List Language → Sexp → Option FormKind → Option Refusal
 refusal_by_kind Ls d None = Some (unnamed Unbuilt d)
 refusal_by_kind Ls d (Some kind.Language) = language_refusal Ls empty_language None d (language_form d)

@@ -1,8 +1,8 @@
 -- The forms of a file and their parts.
-use Rattle.std.specs.Prelude.{ℕ, Bool, false, ◌||◌, List, [], ◌∷◌, Option, Some, None, codes, if◌then◌else◌}
-use Rattle.rdx_sexp.specs.Sexp.{Atom, integer, truth, text, symbol, keyword, Sexp, Sexps, leaf, list, nil, cons}
+use Rattle.std.specs.Prelude.{Bool, false, ◌||◌, List, [], ◌∷◌, Option, Some, None, codes, if◌then◌else◌}
+use Rattle.rdx_sexp.specs.Sexp.{Atom, symbol, Sexp, Sexps, leaf, list, nil, cons}
 use Rattle.rdx_grammar.specs.Names.{begins_with_dots}
-use Rattle.rdx_grammar.specs.Parts.{parts, text_of, is_symbol, is_word}
+use Rattle.rdx_grammar.specs.Parts.{parts, is_word}
 use Rattle.rdx_query.specs.declared.kind.FormKind.{FormKind}
 use Rattle.rdx_query.specs.declared.kind.FormKind.TheVariants.{Language, Extension, Match, Whether}
 

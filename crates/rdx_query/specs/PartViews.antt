@@ -9,6 +9,7 @@ use Rattle.rdx_query.specs.declared.parts.QueryParts.{QueryParts}
 abbrev pub parts_of : QueryParts → model.QueryParts
 parts_of q = record { language = q.language.now; pattern = q.pattern.now; host = q.host.now }
 
+-- the second of the items
 abbrev pub second_among : Option (List Sexp) → Option Sexp
 second_among (Some (h ∷ l ∷ ds)) = Some l
 second_among o = None

@@ -1,5 +1,5 @@
 -- How large the forms of a file are.
-use Rattle.std.specs.Prelude.{ℕ, ◌≤◌}
+use Rattle.std.specs.Prelude.{◌≤◌}
 use Rattle.rdx_sexp.specs.Sexp.{Sexp, sexp_nodes}
 use Rattle.rdx_sexp.specs.Size.{sexp_depth, IsSpelledSexp}
 

@@ -1,5 +1,5 @@
 -- What the values of the code stand for.
-use Rattle.std.specs.Prelude.{◌≡◌, ℕ, List, [], ◌∷◌, map, Option, Some, None, Result, Ok, Err, is_some, Bool, true}
+use Rattle.std.specs.Prelude.{◌≡◌, ℕ, List, [], ◌∷◌, map, Result, Ok, Err, is_some, true}
 use Rattle.rdx_sexp.specs.Sexp.{Sexp}
 use Rattle.rdx_term.specs.View.{tree_of}
 use Rattle.rdx_lang.specs.Checked.{language_in, pattern_in}

@@ -15,8 +15,9 @@ ghost use Rattle.rdx_query.specs.Known.{language_named};
 ghost use Rattle.rdx_query.specs.declared.kind.FormKind.TheVariants as kind;
 
 use crate::known::place_named;
-use crate::parts::{base_name, second_item, text};
+use crate::parts::{base_name, second_item};
 use crate::refusals::{misshaped, named};
+use rdx_grammar::shape::text;
 use rdx_grammar::{DefFault, DefKind, extend, read_language};
 use rdx_lang::{CheckedLang, Language, Ranks};
 use rdx_sexp::Datum;

@@ -2,7 +2,7 @@
 ghost use Rattle.std.specs.Prelude.{◌≡◌};
 ghost use Rattle.rdx_query.specs.FormParts as forms;
 
-use crate::parts::{is_word, items};
+use rdx_grammar::shape::{is_word, items};
 use rdx_sexp::Datum;
 
 /// What a form is by its head.

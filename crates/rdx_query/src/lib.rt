@@ -7,6 +7,7 @@
 
 mod answers;
 mod definitions;
+mod dots;
 mod file;
 mod firsts;
 mod forms;
@@ -17,7 +18,8 @@ mod parts;
 mod queries;
 mod refusals;
 mod terms;
-mod unbuilt;
+#[cfg(test)]
+mod tests;
 
 pub use answers::{Answered, answer};
 pub use file::{CheckedFile, Program, Query, check_file};

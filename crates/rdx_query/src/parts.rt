@@ -4,7 +4,8 @@ ghost use Rattle.rdx_grammar.specs.Parts as parts;
 ghost use Rattle.rdx_query.specs.FormParts as forms;
 ghost use Rattle.rdx_query.specs.PartViews.{parts_of, second_item};
 
-use rdx_sexp::{Datum, Form};
+use rdx_grammar::shape::{is_word, items};
+use rdx_sexp::Datum;
 
 /// The name of a language, a pattern, and the host expression that gives the term.
 #[derive(Clone, Copy)]
@@ -12,43 +13,6 @@ pub(crate) struct QueryParts<'a> {
     pub(crate) language: &'a Datum,
     pub(crate) pattern: &'a Datum,
     pub(crate) host: &'a Datum,
-}
-
-/// The parts of a list.
-pub(crate) fn items(d: &Datum) -> Option<&[Datum]>
-    ensures { option_map (λ items. items.now) result ≡ parts.parts d.now }
-{
-    match &d.form {
-        Form::List(items) => Some(items.as_slice()),
-        _ => None,
-    }
-}
-
-/// The text of a datum that is a symbol, and none of another.
-pub(crate) fn text(d: &Datum) -> &str
-    ensures { result.now ≡ parts.text_of d.now }
-{
-    match &d.form {
-        Form::Sym(text) => text.as_str(),
-        _ => "",
-    }
-}
-
-/// Whether the datum is a symbol.
-pub(crate) fn is_symbol(d: &Datum) -> bool
-    ensures { result ≡ parts.is_symbol d.now }
-{
-    matches!(&d.form, Form::Sym(_))
-}
-
-/// Whether the datum is the symbol of this text.
-pub(crate) fn is_word(d: &Datum, word: &str) -> bool
-    ensures { result ≡ parts.is_word word.now d.now }
-{
-    match &d.form {
-        Form::Sym(text) => text.as_str() == word,
-        _ => false,
-    }
 }
 
 /// The second item, which is the name where a form defines a language.

@@ -11,12 +11,14 @@ ghost use Rattle.rdx_query.specs.FormChecks.{unknown_at};
 ghost use Rattle.rdx_query.specs.Known.{language_named};
 ghost use Rattle.rdx_query.specs.Sizes.{IsFormSize};
 
+use crate::dots::has_dots;
 use crate::firsts::first_key_in;
 use crate::known::place_named;
-use crate::parts::{is_symbol, query_parts, template, text};
+use crate::parts::{query_parts, template};
 use crate::refusals::{misshaped, named, unnamed};
 use crate::terms::term_of;
-use crate::unbuilt::{has_dots, has_word_to_come};
+use rdx_grammar::shape::{is_symbol, text};
+use rdx_grammar::unbuilt::has_word_to_come;
 use rdx_grammar::{DefFault, DefKind, read_pattern};
 use rdx_lang::{CheckedLang, CheckedPat};
 use rdx_sexp::Datum;

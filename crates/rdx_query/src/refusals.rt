@@ -5,8 +5,8 @@ ghost use Rattle.rdx_grammar.specs.Refusal as places;
 ghost use Rattle.rdx_grammar.specs.Refused.{unbuilt_at};
 ghost use Rattle.rdx_grammar.specs.declared.fault.DefKind.TheVariants.{Shape};
 
-use crate::parts::text;
-use crate::unbuilt::has_word_to_come;
+use rdx_grammar::shape::text;
+use rdx_grammar::unbuilt::has_word_to_come;
 use rdx_grammar::{DefKind, DefRefusal};
 use rdx_sexp::Datum;
 use rdx_term::NoMemory;

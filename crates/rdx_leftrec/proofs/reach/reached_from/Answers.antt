@@ -4,7 +4,7 @@ use Rattle.rdx_lang.specs.Members.{In}
 use Rattle.rdx_leftrec.specs.Leads.{lists_of}
 use Rattle.rdx_leftrec.specs.Marking.{marking}
 use Rattle.rdx_leftrec.specs.Reach.{targets_at}
-use Rattle.rdx_leftrec.proofs.Exploring.{targets_at-read, explores_first, left-inside, waiting-less, explores_next, explores_last}
+use Rattle.rdx_leftrec.proofs.Exploring.{targets_at-read, explores_first, left-read, waiting-less, explores_next, explores_last}
 use Rattle.rdx_leftrec.proofs.reach.reached_from.Goals as goal
 
 pub mark_all-requires : goal.mark_all-requires
@@ -24,19 +24,16 @@ loop-place-init c =
 
 pub bounds-targets-place : goal.bounds-targets-place
 bounds-targets-place c =
-    let k = left-inside (lists_of c.args.targets.now) c.args.start c.in-Some.place c.pop.new.self.items (marking c.loop-place.marks.items c.loop-place.pending.items) c.in-Some.ensures.items c.loop-place.invariant in
-    grind (arith, common_steps, k)
+    left-read c.args.targets.now c.args.start c.in-Some.place c.pop.new.self.items (marking c.loop-place.marks.items c.loop-place.pending.items) c.in-Some.ensures.items c.loop-place.invariant
 
 pub offset_bounds-targets-place : goal.offset_bounds-targets-place
 offset_bounds-targets-place c =
-    let l = left-inside (lists_of c.args.targets.now) c.args.start c.in-Some.place c.pop.new.self.items (marking c.loop-place.marks.items c.loop-place.pending.items) c.in-Some.ensures.items c.loop-place.invariant in
-    let k : c.in-Some.place < length c.args.targets.now = grind (arith, common_steps, l) in
+    let k : c.in-Some.place < length c.args.targets.now = left-read c.args.targets.now c.args.start c.in-Some.place c.pop.new.self.items (marking c.loop-place.marks.items c.loop-place.pending.items) c.in-Some.ensures.items c.loop-place.invariant in
     search rules
 
 pub mark_all-requires-in-Some : goal.mark_all-requires-in-Some
 mark_all-requires-in-Some c j h =
-    let l = left-inside (lists_of c.args.targets.now) c.args.start c.in-Some.place c.pop.new.self.items (marking c.loop-place.marks.items c.loop-place.pending.items) c.in-Some.ensures.items c.loop-place.invariant in
-    let k : c.in-Some.place < length c.args.targets.now = grind (arith, common_steps, l) in
+    let k : c.in-Some.place < length c.args.targets.now = left-read c.args.targets.now c.args.start c.in-Some.place c.pop.new.self.items (marking c.loop-place.marks.items c.loop-place.pending.items) c.in-Some.ensures.items c.loop-place.invariant in
     let e : targets_at (lists_of c.args.targets.now) c.in-Some.place ≡ c.deref-in-Some.result.now =
     targets_at-read c.args.targets.now c.in-Some.place c.index-targets-place.result k c.index-targets-place.is ∙ sym c.deref-in-Some.ensures.value in
     let m = c.requires.targets c.in-Some.place j (subst (λ (ks : List ℕ). In j ks) (sym e) h) in
@@ -45,8 +42,7 @@ mark_all-requires-in-Some c j h =
 
 pub loop-place-smaller : goal.loop-place-smaller
 loop-place-smaller c =
-    let l = left-inside (lists_of c.args.targets.now) c.args.start c.in-Some.place c.pop.new.self.items (marking c.loop-place.marks.items c.loop-place.pending.items) c.in-Some.ensures.items c.loop-place.invariant in
-    let k : c.in-Some.place < length c.args.targets.now = grind (arith, common_steps, l) in
+    let k : c.in-Some.place < length c.args.targets.now = left-read c.args.targets.now c.args.start c.in-Some.place c.pop.new.self.items (marking c.loop-place.marks.items c.loop-place.pending.items) c.in-Some.ensures.items c.loop-place.invariant in
     let e : targets_at (lists_of c.args.targets.now) c.in-Some.place ≡ c.deref-in-Some.result.now =
     targets_at-read c.args.targets.now c.in-Some.place c.index-targets-place.result k c.index-targets-place.is ∙ sym c.deref-in-Some.ensures.value in
     waiting-less (lists_of c.args.targets.now) c.args.start c.in-Some.place c.pop.new.self.items (marking c.loop-place.marks.items c.loop-place.pending.items) c.in-Some.ensures.items c.loop-place.invariant
@@ -54,8 +50,7 @@ loop-place-smaller c =
 
 pub loop-place-preserved : goal.loop-place-preserved
 loop-place-preserved c =
-    let l = left-inside (lists_of c.args.targets.now) c.args.start c.in-Some.place c.pop.new.self.items (marking c.loop-place.marks.items c.loop-place.pending.items) c.in-Some.ensures.items c.loop-place.invariant in
-    let k : c.in-Some.place < length c.args.targets.now = grind (arith, common_steps, l) in
+    let k : c.in-Some.place < length c.args.targets.now = left-read c.args.targets.now c.args.start c.in-Some.place c.pop.new.self.items (marking c.loop-place.marks.items c.loop-place.pending.items) c.in-Some.ensures.items c.loop-place.invariant in
     let e : targets_at (lists_of c.args.targets.now) c.in-Some.place ≡ c.deref-in-Some.result.now =
     targets_at-read c.args.targets.now c.in-Some.place c.index-targets-place.result k c.index-targets-place.is ∙ sym c.deref-in-Some.ensures.value in
     explores_next (lists_of c.args.targets.now) c.args.start c.in-Some.place c.pop.new.self.items (marking c.loop-place.marks.items c.loop-place.pending.items) c.in-Some.ensures.items c.loop-place.invariant

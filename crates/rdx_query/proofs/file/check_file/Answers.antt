@@ -1,4 +1,4 @@
-use Rattle.std.proofs.Common.{map, length, ◌≤◌, arith}
+use Rattle.std.proofs.Common.{map, arith}
 use Rattle.std.proofs.lemmas.Result.{err_from_is_err_and}
 use Rattle.rdx_lang.specs.Checked.{language_in}
 use Rattle.rdx_query.specs.Views.{query_of}
