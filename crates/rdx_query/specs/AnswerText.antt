@@ -3,6 +3,7 @@ use Rattle.std.specs.Prelude.{List, [], ◌∷◌, ◌++◌, ℕ, length, codes,
 use Rattle.rdx_term.specs.Text.{tree_text}
 use Rattle.rdx_lang.specs.Bindings.{Value, one, Pair, Binding}
 
+-- what a name is bound to, printed
 abbrev pub value_text : Value → List ℕ
 value_text (one t) = tree_text t
 
@@ -20,10 +21,12 @@ abbrev pub binding_text : Binding → List ℕ
 binding_text [] = codes "-"
 binding_text (p ∷ b) = pair_text p ++ further_text b
 
+-- each binding on a line of its own, after two blanks
 abbrev pub lines_text : List Binding → List ℕ
 lines_text [] = []
 lines_text (b ∷ bs) = codes "  " ++ binding_text b ++ codes "\n" ++ lines_text bs
 
+-- `match N`, and the N bindings
 abbrev pub matches_text : List Binding → List ℕ
 matches_text bs = codes "match " ++ decimal (length bs) ++ codes "\n" ++ lines_text bs
 

@@ -8,6 +8,7 @@ use Rattle.rdx_query.specs.declared.kind.FormKind.TheVariants.{Language, Extensi
 
 -- ---- heads
 
+-- what forms with this head are
 abbrev pub kind_by_head : Sexp → Option FormKind
 kind_by_head h =
     if is_word (codes "define-language") h then Some Language
@@ -16,6 +17,7 @@ kind_by_head h =
     else if is_word (codes "redex-match?") h then Some Whether
     else None
 
+-- what a list of these parts is
 abbrev pub kind_among : Option (List Sexp) → Option FormKind
 kind_among None = None
 kind_among (Some []) = None
@@ -27,10 +29,12 @@ form_kind d = kind_among (parts d)
 
 -- ---- the language that an extension names
 
+-- the third of these parts
 abbrev pub base_among : Option (List Sexp) → Option Sexp
 base_among (Some (h ∷ l ∷ l0 ∷ ds)) = Some l0
 base_among o = None
 
+-- L0 of `(define-extended-language L L0 def ...)`
 abbrev pub base_name : Sexp → Option Sexp
 base_name d = base_among (parts d)
 
@@ -55,6 +59,7 @@ abbrev pub query_among : Option (List Sexp) → Option QueryParts
 query_among (Some (h ∷ l ∷ p ∷ t ∷ [])) = Some (record { language = l; pattern = p; host = t })
 query_among o = None
 
+-- the parts of a query, where it has four items
 abbrev pub query_parts : Sexp → Option QueryParts
 query_parts d = query_among (parts d)
 

@@ -15,6 +15,7 @@ use Rattle.rdx_query.specs.declared.kind.FormKind.TheVariants as kind
 
 -- ---- languages
 
+-- the language that a form of this kind defines, if any; an extension is over the language that it names
 abbrev pub language_by_kind : List Language → Sexp → Option FormKind → Option Language
 language_by_kind Ls d (Some kind.Language) = option_map (language_over empty_language) (language_form d)
 language_by_kind Ls d (Some kind.Extension) = option_map (language_over (named_base Ls (base_name d))) (extension_form d)
@@ -33,6 +34,7 @@ pub data Query : Type 0 where
   matches : List ℕ → Pattern → Tree → Query
   whether : List ℕ → Pattern → Tree → Query
 
+-- where there is no tree, the hole, which counts for nothing
 abbrev pub tree_or_hole : Option Tree → Tree
 tree_or_hole None = hole
 tree_or_hole (Some t) = t
@@ -42,9 +44,11 @@ abbrev pub term_of : Option Sexp → Tree
 term_of None = hole
 term_of (Some t) = tree_or_hole (meaning t)
 
+-- the query of this kind with these parts; its pattern is read over the nonterminals of its language
 abbrev pub query_over : List Language → (List ℕ → Pattern → Tree → Query) → QueryParts → Query
 query_over Ls kind q = kind (text_of q.language) (reading (names_of (named_base Ls (Some q.language))) position.Query q.pattern) (term_of (template_in q.host))
 
+-- the query that a form of this kind asks, if any
 abbrev pub query_by_kind : List Language → Sexp → Option FormKind → Option Query
 query_by_kind Ls d (Some kind.Match) = option_map (query_over Ls matches) (query_parts d)
 query_by_kind Ls d (Some kind.Whether) = option_map (query_over Ls whether) (query_parts d)

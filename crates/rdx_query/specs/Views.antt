@@ -14,16 +14,20 @@ use Rattle.rdx_query.specs.declared.file.CheckedFile.{CheckedFile}
 use Rattle.rdx_query.specs.declared.file.Query.{Query}
 use Rattle.rdx_query.specs.declared.file.Query.TheVariants.{Match, Whether}
 
+-- what a query of the code asks
 abbrev pub query_of : Query → readings.Query
 query_of (Match name p t) = readings.matches name (pattern_in p) (tree_of t)
 query_of (Whether name p t) = readings.whether name (pattern_in p) (tree_of t)
 
+-- a file's queries, in their order
 abbrev pub queries_of : CheckedFile → List readings.Query
 queries_of f = map query_of f.queries.items
 
+-- the languages that a file defines, in their order
 abbrev pub languages_of : CheckedFile → List model.Language
 languages_of f = map language_in f.program.languages.items
 
+-- the name of the language that a query is over
 abbrev pub query_name : readings.Query → List ℕ
 query_name (readings.matches name p t) = name
 query_name (readings.whether name p t) = name
@@ -33,6 +37,7 @@ abbrev pub AreNamed : List model.Language → List readings.Query → Type 0
 AreNamed Ls [] = Unit {0}
 AreNamed Ls (q ∷ qs) = (is_some (language_named Ls (query_name q)) ≡ true) × AreNamed Ls qs
 
+-- the file is refused so, unless memory ran out
 abbrev pub IsFileFault : List Sexp → DefFault → Type 0
 IsFileFault ds (Refused r) = Refuses [] ds (refusal_of r)
 IsFileFault ds NoMemory = Unit {0}
