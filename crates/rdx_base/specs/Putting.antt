@@ -6,18 +6,18 @@ use Rattle.rdx_base.specs.Faults.{next_count}
 use Rattle.rdx_base.specs.declared.sink.Put.{Put}
 use Rattle.rdx_base.specs.declared.sink.Put.TheVariants.{Took, Failed}
 
--- where the bytes are told afterwards they were told before, and grew by these
+-- Where the bytes are told afterwards they were told before, and grew by these. So a sink may stop telling them, and is then silent for good.
 abbrev pub Gains : Option (List ℕ) → Option (List ℕ) → List ℕ → Type 0
 Gains old None bytes = ⊤
 Gains None (Some after) bytes = ⊥
 Gains (Some before) (Some after) bytes = after ≡ before ++ bytes
 
--- `Took` moves bytes from the front of the piece, and else what is held stays
+-- `Took` adds that many bytes from the front of the piece, at least one, to what is held; after `Failed` that is as it was
 abbrev pub Puts : Option (List ℕ) → Option (List ℕ) → List ℕ → Put → Type 0
 Puts old new piece (Took n) = (0 < n) × (n ≤ length piece) × Gains old new (take n piece)
 Puts old new piece Failed = new ≡ old
 
--- the bytes grew by a prefix of the text
+-- what is held grew by a prefix of the text, by the whole of it or by nothing too
 abbrev pub GainsPrefix : Option (List ℕ) → Option (List ℕ) → List ℕ → Type 0
 GainsPrefix old new text = (n : ℕ) × (n ≤ length text) × Gains old new (take n text)
 

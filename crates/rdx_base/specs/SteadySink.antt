@@ -9,7 +9,7 @@ pub record SteadyStore : Type 0 where
   pub piece : ℕ
   pub room : ℕ
 
--- all that it took, while all of it is stored
+-- the bytes that were written, as far as they are told: all that it took, while all of it is stored
 abbrev pub told_bytes : SteadyStore → Option (List ℕ)
 told_bytes s = if s.told then Some s.kept else None
 

@@ -6,13 +6,14 @@ use Rattle.rdx_base.specs.Faults.{next_count}
 use Rattle.rdx_base.specs.declared.source.Taken.{Taken}
 use Rattle.rdx_base.specs.declared.source.Taken.TheVariants.{Got, End, Failed}
 
--- `Got` moves bytes from the front of what is left, `End` comes only where none is left, and else what is left stays
+-- `Got` moves that many bytes, at least one, from the front of what is left to the front of `into`; `End` comes only where none is left; and
+-- after `End` and `Failed` what is left is as it was
 abbrev pub Takes : Option (List ℕ) → Option (List ℕ) → List ℕ → Taken → Type 0
 Takes old new into (Got n) = (0 < n) × (n ≤ length into) × Consumes old new (take n into)
 Takes old new into End = IsAtEnd old × (new ≡ old)
 Takes old new into Failed = new ≡ old
 
--- the same of the bytes that a reader of std has left, where those are known
+-- The same of the bytes that a reader of std has left, where those are known. Whether they are known after the end is left open.
 abbrev pub ReaderTakes : Option (List ℕ) → Option (List ℕ) → List ℕ → Taken → Type 0
 ReaderTakes old new into (Got n) = Consumes old new (take n into)
 ReaderTakes old new into End = IsAtEnd old × IsAtEnd new
@@ -24,7 +25,7 @@ count_after_take count (Got n) = count
 count_after_take count End = count
 count_after_take count Failed = next_count count
 
--- the fact holds of the number of bytes, if some were taken
+-- the fact holds of the number of bytes, if some came
 abbrev pub IfGot : Taken → (ℕ → Type 0) → Type 0
 IfGot (Got n) P = P n
 IfGot End P = ⊤

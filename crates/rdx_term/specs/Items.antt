@@ -22,11 +22,13 @@ item_depth_le-items (x ∷ xs) (suc k) d h =
     let later : tree_depth (tree_of (get_or xs k d)) ≤ trees_depth (trees_of xs) = item_depth_le-items xs k d (omega arith) in
     omega arith
 
+-- the marks of an item fit where those of all items do
 item_is_marked : (xs : List Term) (k : ℕ) (d : Term) → k < length xs → AreMarked (trees_of xs) → IsMarked (tree_of (get_or xs k d))
 item_is_marked [] k d h m = absurd (omega arith)
 item_is_marked (x ∷ xs) zero d h m = m.0
 item_is_marked (x ∷ xs) (suc k) d h m = item_is_marked xs k d (omega arith) m.1
 
+-- an item is spelled where all items are
 item_is_spelled : (xs : List Term) (k : ℕ) (d : Term) → k < length xs → AreSpelled (trees_of xs) → IsSpelled (tree_of (get_or xs k d))
 item_is_spelled [] k d h s = absurd (omega arith)
 item_is_spelled (x ∷ xs) zero d h s = s.0

@@ -5,9 +5,11 @@ pub mod Items
 pub mod Order
 pub mod OrderLaws
 pub mod Bare
+pub mod Alike
 pub mod Symbols
 pub mod Text
 pub mod Tokens
 pub mod Weights
 pub mod Measures
 pub mod Kept
+pub mod Examples

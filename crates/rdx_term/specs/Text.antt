@@ -13,11 +13,13 @@ abbrev pub all_escaped : List ℕ → List ℕ
 all_escaped [] = []
 all_escaped (b ∷ bs) = escaped b ++ all_escaped bs
 
+-- true as `#t`, false as `#f`
 abbrev pub truth_text : Bool → List ℕ
 truth_text true = codes "#t"
 truth_text false = codes "#f"
 
--- The hole as `hole`, integers in decimal, a symbol as its text, a string in quotes, and a list in round brackets; marks are not printed.
+-- The hole as `hole`, an integer in decimal with `-` before it where it is negative, a truth value as `#t` or `#f`, a string between
+-- quotation marks, a symbol as its text, and a list in round brackets. Marks are not printed.
 abbrev mutual
   pub tree_text : Tree → List ℕ
   tree_text hole = codes "hole"
@@ -32,7 +34,7 @@ abbrev mutual
   trees_text nil = []
   trees_text (cons t ts) = tree_text t ++ spaced_text ts
 
-  -- each with a space before it
+  -- the later items, each with a space before it
   pub spaced_text : Trees → List ℕ
   spaced_text nil = []
   spaced_text (cons t ts) = codes " " ++ tree_text t ++ spaced_text ts

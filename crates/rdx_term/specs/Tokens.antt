@@ -51,6 +51,7 @@ read (suc (suc (suc (suc zero)))) n b s m lists = put (text s) lists
 read (suc (suc (suc (suc (suc zero))))) n b s m lists = put (symbol s) lists
 read (suc (suc (suc (suc (suc (suc k)))))) n b s m lists = begin lists
 
+-- all tokens, from the last to the first
 abbrev read_all : List Token → Ended
 read_all [] = []
 read_all (t ∷ ts) = read t.0 t.1 t.2 t.3 t.4 (read_all ts)
@@ -69,10 +70,12 @@ mutual
   read_all-tokens_all nil m rest = refl
   read_all-tokens_all (cons t ts) m rest = read_all-tokens t (tokens_all ts (end m ∷ rest)) ∙ ap (put t) (read_all-tokens_all ts m rest)
 
+-- the mark and the items of the innermost list
 abbrev innermost : Ended → Option ℕ × Trees
 innermost [] = (None, nil)
 innermost (l ∷ outer) = l
 
+-- the code of a token
 abbrev coded_token : Coded Token
 coded_token = code_by (ℕ × (ℤ × (Bool × (List ℕ × Option ℕ)))) (coded× coded_ℕ (coded× coded_ℤ (coded× coded_bool (coded× (coded_list coded_ℕ) (coded_option coded_ℕ)))))
     (λ t. (t.0, (t.1, (t.2, (t.3, t.4))))) (λ p. (p.0, p.1.0, p.1.1.0, p.1.1.1.0, p.1.1.1.1)) (λ _. refl)
@@ -82,16 +85,20 @@ abbrev items_of : Trees → List Tree
 items_of nil = []
 items_of (cons t ts) = t ∷ items_of ts
 
+-- a list is made again from the items that it gave
 items_of-trees : (ts : List Tree) → items_of (trees ts) ≡ ts
 items_of-trees [] = refl
 items_of-trees (t ∷ ts) = ap (λ us. t ∷ us) (items_of-trees ts)
 
+-- the tokens of what a list holds, with its end
 abbrev to_tokens : Listing → List Token
 to_tokens l = tokens_all (trees l.items) (end l.mark ∷ [])
 
+-- what a list holds, from these tokens
 abbrev from_tokens : List Token → Listing
 from_tokens ts = record { mark = (innermost (read_all ts)).0; items = items_of (innermost (read_all ts)).1 }
 
+-- what a list holds is made again from its tokens
 pub from-to_tokens : (l : Listing) → from_tokens (to_tokens l) ≡ l
 from-to_tokens l =
     ap (λ (e : Ended). record { mark = (innermost e).0; items = items_of (innermost e).1 }) (read_all-tokens_all (trees l.items) l.mark [])

@@ -23,12 +23,13 @@ mutual
     nil : Trees
     cons : Tree → Trees → Trees
 
--- these trees as the items of a list
+-- the same trees, as the items of a list
 abbrev pub trees : List Tree → Trees
 trees [] = nil
 trees (t ∷ ts) = cons t (trees ts)
 
--- The depth: 0 for an atom and for the hole; for a list one more than its deepest item, and 1 where it is empty.
+-- The depth: 0 for an atom and for the hole; for a list one more than its deepest item, and 1 where it is empty. Atoms are integers, truth
+-- values, strings and symbols.
 abbrev mutual
   pub tree_depth : Tree → ℕ
   tree_depth hole = 0
@@ -38,11 +39,12 @@ abbrev mutual
   tree_depth (symbol s) = 0
   tree_depth (list m ts) = trees_depth ts + 1
 
+  -- the depth of the deepest item, and 0 where there is none
   pub trees_depth : Trees → ℕ
   trees_depth nil = 0
   trees_depth (cons t ts) = max (tree_depth t) (trees_depth ts)
 
--- The nodes: 1 for an atom and for the hole; for a list one more than its items have together.
+-- The nodes: 1 for an atom and for the hole; for a list one more than its items have together. Equal items count each time.
 abbrev mutual
   pub tree_nodes : Tree → ℕ
   tree_nodes hole = 1
@@ -52,6 +54,7 @@ abbrev mutual
   tree_nodes (symbol s) = 1
   tree_nodes (list m ts) = trees_nodes ts + 1
 
+  -- the nodes of all items together
   pub trees_nodes : Trees → ℕ
   trees_nodes nil = 0
   trees_nodes (cons t ts) = tree_nodes t + trees_nodes ts
@@ -66,6 +69,7 @@ abbrev mutual
   tree_holes (symbol s) = 0
   tree_holes (list m ts) = trees_holes ts
 
+  -- the holes of all items together
   pub trees_holes : Trees → ℕ
   trees_holes nil = 0
   trees_holes (cons t ts) = tree_holes t + trees_holes ts
@@ -87,12 +91,12 @@ abbrev mutual
   is_context_at (cons t ts) zero = is_context t
   is_context_at (cons t ts) (suc k) = is_context_at ts k
 
--- a mark is at a context, and a list without a mark has no hole or several
+-- a mark is at an item that is a context, and a list without a mark has no hole or several
 abbrev pub MarkFits : Option ℕ → Trees → Type 0
 MarkFits None ts = trees_holes ts ≢ 1
 MarkFits (Some k) ts = IsTrue (is_context_at ts k)
 
--- the mark of each list fits
+-- the mark of the tree and of each list in it fits
 abbrev mutual
   pub IsMarked : Tree → Type 0
   IsMarked hole = Unit {0}
@@ -102,6 +106,7 @@ abbrev mutual
   IsMarked (symbol s) = Unit {0}
   IsMarked (list m ts) = MarkFits m ts × AreMarked ts
 
+  -- the same of each item
   pub AreMarked : Trees → Type 0
   AreMarked nil = Unit {0}
   AreMarked (cons t ts) = IsMarked t × AreMarked ts
@@ -116,11 +121,12 @@ abbrev mutual
   IsSpelled (symbol s) = IsUtf8 s × (is_name s ≡ true)
   IsSpelled (list m ts) = AreSpelled ts
 
+  -- the same of each item
   pub AreSpelled : Trees → Type 0
   AreSpelled nil = Unit {0}
   AreSpelled (cons t ts) = IsSpelled t × AreSpelled ts
 
--- a tree that a term stands for
+-- A tree that a term stands for: its marks fit, its atoms are well formed, it is at most 500 deep and has at most 4,000,000 nodes.
 pub record IsTerm (t : Tree) : Type 0 where
   pub marked : IsMarked t
   pub spelled : IsSpelled t
@@ -135,7 +141,7 @@ IsTooDeep t = 500 < tree_depth t
 abbrev pub IsTooLarge : Tree → Type 0
 IsTooLarge t = (tree_depth t ≤ 500) × (4_000_000 < tree_nodes t)
 
--- the place of the first item with a hole
+-- the place of the first item with a hole; where no item has one it is the number of items, and counts for nothing
 abbrev pub hole_place : Trees → ℕ
 hole_place nil = 0
 hole_place (cons t ts) = if tree_holes t == 0 then hole_place ts + 1 else 0

@@ -1,5 +1,5 @@
 //! The spelling of symbols and of names: the tests that a reader of tokens needs too. A token is the longest run of characters up to
-//! white space, a bracket or a quotation mark.
+//! white space, a bracket, or one of `"`, `,`, `'`, `` ` `` and `;`.
 ghost use Rattle.std.specs.Prelude.{◌≡◌};
 ghost use Rattle.std.specs.List.{list_any};
 ghost use Rattle.std.specs.Str.{chars};
@@ -25,6 +25,7 @@ pub fn ends_token(c: char) -> bool
         || matches!(c, '"' | ',' | '\'' | '`' | ';')
 }
 
+// A character before which a token ends stands in the text.
 fn has_token_end(text: &str) -> bool
     ensures { result ≡ list_any ends_token (chars text.now) }
 {
@@ -52,6 +53,7 @@ pub fn begins_with_hash(text: &[u8]) -> bool
     matches!(text, [b'#', ..])
 }
 
+// A digit stands first.
 fn begins_with_digit(text: &[u8]) -> bool
     ensures { result ≡ begins_with_digit text.now }
 {

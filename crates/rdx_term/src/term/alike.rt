@@ -1,7 +1,8 @@
 // Equality with the marks forgotten.
 ghost use Rattle.std.specs.Prelude.{◌≡◌, ◌↔◌, IsTrue};
 ghost use Rattle.rdx_term.specs.Tree.{listing_tree};
-ghost use Rattle.rdx_term.specs.Bare.{bare, is_alike};
+ghost use Rattle.rdx_term.specs.Alike.{is_alike};
+ghost use Rattle.rdx_term.specs.Bare.{bare};
 ghost use Rattle.rdx_term.specs.View.{tree_of};
 
 use crate::term::{Node, Term};

@@ -1,0 +1,20 @@
+use Rattle.rdx_term.proofs.Examples.{printed_list, printed_context, one_hole, two_holes, mark_at_no_context, bare_forgets}
+use Rattle.rdx_term.proofs.laws.worked_examples.Goals as goal
+
+pub returns-clause-printed_list : goal.returns-clause-printed_list
+returns-clause-printed_list c = printed_list
+
+pub returns-clause-printed_context : goal.returns-clause-printed_context
+returns-clause-printed_context c = printed_context
+
+pub returns-clause-one_hole : goal.returns-clause-one_hole
+returns-clause-one_hole c = one_hole
+
+pub returns-clause-two_holes : goal.returns-clause-two_holes
+returns-clause-two_holes c = two_holes
+
+pub returns-clause-mark_at_no_context : goal.returns-clause-mark_at_no_context
+returns-clause-mark_at_no_context c = mark_at_no_context
+
+pub returns-clause-bare_forgets : goal.returns-clause-bare_forgets
+returns-clause-bare_forgets c = bare_forgets
