@@ -1,9 +1,51 @@
-// What no clause says: the ends over real readers and writers of std, and a run of each end in memory.
+// What no clause says: the ends over readers and writers of std, also over those that fail, and a run of each end in memory.
 use crate::{
     MemSink, MemSource, Put, Sink, Source, StdSink, StdSource, SteadySink, SteadySource, Taken,
 };
+use std::io;
+use std::io::{Read, Write};
 use std::process::Abort;
 use std::test::Fail;
+
+// Gives `a` at its first read, fails at the second, and is then at its end.
+#[derive(Drop)]
+struct Halting {
+    reads: u8,
+}
+
+impl Read for Halting {
+    fn read(&mut self, buf: &mut [u8]) -> io::Result<usize> {
+        self.reads = self.reads.saturating_add(1);
+        if self.reads == 2 {
+            return Err(io::Error::from(io::ErrorKind::WouldBlock));
+        }
+        if self.reads > 2 {
+            return Ok(0);
+        }
+        let mut text = b"a".as_slice();
+        text.read(buf)
+    }
+}
+
+// Takes all that is written, and fails at its second flush.
+#[derive(Drop)]
+struct Clogged {
+    flushes: u8,
+}
+
+impl Write for Clogged {
+    fn write(&mut self, buf: &[u8]) -> io::Result<usize> {
+        Ok(buf.len())
+    }
+
+    fn flush(&mut self) -> io::Result<()> {
+        self.flushes = self.flushes.saturating_add(1);
+        if self.flushes == 2 {
+            return Err(io::Error::from(io::ErrorKind::WouldBlock));
+        }
+        Ok(())
+    }
+}
 
 // Takes into four bytes until the row is through.
 fn takes<S: Source>(rt: &impl Abort, source: &mut S, rows: &[(Taken, &[u8])]) {
@@ -84,4 +126,22 @@ fn sinks_take_their_bytes(rt: HostRuntime) -> Result<(), Fail> {
     puts(&rt, &mut steady, &rows);
     assert_eq!(rt; steady.kept(), b"abc".as_slice());
     Ok(())
+}
+
+#[test]
+fn errors_of_std_are_faults(rt: HostRuntime) {
+    let taken = [
+        (Taken::Got(1), b"a".as_slice()),
+        (Taken::Failed, b"".as_slice()),
+        (Taken::End, b"".as_slice()),
+    ];
+    takes(&rt, &mut StdSource::new(Halting { reads: 0 }), &taken);
+
+    // Each put flushes once, and fails where its flush does.
+    let put = [
+        (b"ab".as_slice(), Put::Took(2)),
+        (b"c".as_slice(), Put::Failed),
+        (b"d".as_slice(), Put::Took(1)),
+    ];
+    puts(&rt, &mut StdSink::new(Clogged { flushes: 0 }), &put);
 }
