@@ -19,17 +19,17 @@ marked_at_hole : IsTerm (list (Some 1) (two (int 1) hole))
 marked_at_hole = record { marked = (refl, (tt, (tt, tt))); spelled = (record { sfits = omega arith }, (tt, tt)); shallow = omega arith; small = omega arith }
 
 pub one_hole : OneHole
-one_hole mark =
-    ( λ v. one_hole-mark mark (two (int 1) hole) v.marked.0 refl
-    , λ e. subst (λ (m : Option ℕ). IsTerm (list m (two (int 1) hole))) (sym e) marked_at_hole
-    )
+one_hole mark = (
+  λ v. one_hole-mark mark (two (int 1) hole) v.marked.0 refl,
+  λ e. subst (λ (m : Option ℕ). IsTerm (list m (two (int 1) hole))) (sym e) marked_at_hole,
+)
 
 pub two_holes : TwoHoles
-two_holes =
-    ( record { marked = (λ e. absurd (omega arith), (tt, (tt, tt))); spelled = (tt, (tt, tt)); shallow = omega arith; small = omega arith }
-    , record { marked = (refl, (tt, (tt, tt))); spelled = (tt, (tt, tt)); shallow = omega arith; small = omega arith }
-    , record { marked = (refl, (tt, (tt, tt))); spelled = (tt, (tt, tt)); shallow = omega arith; small = omega arith }
-    )
+two_holes = (
+  record { marked = (λ e. absurd (omega arith), (tt, (tt, tt))); spelled = (tt, (tt, tt)); shallow = omega arith; small = omega arith },
+  record { marked = (refl, (tt, (tt, tt))); spelled = (tt, (tt, tt)); shallow = omega arith; small = omega arith },
+  record { marked = (refl, (tt, (tt, tt))); spelled = (tt, (tt, tt)); shallow = omega arith; small = omega arith },
+)
 
 pub mark_at_no_context : MarkAtNoContext
 mark_at_no_context v = absurd (true≢false (sym v.marked.0))
