@@ -1,4 +1,5 @@
 pub mod Orders
-pub mod Alternatives
+pub mod Values
 pub mod Joins
 pub mod RankLaws
+pub mod Examples

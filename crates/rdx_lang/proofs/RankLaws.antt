@@ -2,14 +2,14 @@
 use Rattle.std.proofs.Common.{ℕ, ◌<◌, ◌≤◌, Bool, true, false, List, [], ◌∷◌, drop, sym, subst, arith, if◌then◌else◌}
 use Rattle.std.proofs.Math.Nat.{max-le}
 use Rattle.rdx_lang.specs.Edges.{Edge, edge_nt, edge_named, Reaches, at_once, further}
-use Rattle.rdx_lang.specs.Laws.{RanksFall, RankedIsFree}
+use Rattle.rdx_lang.specs.Laws.{RanksFall, EdgesFall, RankedIsFree}
 use Rattle.rdx_lang.specs.Lookup.{alternatives_among}
 use Rattle.rdx_lang.specs.Members.{In, here, there}
 use Rattle.rdx_lang.specs.Patterns.{Pattern, wild, of_kind, except, prefix, lit, nt, named, seq, Definition, Language}
 use Rattle.rdx_lang.specs.Ranks.{pattern_nodes, patterns_nodes, first_rank, root_ranks, roots_among, AreBelow, FallIn, FallInAll, FallAmong, AreRanks, above, rank_of, left}
 use Rattle.rdx_lang.specs.WellFormed.{is_same, IsWellFormed}
 use Rattle.rdx_lang.specs.declared.pattern.Ref.{Ref}
-use Rattle.rdx_lang.proofs.Alternatives.{alternatives_of-all}
+use Rattle.rdx_lang.specs.LookupLaws.{alternatives_of-all}
 
 -- what is more than all these is n at most, where they are below n
 above-least : (ms : List ℕ) (n : ℕ) → AreBelow ms n → above ms ≤ n
@@ -72,6 +72,10 @@ module _ (L : Language) (ns : List ℕ) (w : IsWellFormed L) (r : AreRanks L ns)
   left-reaches : {p q : Pattern} → Reaches L p q → left (rank_of L ns) q < left (rank_of L ns) p
   left-reaches (at_once e) = left-edge e
   left-reaches (further e h) = let k = left-edge e in let l = left-reaches h in omega arith
+
+-- where ranks fall along every left edge, so do the numbers of patterns
+pub edges_fall : EdgesFall
+edges_fall L ns w r p q e = left-edge L ns w r e
 
 -- where ranks fall along every left edge, no nonterminal reaches itself
 pub ranked_is_free : RankedIsFree

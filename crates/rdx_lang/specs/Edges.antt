@@ -9,25 +9,25 @@ use Rattle.rdx_lang.specs.Patterns.{Pattern, nt, named, Definition, Language}
 use Rattle.rdx_lang.specs.Rules.{IsAlternative}
 use Rattle.rdx_lang.specs.declared.pattern.Ref.{Ref}
 
--- one left edge
+-- a left edge: from a nonterminal to each of its alternatives, and from a named pattern to its part
 pub data Edge (L : Language) : Pattern → Pattern → Type 0 where
   edge_nt : {x : Ref} {p : Pattern} → IsAlternative L x p → Edge L (nt x) p
   edge_named : {x : List ℕ} {q : Pattern} → Edge L (named x q) q
 
--- one left edge or more
+-- one left edge or more lead from the one pattern to the other
 pub data Reaches (L : Language) : Pattern → Pattern → Type 0 where
   at_once : {p q : Pattern} → Edge L p q → Reaches L p q
   further : {p q r : Pattern} → Edge L p q → Reaches L q r → Reaches L p r
 
--- the nonterminal reaches itself
+-- a nonterminal is left-recursive where it reaches itself
 abbrev pub IsRecursive : Language → Ref → Type 0
 IsRecursive L x = Reaches L (nt x) (nt x)
 
--- no nonterminal does
+-- a language is free of left recursion where no nonterminal reaches itself
 abbrev pub IsFree : Language → Type 0
 IsFree L = (x : Ref) → ¬ IsRecursive L x
 
--- x is the first that does, in the order of definition
+-- x is the first nonterminal that reaches itself, in the order of definition
 pub record IsFirstRecursive (L : Language) (x : Ref) : Type 0 where
   pub before : List Definition
   pub alternatives : List Pattern

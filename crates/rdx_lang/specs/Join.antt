@@ -8,7 +8,7 @@ use Rattle.rdx_lang.specs.Bindings.{Value, Pair, Binding, HasAscendingNames}
 abbrev pub Agree : Binding → Binding → Type 0
 Agree a b = (x : List ℕ) (v w : Value) → In (x, v) a → In (x, w) b → v ≡ w
 
--- c is the join of a and b
+-- c is the join of a and b: a finite map, each pair of it is one of a or of b, and each pair of these is one of it
 pub record IsJoin (a b c : Binding) : Type 0 where
   pub map : HasAscendingNames c
   pub sound : (p : Pair) → In p c → In p a ⊎ In p b

@@ -19,7 +19,9 @@ pub mod Listing
 pub mod Names
 pub mod OrderLaws
 pub mod Laws
+pub mod LookupLaws
 pub mod JoinLaws
 pub mod NameLaws
 pub mod Rest
 pub mod PatternEquations
+pub mod Examples

@@ -1,5 +1,6 @@
 -- Ranks of the nodes of a language's alternatives: the nonterminals in their order, the alternatives in theirs, the nodes of each in
--- pre-order. They fall along every left edge.
+-- pre-order. They fall along every left edge: the rank of a named pattern is above that of its part, and that of a nonterminal that stands
+-- in a pattern above those of the roots of its alternatives.
 use Rattle.std.specs.Prelude.{◌≡◌, ℕ, suc, ◌+◌, ◌<◌, max, List, [], ◌∷◌, drop, length, if◌then◌else◌}
 use Rattle.rdx_lang.specs.Patterns.{Pattern, wild, of_kind, except, prefix, lit, nt, named, seq, Items, nil, one, Definition, Language}
 use Rattle.rdx_lang.specs.WellFormed.{is_same}
@@ -64,17 +65,17 @@ abbrev mutual
   FallIn roots (named x q) ns = (first_rank (drop 1 ns) < first_rank ns) × FallIn roots q (drop 1 ns)
   FallIn roots (seq ps) ns = FallInItems roots ps (drop 1 ns)
 
-  -- so they do in the items, one behind the other
+  -- so do they in the items, one behind the other
   pub FallInItems : (Ref → List ℕ) → Items → List ℕ → Type 0
   FallInItems roots nil ns = Unit {0}
   FallInItems roots (one p ps) ns = FallIn roots p ns × FallInItems roots ps (drop (pattern_nodes p) ns)
 
--- so they do in the patterns, one behind the other
+-- so do they in the patterns, one behind the other
 abbrev pub FallInAll : (Ref → List ℕ) → List Pattern → List ℕ → Type 0
 FallInAll roots [] ns = Unit {0}
 FallInAll roots (p ∷ ps) ns = FallIn roots p ns × FallInAll roots ps (drop (pattern_nodes p) ns)
 
--- so they do in the alternatives of the definitions, one behind the other
+-- so do they in the alternatives of the definitions, one behind the other
 abbrev pub FallAmong : (Ref → List ℕ) → List Definition → List ℕ → Type 0
 FallAmong roots [] ns = Unit {0}
 FallAmong roots (d ∷ ds) ns = FallInAll roots d.1 ns × FallAmong roots ds (drop (patterns_nodes d.1) ns)

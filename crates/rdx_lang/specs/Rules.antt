@@ -15,7 +15,7 @@ use Rattle.rdx_lang.specs.declared.pattern.Kind.{Kind}
 use Rattle.rdx_lang.specs.declared.pattern.Kind.TheVariants.{Any, Number, Natural, Integer, Real, Text, Boolean, Variable, Unmentioned}
 use Rattle.rdx_lang.specs.declared.pattern.Ref.{Ref}
 
--- not negative
+-- the integer is not negative
 abbrev pub is_natural : ℤ → Bool
 is_natural (pos n) = true
 is_natural (negsuc n) = false
@@ -33,7 +33,7 @@ is_of_kind L Variable (symbol s) = true
 is_of_kind L Unmentioned (symbol s) = not (is_mentioned L s)
 is_of_kind L k t = false
 
--- one of these symbols
+-- the symbol is one of these
 abbrev pub is_one_of : List (List ℕ) → List ℕ → Bool
 is_one_of rs s = list_any (λ r. bytes_eq r s) rs
 
@@ -43,6 +43,10 @@ pub record IsAlternative (L : Language) (x : Ref) (p : Pattern) : Type 0 where
   pub defined : In (x, all) L.nonterminals
   pub among : In p all
 
+-- The rules. A literal matches the terms that are equal to it with marks forgotten. A nonterminal matches what one of its alternatives
+-- matches, and binds nothing, whatever the alternative binds. A pattern with a name binds what its part binds, joined with the name for the
+-- term; a list pattern the join of what its items bind. Where a join does not exist there is no match. The marks of a term count in joins
+-- alone.
 mutual
   -- p matches t and binds b
   pub data Match (L : Language) : Pattern → Tree → Binding → Type 0 where

@@ -30,6 +30,7 @@ abbrev mutual
   is_well_formed xs (named x q) = is_well_formed xs q
   is_well_formed xs (seq ps) = are_well_formed xs ps
 
+  -- each nonterminal of the items is
   pub are_well_formed : List Ref → Items → Bool
   are_well_formed xs nil = true
   are_well_formed xs (one p ps) = is_well_formed xs p && are_well_formed xs ps

@@ -33,8 +33,10 @@ pub struct Binding {
 }
 
 impl Binding {
-    ghost use Rattle.std.specs.Prelude.{◌≡◌, IfOk, [], length};
+    ghost use Rattle.std.specs.Prelude.{◌≡◌, ◌↔◌, IfOk, [], length, Some};
+    ghost use Rattle.rdx_lang.specs.Bindings as model;
     ghost use Rattle.rdx_lang.specs.Bindings.{value_at};
+    ghost use Rattle.rdx_lang.specs.Members.{In};
     ghost use Rattle.rdx_lang.specs.BindingView.{found_value};
     ghost use Rattle.rdx_lang.specs.Shown.{binding_of};
 
@@ -54,8 +56,16 @@ impl Binding {
         &self.pairs
     }
 
-    /// What the name stands for; `None` where it isn't bound.
+    /// What the name stands for; `None` exactly where it isn't bound.
     pub fn get(&self, name: &Name) -> Option<&Value>
+        ensures value { found_value result ≡ value_at (binding_of self.now) name.now }
+        ensures bound { (v : model.Value) → ((found_value result ≡ Some v) ↔ In (name.now, v) (binding_of self.now)) }
+    {
+        self.find(name)
+    }
+
+    // The value of the first pair with this name.
+    fn find(&self, name: &Name) -> Option<&Value>
         ensures { found_value result ≡ value_at (binding_of self.now) name.now }
     {
         for (other, value) in &self.pairs {

@@ -2,7 +2,8 @@
 ghost use Rattle.std.specs.Cmp.{IsTotalOrder};
 ghost use Rattle.rdx_lang.specs.Order.{value_cmp, binding_cmp};
 ghost use Rattle.rdx_lang.specs.OrderLaws.{TellsApart};
-ghost use Rattle.rdx_lang.specs.Laws.{OneListing, OneJoin, JoinAgrees, JoinExists, NamesAscend, BindsAMap, BindsItsNames, RanksFall, RankedIsFree};
+ghost use Rattle.rdx_lang.specs.Examples.{TwoEqual, TwoDifferent, TwoMarks, NameAround, NameAroundItself, Forgotten, OnceForTwo, Mentioned, ExceptMentionsNone, NonterminalsAreNotMentioned, PrefixFirst, ItemsDecide, FirstPairDecides, NameKeepsTheTerm, ListTakesOff};
+ghost use Rattle.rdx_lang.specs.Laws.{OneListing, OneJoin, JoinAgrees, JoinExists, NamesAscend, BindsAMap, BindsItsNames, RanksFall, EdgesFall, RankedIsFree};
 
 /// The order of values is total, and values that it doesn't tell apart are equal.
 pub fn values_are_ordered()
@@ -42,9 +43,29 @@ pub fn names_of_matches()
     ensures names { BindsItsNames }
 {}
 
-/// Where ranks fall along every left edge, what a pattern leads to has a lesser number, so no
-/// nonterminal leads to itself.
+/// Where ranks fall along every left edge, the number of an alternative is below that of its
+/// nonterminal; so what a left edge leads to has a lesser number, and no nonterminal reaches itself.
 pub fn ranks_fall()
     ensures fall { RanksFall }
+    ensures edges { EdgesFall }
     ensures free { RankedIsFree }
+{}
+
+/// Worked examples: what the definitions say of small languages, patterns and terms.
+pub fn worked_examples()
+    ensures two_equal { TwoEqual }
+    ensures two_different { TwoDifferent }
+    ensures two_marks { TwoMarks }
+    ensures name_around { NameAround }
+    ensures name_around_itself { NameAroundItself }
+    ensures forgotten { Forgotten }
+    ensures once_for_two { OnceForTwo }
+    ensures mentioned { Mentioned }
+    ensures except_mentions_none { ExceptMentionsNone }
+    ensures nonterminals_are_not_mentioned { NonterminalsAreNotMentioned }
+    ensures prefix_first { PrefixFirst }
+    ensures items_decide { ItemsDecide }
+    ensures first_pair_decides { FirstPairDecides }
+    ensures name_keeps_the_term { NameKeepsTheTerm }
+    ensures list_takes_off { ListTakesOff }
 {}

@@ -1,4 +1,4 @@
--- Where no two definitions are of the same nonterminal, what is looked up are the alternatives.
+-- Equal nonterminals are the same, and where no two definitions are of the same nonterminal, what is looked up are the alternatives.
 use Rattle.std.proofs.Common.{◌≡◌, Bool, true, false, List, [], ◌∷◌, map, refl, ap, subst, if◌then◌else◌}
 use Rattle.std.specs.Prelude.{◌↔◌, not, ◌||◌}
 use Rattle.std.specs.Cmp.{first_so, second_so}
@@ -11,19 +11,15 @@ use Rattle.rdx_lang.specs.WellFormed.{is_same, is_among, are_distinct, defined}
 use Rattle.rdx_lang.specs.declared.pattern.Ref.{Ref}
 use Rattle.rdx_lang.specs.declared.pattern.Ref.TheVariants.{Nt}
 
--- p is an alternative of x in these definitions
-record Among (ds : List Definition) (x : Ref) (p : Pattern) : Type 0 where
-  pub all : List Pattern
-  pub defined : In (x, all) ds
-  pub among : In p all
+-- ---- tests
 
 -- what is the same is equal
-is_same-equal : (x y : Ref) → is_same x y ≡ true → x ≡ y
+pub is_same-equal : (x y : Ref) → is_same x y ≡ true → x ≡ y
 is_same-equal (Nt x) (Nt y) h = ap Nt ((bytes_decides x y).0 h)
 
--- a nonterminal is the same as itself
-is_same-itself : (x : Ref) → is_same x x ≡ true
-is_same-itself (Nt x) = (bytes_decides x x).1 refl
+-- equals are the same
+pub equal-is_same : (x y : Ref) → x ≡ y → is_same x y ≡ true
+equal-is_same (Nt x) (Nt y) h = (bytes_decides x y).1 cc
 
 -- what its second part makes true
 or_right : (a b : Bool) → b ≡ true → (a || b) ≡ true
@@ -36,17 +32,26 @@ or_left true b h = refl
 or_left false b h = cc
 
 -- what is not so is not true
-not_true : (a : Bool) → not a ≡ true → a ≡ true → ⊥
+pub not_true : (a : Bool) → not a ≡ true → a ≡ true → ⊥
 not_true true h k = cc
 not_true false h k = cc
 
+-- ---- definitions
+
 -- what has a definition is among the defined
-is_among-defined : (x : Ref) (ps : List Pattern) (ds : List Definition) → In (x, ps) ds → is_among x (map (λ d. d.0) ds) ≡ true
+pub is_among-defined : (x : Ref) (ps : List Pattern) (ds : List Definition) → In (x, ps) ds → is_among x (map (λ d. d.0) ds) ≡ true
 is_among-defined x ps [] h = elim h [ ]
 is_among-defined x ps (d ∷ ds) (here e) =
-    let f : x ≡ d.0 = ap (λ (c : Definition). c.0) e in
-    or_left (is_same x d.0) (is_among x (map (λ c. c.0) ds)) (subst (λ (y : Ref). is_same x y ≡ true) f (is_same-itself x))
+    or_left (is_same x d.0) (is_among x (map (λ c. c.0) ds)) (equal-is_same x d.0 (ap (λ (c : Definition). c.0) e))
 is_among-defined x ps (d ∷ ds) (there h) = or_right (is_same x d.0) (is_among x (map (λ c. c.0) ds)) (is_among-defined x ps ds h)
+
+-- ---- alternatives
+
+-- p is an alternative of x in these definitions
+record Among (ds : List Definition) (x : Ref) (p : Pattern) : Type 0 where
+  pub all : List Pattern
+  pub defined : In (x, all) ds
+  pub among : In p all
 
 -- what is looked up is an alternative
 looked_up : (ds : List Definition) (x : Ref) (p : Pattern) → In p (alternatives_among ds x) → Among ds x p
@@ -76,9 +81,7 @@ each_looked_up (d ∷ ds) x p h a = by_test (is_same x d.0) refl (each_looked_up
 
     differs : (x, a.all) ≡ d → is_same x d.0 ≡ false → ⊥
     differs f e =
-        let n : x ≡ d.0 = ap (λ (c : Definition). c.0) f in
-        let s : is_same x d.0 ≡ true = subst (λ (y : Ref). is_same x y ≡ true) n (is_same-itself x) in
-        absurd cc
+        let s : is_same x d.0 ≡ true = equal-is_same x d.0 (ap (λ (c : Definition). c.0) f) in absurd cc
 
     by_test : (s : Bool) → is_same x d.0 ≡ s → (Among ds x p → In p (alternatives_among ds x)) → In (x, a.all) (d ∷ ds) → In p (if s then d.1 else alternatives_among ds x)
     by_test true e g (here f) = subst (λ (ps : List Pattern). In p ps) (ap (λ (c : Definition). c.1) f) a.among

@@ -1,0 +1,47 @@
+use Rattle.rdx_lang.proofs.Examples.{two_equal, two_different, two_marks, name_around, name_around_itself, forgotten, once_for_two, mentioned, except_mentions_none, nonterminals_are_not_mentioned, prefix_first, items_decide, first_pair_decides, name_keeps_the_term, list_takes_off}
+use Rattle.rdx_lang.proofs.laws.worked_examples.Goals as goal
+
+pub returns-clause-two_equal : goal.returns-clause-two_equal
+returns-clause-two_equal c = two_equal
+
+pub returns-clause-two_different : goal.returns-clause-two_different
+returns-clause-two_different c = two_different
+
+pub returns-clause-two_marks : goal.returns-clause-two_marks
+returns-clause-two_marks c = two_marks
+
+pub returns-clause-name_around : goal.returns-clause-name_around
+returns-clause-name_around c = name_around
+
+pub returns-clause-name_around_itself : goal.returns-clause-name_around_itself
+returns-clause-name_around_itself c = name_around_itself
+
+pub returns-clause-forgotten : goal.returns-clause-forgotten
+returns-clause-forgotten c = forgotten
+
+pub returns-clause-once_for_two : goal.returns-clause-once_for_two
+returns-clause-once_for_two c = once_for_two
+
+pub returns-clause-mentioned : goal.returns-clause-mentioned
+returns-clause-mentioned c = mentioned
+
+pub returns-clause-except_mentions_none : goal.returns-clause-except_mentions_none
+returns-clause-except_mentions_none c = except_mentions_none
+
+pub returns-clause-nonterminals_are_not_mentioned : goal.returns-clause-nonterminals_are_not_mentioned
+returns-clause-nonterminals_are_not_mentioned c = nonterminals_are_not_mentioned
+
+pub returns-clause-prefix_first : goal.returns-clause-prefix_first
+returns-clause-prefix_first c = prefix_first
+
+pub returns-clause-items_decide : goal.returns-clause-items_decide
+returns-clause-items_decide c = items_decide
+
+pub returns-clause-first_pair_decides : goal.returns-clause-first_pair_decides
+returns-clause-first_pair_decides c = first_pair_decides
+
+pub returns-clause-name_keeps_the_term : goal.returns-clause-name_keeps_the_term
+returns-clause-name_keeps_the_term c = name_keeps_the_term
+
+pub returns-clause-list_takes_off : goal.returns-clause-list_takes_off
+returns-clause-list_takes_off c = list_takes_off
