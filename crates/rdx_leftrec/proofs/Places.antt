@@ -2,49 +2,21 @@
 use Rattle.std.proofs.Common.{◌≡◌, ℕ, zero, suc, Bool, true, false, List, [], ◌∷◌, map, refl, sym, ap, subst, ◌⊎◌, inl, inr, if◌then◌else◌}
 use Rattle.std.specs.Prelude.{not, ◌||◌}
 use Rattle.std.specs.Cmp.{first_so, second_so}
-use Rattle.std.specs.Cmp.Lexicographic.{bytes_decides}
-use Rattle.rdx_lang.specs.Lookup.{alternatives_among, alternatives_of}
+use Rattle.rdx_lang.specs.LookupLaws.{is_same-equal, equal-is_same, not_true, is_among-defined}
 use Rattle.rdx_lang.specs.Members.{In, here, there}
-use Rattle.rdx_lang.specs.Patterns.{Pattern, wild, of_kind, except, prefix, lit, nt, named, seq, Definition, Language}
-use Rattle.rdx_lang.specs.Rules.{IsAlternative}
+use Rattle.rdx_lang.specs.Patterns.{Pattern, wild, of_kind, except, prefix, lit, nt, named, seq, Definition}
 use Rattle.rdx_lang.specs.WellFormed.{is_same, is_among, are_distinct, is_well_formed, all_patterns, all_alternatives}
 use Rattle.rdx_lang.specs.declared.pattern.Ref.{Ref}
-use Rattle.rdx_lang.specs.declared.pattern.Ref.TheVariants.{Nt}
 use Rattle.rdx_leftrec.specs.Leads.{leads, all_leads, place}
-use Rattle.rdx_leftrec.proofs.Lists.{At, in-append, append-left, append-right}
+use Rattle.rdx_leftrec.proofs.Lists.{At, at-in, in-append, append-left, append-right}
 
 -- the nonterminals of definitions
 abbrev pub names_of : List Definition → List Ref
 names_of ds = map (λ d. d.0) ds
 
--- what is the same is equal
-is_same-equal : (x y : Ref) → is_same x y ≡ true → x ≡ y
-is_same-equal (Nt x) (Nt y) h = ap Nt ((bytes_decides x y).0 h)
-
--- equals are the same
-equal-is_same : (x y : Ref) → x ≡ y → is_same x y ≡ true
-equal-is_same (Nt x) (Nt y) h = (bytes_decides x y).1 cc
-
--- what its second part makes true
-or_right : (a b : Bool) → b ≡ true → (a || b) ≡ true
-or_right true b h = refl
-or_right false b h = h
-
--- what its first part makes true
-or_left : (a b : Bool) → a ≡ true → (a || b) ≡ true
-or_left true b h = refl
-or_left false b h = absurd cc
-
--- what is not so is not true
-not_true : (a : Bool) → not a ≡ true → a ≡ true → ⊥
-not_true true h k = absurd cc
-not_true false h k = absurd cc
-
 -- a nonterminal with a definition is among those of the definitions
 among-at : (ds : List Definition) (i : ℕ) (d : Definition) → At ds i d → is_among d.0 (names_of ds) ≡ true
-among-at [] i d h = absurd h
-among-at (c ∷ ds) zero d h = or_left (is_same d.0 c.0) (is_among d.0 (names_of ds)) (equal-is_same d.0 c.0 (ap (λ (e : Definition). e.0) h))
-among-at (c ∷ ds) (suc i) d h = or_right (is_same d.0 c.0) (is_among d.0 (names_of ds)) (among-at ds i d h)
+among-at ds i d h = is_among-defined d.0 d.1 ds (at-in ds i d h)
 
 -- the place of a nonterminal is where it is defined
 pub place-at : (ds : List Definition) (i : ℕ) (d : Definition) → are_distinct (names_of ds) ≡ true → At ds i d → place d.0 (names_of ds) ≡ i
@@ -115,17 +87,3 @@ pub in-all_leads : (ps : List Pattern) (p : Pattern) (z : Ref) → In p ps → I
 in-all_leads [] p z h i = elim h [ ]
 in-all_leads (q ∷ ps) p z (here e) i = append-left (leads q) (all_leads ps) z (subst (λ (r : Pattern). In z (leads r)) e i)
 in-all_leads (q ∷ ps) p z (there h) i = append-right (leads q) (all_leads ps) z (in-all_leads ps p z h i)
-
--- what is looked up among definitions is in one of them
-looked_up : (ds : List Definition) (x : Ref) (p : Pattern) → In p (alternatives_among ds x) → (all : List Pattern) × In (x, all) ds × In p all
-looked_up [] x p h = elim h [ ]
-looked_up (d ∷ ds) x p h = by_test (is_same x d.0) refl (looked_up ds x p) h
-  where
-    by_test : (s : Bool) → is_same x d.0 ≡ s → (In p (alternatives_among ds x) → (all : List Pattern) × In (x, all) ds × In p all) → In p (if s then d.1 else alternatives_among ds x)
-        → (all : List Pattern) × In (x, all) (d ∷ ds) × In p all
-    by_test true e f i = let n : x ≡ d.0 = is_same-equal x d.0 e in (d.1, here (λ j. (n j, d.1)), i)
-    by_test false e f i = let k = f i in (k.0, there k.1, k.2)
-
--- what is looked up is an alternative
-pub alternatives_of-alternative : (L : Language) (x : Ref) (p : Pattern) → In p (alternatives_of L x) → IsAlternative L x p
-alternatives_of-alternative L x p h = let k = looked_up L.nonterminals x p h in record { all = k.0; defined = k.1; among = k.2 }

@@ -7,11 +7,12 @@ use Rattle.rdx_lang.specs.declared.pattern.Ref.{Ref}
 use Rattle.rdx_leftrec.specs.declared.recursion.LeftRec.{LeftRec}
 use Rattle.rdx_leftrec.specs.declared.recursion.LeftRec.TheVariants.{LeftRecursive, NoMemory}
 
--- the first nonterminal that reaches itself, or want of memory
+-- the answer names the first nonterminal that reaches itself, or says that memory ran out
 abbrev pub IsRecursionOf : Language → LeftRec → Type 0
 IsRecursionOf L (LeftRecursive x) = IsFirstRecursive L x
 IsRecursionOf L NoMemory = Unit {0}
 
+-- the answer names this nonterminal, or says that memory ran out
 abbrev pub Names : Ref → LeftRec → Type 0
 Names x (LeftRecursive y) = y ≡ x
 Names x NoMemory = Unit {0}

@@ -1,5 +1,6 @@
 use Rattle.std.proofs.Common.{arith, ◌≡◌, ◌+◌, List, ℕ, sym, subst, ◌∙◌, ap}
 use Rattle.std.proofs.lemmas.Grind.{common_steps}
+use Rattle.rdx_lang.specs.LookupLaws.{alternatives_of-all}
 use Rattle.rdx_lang.specs.PatternView.{language_of}
 use Rattle.rdx_lang.specs.Patterns.{Language}
 use Rattle.rdx_lang.specs.Ranks.{AreRanks}
@@ -8,7 +9,6 @@ use Rattle.rdx_leftrec.specs.Numbers.{most_names, number_at, scaled}
 use Rattle.rdx_leftrec.specs.Preorder.{definitions_ranks}
 use Rattle.rdx_leftrec.proofs.Counting.{number-falls}
 use Rattle.rdx_leftrec.proofs.Falling.{ranks-fall}
-use Rattle.rdx_leftrec.proofs.Places.{alternatives_of-alternative}
 use Rattle.rdx_leftrec.proofs.ranks.ranks.Goals as goal
 
 pub returns : goal.returns
@@ -19,4 +19,4 @@ returns c =
     c.in_ok-of.ensures ∙ ap (λ (ns : List ℕ). definitions_ranks (number_at (defined L) ns) L.nonterminals) (c.deref.ensures.value ∙ c.in_ok-numbers.ensures) in
     subst (λ (ns : List ℕ). AreRanks L ns) (sym f)
     (ranks-fall L (number_at (defined L) (scaled c.in_ok-scale.scale c.args.counts.now)) (λ x p i.
-    number-falls L c.requires.well_formed c.args.counts.now c.requires.size c.requires.counts c.in_ok-scale.scale e x p (alternatives_of-alternative L x p i)))
+    number-falls L c.requires.well_formed c.args.counts.now c.requires.size c.requires.counts c.in_ok-scale.scale e x p ((alternatives_of-all L x c.requires.well_formed.distinct p).0 i)))
