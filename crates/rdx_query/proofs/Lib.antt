@@ -11,3 +11,4 @@ pub mod QueryChecks
 pub mod Replaced
 pub mod FileRead
 pub mod FormSteps
+pub mod Examples

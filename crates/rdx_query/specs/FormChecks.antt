@@ -16,7 +16,7 @@ use Rattle.rdx_query.specs.declared.kind.FormKind.TheVariants as kind
 
 -- ---- names of languages
 
--- the language is not known
+-- the name l, where no language was found by it
 abbrev pub unknown_by : Option Language → Sexp → Option Refusal
 unknown_by None l = Some (named UnknownLanguage l)
 unknown_by (Some L) l = None
@@ -26,7 +26,7 @@ abbrev pub unknown_at : List Language → Option Sexp → Option Refusal
 unknown_at Ls None = None
 unknown_at Ls (Some l) = unknown_by (language_named Ls (text_of l)) l
 
--- an earlier form has the name
+-- the name l, where a language was found by it
 abbrev pub taken_by : Option Language → Sexp → Option Refusal
 taken_by None l = None
 taken_by (Some L) l = Some (named Duplicate l)
@@ -56,12 +56,12 @@ abbrev pub checked_parts : Option QueryParts → Option QueryParts
 checked_parts None = None
 checked_parts (Some q) = if is_symbol q.language then Some q else None
 
--- the term of a query is written in another way than so far, or has an ellipsis in it
+-- the fourth item of the query d isn't `(term t)`, or a symbol that begins like an ellipsis stands in t; such queries aren't built yet
 abbrev pub host_by : Sexp → Option Sexp → Option Refusal
 host_by d None = Some (unnamed Unbuilt d)
 host_by d (Some t) = if has_dots t then Some (unnamed Unbuilt d) else None
 
--- of a query with four items
+-- the same, where the query has four items
 abbrev pub host_at : Sexp → Option QueryParts → Option Refusal
 host_at d None = None
 host_at d (Some q) = host_by d (template_in q.host)
@@ -71,7 +71,7 @@ abbrev pub keys_of : Option Sexp → List Stand
 keys_of None = []
 keys_of (Some t) = keys t
 
--- what the check of shapes looks at: the query itself, or what stands in its pattern, and the keywords in its term
+-- what the check of shapes looks at: the query itself where it has not its parts; else what stands in its pattern, and then the keywords in its term
 abbrev pub query_shape : Sexp → Option QueryParts → List Stand
 query_shape d None = misshaped d ∷ []
 query_shape d (Some q) = stands q.pattern ++ keys_of (template_in q.host)
@@ -94,7 +94,7 @@ query_refusal Ls d q =
 
 -- ---- forms
 
--- by what the form is by its head
+-- the refusal of a form of this kind; a form of no kind isn't built yet
 abbrev pub refusal_by_kind : List Language → Sexp → Option FormKind → Option Refusal
 refusal_by_kind Ls d None = Some (unnamed Unbuilt d)
 refusal_by_kind Ls d (Some kind.Language) = language_refusal Ls empty_language None d (language_form d)

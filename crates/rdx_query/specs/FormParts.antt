@@ -40,11 +40,12 @@ base_name d = base_among (parts d)
 
 -- ---- queries
 
--- the term of `(term t)`
+-- the t of a list `(term t)` of these parts
 abbrev pub template_among : Option (List Sexp) → Option Sexp
 template_among (Some (h ∷ t ∷ [])) = if is_word (codes "term") h then Some t else None
 template_among o = None
 
+-- the t of `(term t)`
 abbrev pub template_in : Sexp → Option Sexp
 template_in d = template_among (parts d)
 
@@ -54,7 +55,7 @@ pub record QueryParts : Type 0 where
   pub pattern : Sexp
   pub host : Sexp
 
--- `(head L p h)`
+-- the parts of a list `(head L p h)`
 abbrev pub query_among : Option (List Sexp) → Option QueryParts
 query_among (Some (h ∷ l ∷ p ∷ t ∷ [])) = Some (record { language = l; pattern = p; host = t })
 query_among o = None
@@ -65,11 +66,12 @@ query_parts d = query_among (parts d)
 
 -- ---- terms
 
+-- a symbol that begins like an ellipsis
 abbrev pub is_dotted_atom : Atom → Bool
 is_dotted_atom (symbol x) = begins_with_dots x
 is_dotted_atom a = false
 
--- a symbol that begins like an ellipsis stands in the term
+-- such a symbol stands in the term, however deep
 abbrev mutual
   pub has_dots : Sexp → Bool
   has_dots (leaf a s) = is_dotted_atom a

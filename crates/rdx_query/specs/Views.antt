@@ -1,5 +1,5 @@
 -- What the values of the code stand for.
-use Rattle.std.specs.Prelude.{◌≡◌, ℕ, List, [], ◌∷◌, map, Result, Ok, Err, is_some, true}
+use Rattle.std.specs.Prelude.{◌≡◌, ℕ, List, [], ◌∷◌, map, is_some, true}
 use Rattle.rdx_sexp.specs.Sexp.{Sexp}
 use Rattle.rdx_term.specs.View.{tree_of}
 use Rattle.rdx_lang.specs.Checked.{language_in, pattern_in}
@@ -7,7 +7,7 @@ use Rattle.rdx_lang.specs.Patterns as model
 use Rattle.rdx_grammar.specs.Answers.{refusal_of}
 use Rattle.rdx_grammar.specs.declared.fault.DefFault.{DefFault}
 use Rattle.rdx_grammar.specs.declared.fault.DefFault.TheVariants.{Refused, NoMemory}
-use Rattle.rdx_query.specs.File.{Accepts, Refuses}
+use Rattle.rdx_query.specs.File.{Refuses}
 use Rattle.rdx_query.specs.FormReadings as readings
 use Rattle.rdx_query.specs.Known.{language_named}
 use Rattle.rdx_query.specs.declared.file.CheckedFile.{CheckedFile}
@@ -37,12 +37,7 @@ abbrev pub AreNamed : List model.Language → List readings.Query → Type 0
 AreNamed Ls [] = Unit {0}
 AreNamed Ls (q ∷ qs) = (is_some (language_named Ls (query_name q)) ≡ true) × AreNamed Ls qs
 
--- the file is refused so, unless memory ran out
+-- the data are refused so, by their first form that is refused, unless memory ran out
 abbrev pub IsFileFault : List Sexp → DefFault → Type 0
 IsFileFault ds (Refused r) = Refuses [] ds (refusal_of r)
 IsFileFault ds NoMemory = Unit {0}
-
--- the data are accepted and mean this file, or they are refused so
-abbrev pub Checks : List Sexp → Result CheckedFile DefFault → Type 0
-Checks ds (Ok f) = Accepts [] ds (languages_of f) (queries_of f)
-Checks ds (Err e) = IsFileFault ds e

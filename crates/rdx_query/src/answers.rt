@@ -27,6 +27,7 @@ pub struct Answered {
     pub met: bool,
 }
 
+// `name = value`.
 fn write_pair(pair: &(Name, Value), out: &mut Vec<u8>) -> Result<(), NoMemory>
     ensures { OnOk result (out.new.items ≡ out.old.items ++ text.pair_text (pair_of pair.now)) }
 {
@@ -36,6 +37,7 @@ fn write_pair(pair: &(Name, Value), out: &mut Vec<u8>) -> Result<(), NoMemory>
     text_of(term, out)
 }
 
+// The pairs with commas between, or `-` where there are none.
 fn write_binding(binding: &Binding, out: &mut Vec<u8>) -> Result<(), NoMemory>
     ensures { OnOk result (out.new.items ≡ out.old.items ++ text.binding_text (binding_of binding.now)) }
 {
@@ -63,6 +65,7 @@ fn write_lines(found: &[Binding], out: &mut Vec<u8>) -> Result<(), NoMemory>
     Ok(())
 }
 
+// How many there are, and then each.
 fn write_matches(found: &[Binding], out: &mut Vec<u8>) -> Result<(), NoMemory>
     ensures { OnOk result (out.new.items ≡ out.old.items ++ text.matches_text (bindings_of found.now)) }
 {

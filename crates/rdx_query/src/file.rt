@@ -1,7 +1,8 @@
 // The forms of a file.
 ghost use Rattle.rdx_sexp.specs.Size.{IsOfFileSize};
-ghost use Rattle.std.specs.Prelude.{IfOk};
-ghost use Rattle.rdx_query.specs.Views.{Checks, AreNamed, languages_of, queries_of};
+ghost use Rattle.std.specs.Prelude.{[], IfOk, IfErr};
+ghost use Rattle.rdx_query.specs.File.{Accepts};
+ghost use Rattle.rdx_query.specs.Views.{AreNamed, IsFileFault, languages_of, queries_of};
 
 use crate::forms::read_form;
 use rdx_grammar::DefFault;
@@ -37,7 +38,8 @@ pub struct CheckedFile {
 /// What the forms of a file mean, or the refusal of the first form that is refused.
 pub fn check_file(alloc: Global, forms: &[Datum]) -> Result<CheckedFile, DefFault>
     requires { IsOfFileSize forms.now }
-    ensures checks { Checks forms.now result }
+    ensures accepted { IfOk result (λ f. Accepts [] forms.now (languages_of f) (queries_of f)) }
+    ensures refused { IfErr result (IsFileFault forms.now) }
     ensures named { IfOk result (λ f. AreNamed (languages_of f) (queries_of f)) }
 {
     let mut languages = Vec::new(alloc);

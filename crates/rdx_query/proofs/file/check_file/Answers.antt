@@ -8,8 +8,8 @@ use Rattle.rdx_query.proofs.file.check_file.Goals as goal
 pub read_form-requires : goal.read_form-requires
 read_form-requires c = form-size c.args.forms.now c.loop-form.form-index c.form-item.result c.requires c.loop-form-test.true c.form-item.is
 
-pub returns-in_err-read_form-clause-checks : goal.returns-in_err-read_form-clause-checks
-returns-in_err-read_form-clause-checks c =
+pub returns-in_err-read_form-clause-refused : goal.returns-in_err-read_form-clause-refused
+returns-in_err-read_form-clause-refused c =
     let p = err_from_is_err_and c.from_residual.result c.from_residual.ensures.1 in
     rw (p.1, p.2) (so_far-fault c.args.forms.now c.loop-form.form-index c.form-item.result (map language_in c.loop-form.languages.items) (map query_of c.loop-form.queries.items)
     c.in_err-read_form.field-0.0 c.loop-form-test.true c.form-item.is c.in_err-read_form.ensures c.loop-form.invariant)
@@ -19,6 +19,6 @@ loop-form-preserved c =
     so_far-next c.args.forms.now c.loop-form.form-index c.form-item.result (map language_in c.loop-form.languages.items) (map language_in c.read_form.new.languages.items)
     (map query_of c.loop-form.queries.items) (map query_of c.read_form.new.queries.items) c.loop-form-test.true c.form-item.is c.in_ok-read_form.ensures c.loop-form.invariant
 
-pub returns-clause-checks : goal.returns-clause-checks
-returns-clause-checks c =
+pub returns-clause-accepted : goal.returns-clause-accepted
+returns-clause-accepted c =
     so_far-end c.args.forms.now c.loop-form.form-index (map language_in c.loop-form.languages.items) (map query_of c.loop-form.queries.items) (omega arith) c.loop-form.invariant
