@@ -1,4 +1,4 @@
--- What the search asks of nonterminals.
+-- What the search asks of nonterminals and of the items of lists.
 use Rattle.rdx_term.specs.Tree.{Tree}
 use Rattle.rdx_lang.specs.Bindings.{Binding}
 use Rattle.rdx_lang.specs.Patterns.{Pattern, Language}

@@ -11,7 +11,7 @@ use rdx_lang::{CheckedLang, Kind};
 use rdx_term::{Name, Term};
 
 /// Whether the built-in name stands for the term.
-pub fn is_of_kind(language: &CheckedLang, kind: Kind, t: &Term) -> bool
+pub(crate) fn is_of_kind(language: &CheckedLang, kind: Kind, t: &Term) -> bool
     ensures { result ≡ rules.is_of_kind (language_in language.now) kind (tree_of t.now) }
 {
     match kind {
@@ -41,7 +41,7 @@ fn is_one_of(names: &[Name], name: &Name) -> bool
 }
 
 /// Whether the term is a symbol other than these.
-pub fn is_other_symbol(names: &[Name], t: &Term) -> bool
+pub(crate) fn is_other_symbol(names: &[Name], t: &Term) -> bool
     ensures { result ≡ atoms.is_other_symbol names.now (tree_of t.now) }
 {
     match t {
@@ -51,7 +51,7 @@ pub fn is_other_symbol(names: &[Name], t: &Term) -> bool
 }
 
 /// Whether the term is a symbol that begins so.
-pub fn has_prefix(prefix: &Name, t: &Term) -> bool
+pub(crate) fn has_prefix(prefix: &Name, t: &Term) -> bool
     ensures { result ≡ atoms.has_prefix prefix.now (tree_of t.now) }
 {
     match t {

@@ -45,7 +45,7 @@ fn add_joins(
 }
 
 /// The joins of each of `firsts` with each of `others`.
-pub fn joins(
+pub(crate) fn joins(
     alloc: Global,
     firsts: &[Binding],
     others: &[Binding],
@@ -69,7 +69,7 @@ fn one_pair(alloc: Global, name: &Name, t: &Term) -> Result<Binding, NoMemory>
 }
 
 /// Each of `firsts` joined with the binding of the name to the term.
-pub fn with_name(
+pub(crate) fn with_name(
     alloc: Global,
     firsts: &[Binding],
     name: &Name,

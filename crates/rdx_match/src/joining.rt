@@ -27,8 +27,19 @@ fn insert(pairs: &mut Vec<(Name, Value)>, name: &Name, value: &Value) -> Result<
     Ok(true)
 }
 
+// The same pairs.
+fn copy_of(alloc: Global, pairs: &[(Name, Value)]) -> Result<Vec<(Name, Value)>, NoMemory>
+    ensures { IfOk result (λ copy. pairs_of copy.items ≡ pairs_of pairs.now) }
+{
+    let mut copy = Vec::with_capacity(alloc, pairs.len())?;
+    for (name, value) in pairs {
+        copy.push((name.share()?, value.share()?))?;
+    }
+    Ok(copy)
+}
+
 /// The binding with exactly the pairs of both; `None` where a name has two values.
-pub fn join(alloc: Global, a: &Binding, b: &Binding) -> Result<Option<Binding>, NoMemory>
+pub(crate) fn join(alloc: Global, a: &Binding, b: &Binding) -> Result<Option<Binding>, NoMemory>
     ensures some { IfOk result (λ r. IfSome r (λ c. IsJoin (binding_of a.now) (binding_of b.now) (binding_of c))) }
     ensures none { IfOk result (λ r. IfNone r ((c : Map) → IsJoin (binding_of a.now) (binding_of b.now) c → ⊥)) }
 {
@@ -39,14 +50,4 @@ pub fn join(alloc: Global, a: &Binding, b: &Binding) -> Result<Option<Binding>, 
         }
     }
     Ok(Some(Binding::new(pairs)))
-}
-
-fn copy_of(alloc: Global, pairs: &[(Name, Value)]) -> Result<Vec<(Name, Value)>, NoMemory>
-    ensures { IfOk result (λ copy. pairs_of copy.items ≡ pairs_of pairs.now) }
-{
-    let mut copy = Vec::with_capacity(alloc, pairs.len())?;
-    for (name, value) in pairs {
-        copy.push((name.share()?, value.share()?))?;
-    }
-    Ok(copy)
 }

@@ -10,6 +10,7 @@ use rdx_term::NoMemory;
 use std::alloc::Global;
 use std::collections::BTreeSet;
 
+// The members of a set, ascending.
 fn keys_of(alloc: Global, set: BTreeSet<Binding>) -> Result<Vec<Binding>, NoMemory>
     ensures { IfOk result (λ keys. keys.items ≡ set.keys) }
 {
@@ -18,7 +19,7 @@ fn keys_of(alloc: Global, set: BTreeSet<Binding>) -> Result<Vec<Binding>, NoMemo
 }
 
 /// The strictly ascending list with the same members.
-pub fn listing(alloc: Global, found: Vec<Binding>) -> Result<Vec<Binding>, NoMemory>
+pub(crate) fn listing(alloc: Global, found: Vec<Binding>) -> Result<Vec<Binding>, NoMemory>
     ensures { IfOk result (λ listed. IsListing binding_cmp (bindings_of listed.items) (λ b. In b (bindings_of found.items))) }
 {
     let mut rest = found;

@@ -55,7 +55,7 @@ fn any_mentions(name: &Name, pats: &[Pat]) -> bool
 }
 
 /// Whether an alternative of the language has the symbol as a literal.
-pub fn is_mentioned(language: &Language, name: &Name) -> bool
+pub(crate) fn is_mentioned(language: &Language, name: &Name) -> bool
     ensures { result ≡ literals.is_mentioned (language_of language.now) name.now }
 {
     for (_, alternatives) in &language.nts {

@@ -78,7 +78,7 @@ fn match_items(
 
 /// The strictly ascending list of exactly the bindings by which the pattern matches the term.
 #[cycle(search)]
-pub fn matches(
+pub(crate) fn matches(
     alloc: Global,
     language: &CheckedLang,
     pat: &Pat,
