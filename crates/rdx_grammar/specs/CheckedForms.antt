@@ -32,6 +32,7 @@ pub record IsRecursionRefusal (L : Language) (d : Sexp) (r : DefRefusal) : Type 
   pub recursive : IsFirstRecursive L (Nt name)
   pub refused : refusal_of r ≡ recursion_at d name
 
+-- the same, unless memory ran out
 abbrev pub IsRecursionFault : Language → Sexp → DefFault → Type 0
 IsRecursionFault L d (Refused r) = IsRecursionRefusal L d r
 IsRecursionFault L d NoMemory = Unit {0}

@@ -11,11 +11,13 @@ use Rattle.rdx_grammar.specs.Stands.{Stand, misshaped, key, defined, nonterminal
 
 -- ---- the shape: forms and definitions that have not theirs, and keywords in patterns
 
+-- the datum, where it has not its shape or is a keyword
 abbrev pub shape_fault : Stand → List Sexp
 shape_fault (misshaped d) = d ∷ []
 shape_fault (key d) = d ∷ []
 shape_fault _ = []
 
+-- all such data
 abbrev pub shape_faults : List Stand → List Sexp
 shape_faults [] = []
 shape_faults (s ∷ ss) = shape_fault s ++ shape_faults ss
@@ -34,21 +36,25 @@ repeats seen (s ∷ ss) = repeats seen ss
 
 -- ---- names that may not be defined or bound
 
+-- the datum, where this holds
 abbrev pub when : Bool → Sexp → List Sexp
 when b d = if b then d ∷ [] else []
 
+-- the symbol, where it is defined or bound and its name may not be
 abbrev pub bad_name : Stand → List Sexp
 bad_name (defined d) = when (is_bad_name (text_of d)) d
 bad_name (nonterminal d) = when (is_bad_nonterminal (text_of d)) d
 bad_name (binder d) = when (is_bad_name (text_of d)) d
 bad_name _ = []
 
+-- all such symbols
 abbrev pub bad_names : List Stand → List Sexp
 bad_names [] = []
 bad_names (s ∷ ss) = bad_name s ++ bad_names ss
 
 -- ---- bad patterns, over a base whose alternatives may be inherited, with these nonterminals
 
+-- x is one of these names
 abbrev pub is_among : List (List ℕ) → List ℕ → Bool
 is_among ns x = list_any (λ y. bytes_eq y x) ns
 
@@ -60,6 +66,7 @@ is_base ns x = is_some (kind_of x) || is_among ns x
 abbrev pub is_bad_symbol : List (List ℕ) → List ℕ → Bool
 is_bad_symbol ns x = begins_with_dots x || (not (bytes_eq x (codes "_")) && (has_suffix x && not (is_base ns (front x))))
 
+-- there is a pattern among these
 abbrev pub is_some_pattern : List model.Pattern → Bool
 is_some_pattern [] = false
 is_some_pattern (p ∷ ps) = true
@@ -69,6 +76,7 @@ abbrev pub all_inherit : model.Language → List Sexp → Bool
 all_inherit base [] = true
 all_inherit base (e ∷ es) = is_some_pattern (alternatives_of base (Nt (text_of e))) && all_inherit base es
 
+-- the datum, where it is a pattern that means nothing: a bad symbol, a list without its shape, or `....` twice or of names without alternatives to inherit
 abbrev pub bad_pattern : model.Language → List (List ℕ) → Stand → List Sexp
 bad_pattern base ns (pattern d) = when (is_bad_symbol ns (text_of d)) d
 bad_pattern base ns (excepted d) = when (begins_with_dots (text_of d)) d
@@ -76,6 +84,7 @@ bad_pattern base ns (malformed d) = d ∷ []
 bad_pattern base ns (inherited d names again) = when (again || not (all_inherit base names)) d
 bad_pattern base ns _ = []
 
+-- all such data
 abbrev pub bad_patterns : model.Language → List (List ℕ) → List Stand → List Sexp
 bad_patterns base ns [] = []
 bad_patterns base ns (s ∷ ss) = bad_pattern base ns s ++ bad_patterns base ns ss

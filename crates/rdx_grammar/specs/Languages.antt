@@ -34,13 +34,16 @@ abbrev pub headed : List ℕ → (List Sexp → Option GrammarForm) → List Sex
 headed head f [] = None
 headed head f (h ∷ ds) = if is_word head h then f (h ∷ ds) else None
 
+-- the same of a datum, where it is a list
 abbrev pub form_parts : List ℕ → (List Sexp → Option GrammarForm) → Option (List Sexp) → Option GrammarForm
 form_parts head f None = None
 form_parts head f (Some ds) = headed head f ds
 
+-- the parts of a form that defines a language by itself
 abbrev pub language_form : Sexp → Option GrammarForm
 language_form d = form_parts (codes "define-language") language_parts (parts d)
 
+-- the parts of a form that extends a language
 abbrev pub extension_form : Sexp → Option GrammarForm
 extension_form d = form_parts (codes "define-extended-language") extension_parts (parts d)
 
@@ -51,6 +54,7 @@ form_stands d (Some g) = defines g.name ∷ definitions_stand g.definitions
 
 -- ---- its nonterminals
 
+-- the names of one definition
 abbrev pub names_by : Option Definition → List (List ℕ)
 names_by None = []
 names_by (Some def) = map text_of def.names
@@ -60,6 +64,7 @@ abbrev pub names_in : List Sexp → List (List ℕ)
 names_in [] = []
 names_in (d ∷ ds) = names_by (definition_in d) ++ names_in ds
 
+-- a nonterminal's name
 abbrev pub ref_text : Ref → List ℕ
 ref_text (Nt x) = x
 
@@ -84,12 +89,14 @@ abbrev pub defined_by : Language → List (List ℕ) → Option Definition → L
 defined_by base ns None = []
 defined_by base ns (Some def) = map (λ e. (Nt (text_of e), alternatives base ns (text_of e) def.alternatives)) def.names
 
+-- the definitions of a form, each name with its alternatives
 abbrev pub definitions_of : Language → List (List ℕ) → List Sexp → List model.Definition
 definitions_of base ns [] = []
 definitions_of base ns (d ∷ ds) = defined_by base ns (definition_in d) ++ definitions_of base ns ds
 
 -- ---- the language
 
+-- the nonterminals of definitions
 abbrev pub heads : List model.Definition → List Ref
 heads ds = map (λ d. d.0) ds
 
@@ -106,6 +113,7 @@ added old (d ∷ ds) = (if is_defined_among d.0 (heads old) then [] else d ∷ [
 abbrev pub extended : Language → List model.Definition → List model.Definition
 extended base new = map (redefined new) base.nonterminals ++ added base.nonterminals new
 
+-- without a nonterminal
 abbrev pub empty_language : Language
 empty_language = record { name = []; nonterminals = [] }
 

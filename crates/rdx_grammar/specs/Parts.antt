@@ -17,6 +17,7 @@ abbrev pub symbol_text : Sexp → Option (List ℕ)
 symbol_text (leaf (symbol x) s) = Some x
 symbol_text d = None
 
+-- the text, or none at all
 abbrev pub text_or_none : Option (List ℕ) → List ℕ
 text_or_none None = []
 text_or_none (Some x) = x
@@ -25,6 +26,7 @@ text_or_none (Some x) = x
 abbrev pub text_of : Sexp → List ℕ
 text_of d = text_or_none (symbol_text d)
 
+-- the datum is a symbol
 abbrev pub is_symbol : Sexp → Bool
 is_symbol (leaf (symbol x) s) = true
 is_symbol d = false
@@ -34,6 +36,7 @@ abbrev pub is_word : List ℕ → Sexp → Bool
 is_word x (leaf (symbol y) s) = bytes_eq y x
 is_word x d = false
 
+-- all are symbols
 abbrev pub are_symbols : List Sexp → Bool
 are_symbols [] = true
 are_symbols (d ∷ ds) = is_symbol d && are_symbols ds
@@ -50,6 +53,7 @@ abbrev pub definition : List Sexp → List Sexp → Option Definition
 definition names [] = None
 definition names (p ∷ ps) = Some (record { names = names; alternatives = p ∷ ps })
 
+-- with one more name in front
 abbrev pub further : Sexp → List Sexp × List Sexp → List Sexp × List Sexp
 further d x = (d ∷ x.0, x.1)
 
@@ -77,6 +81,7 @@ definition_by (leaf (symbol x) s) ds = named_by (leaf (symbol x) s) ds (at_sign 
 definition_by (list es s) ds = named_all (listed es) ds
 definition_by d ds = None
 
+-- the definition that a list of these data is
 abbrev pub definition_among : List Sexp → Option Definition
 definition_among [] = None
 definition_among (d ∷ ds) = definition_by d ds

@@ -20,6 +20,7 @@ abbrev pub base_of : List (List ℕ) → List ℕ → Option Kind → Option Pat
 base_of ns x (Some k) = Some (of_kind k)
 base_of ns x None = if is_among ns x then Some (nt (Nt x)) else None
 
+-- the pattern of a name without a suffix
 abbrev pub base : List (List ℕ) → List ℕ → Option Pattern
 base ns x = base_of ns x (kind_of x)
 
@@ -28,6 +29,7 @@ abbrev pub unsuffixed : Position → List ℕ → Pattern → Pattern
 unsuffixed Grammar x p = p
 unsuffixed Query x p = named x p
 
+-- what `x` with its suffix stands for, by what stands before the suffix: it binds all of x
 abbrev pub suffixed : List ℕ → Option Pattern → Pattern
 suffixed x None = wild
 suffixed x (Some p) = named x p
@@ -36,13 +38,16 @@ suffixed x (Some p) = named x p
 abbrev pub other_symbol : List (List ℕ) → List ℕ → Pattern
 other_symbol ns x = if has_suffix x then suffixed x (base ns (front x)) else lit (tree.symbol x)
 
+-- a symbol, by the base of its whole text
 abbrev pub by_base : List (List ℕ) → Position → List ℕ → Option Pattern → Pattern
 by_base ns pos x (Some p) = unsuffixed pos x p
 by_base ns pos x None = other_symbol ns x
 
+-- a symbol: `_` matches everything and binds nothing
 abbrev pub symbol_reading : List (List ℕ) → Position → List ℕ → Pattern
 symbol_reading ns pos x = if bytes_eq x (codes "_") then wild else by_base ns pos x (base ns x)
 
+-- numbers, booleans and strings stand for themselves; a keyword is refused
 abbrev pub atom_reading : List (List ℕ) → Position → Atom → Pattern
 atom_reading ns pos (integer n) = lit (tree.integer n)
 atom_reading ns pos (truth b) = lit (tree.truth b)
@@ -50,6 +55,7 @@ atom_reading ns pos (text t) = lit (tree.text t)
 atom_reading ns pos (symbol x) = symbol_reading ns pos x
 atom_reading ns pos (keyword k) = wild
 
+-- the texts of symbols
 abbrev pub texts : List Sexp → List (List ℕ)
 texts ds = map text_of ds
 

@@ -17,20 +17,25 @@ use Rattle.rdx_grammar.specs.declared.fault.DefKind.TheVariants.{Unbuilt, Shape,
 abbrev pub unbuilt_at : Sexp → Option Refusal
 unbuilt_at d = if has_word_to_come d then Some (unnamed Unbuilt d) else None
 
+-- a form, a definition or a pattern has not its shape
 abbrev pub shape_at : List Stand → Option Refusal
 shape_at ss = option_map (unnamed Shape) (first (shape_faults ss))
 
+-- a nonterminal is defined twice
 abbrev pub duplicate_at : List Stand → Option Refusal
 duplicate_at ss = option_map (named Duplicate) (first (repeats [] ss))
 
+-- a name is defined or bound that may not be
 abbrev pub bad_name_at : List Stand → Option Refusal
 bad_name_at ss = option_map (named BadName) (first (bad_names ss))
 
+-- a pattern means nothing
 abbrev pub bad_pattern_at : Language → List (List ℕ) → List Stand → Option Refusal
 bad_pattern_at base ns ss = option_map (unnamed BadPattern) (first (bad_patterns base ns ss))
 
 -- ---- forms
 
+-- the nonterminals that patterns in such a form may name
 abbrev pub names_over : Language → Option GrammarForm → List (List ℕ)
 names_over base None = []
 names_over base (Some g) = all_names base g.definitions
@@ -41,6 +46,7 @@ refusal_over base d g =
     or_else (unbuilt_at d) (or_else (shape_at (form_stands d g)) (or_else (duplicate_at (form_stands d g))
     (or_else (bad_name_at (form_stands d g)) (bad_pattern_at base (names_over base g) (form_stands d g)))))
 
+-- the language of the form d is left-recursive at x; the place is that of the form
 abbrev pub recursion_at : Sexp → List ℕ → Refusal
 recursion_at d x = record { kind = LeftRecursive; place = (span_of d).start; name = Some x }
 

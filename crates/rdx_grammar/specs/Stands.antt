@@ -5,6 +5,7 @@ use Rattle.rdx_grammar.specs.Parts.{listed, are_symbols, is_word, Definition, de
 use Rattle.rdx_grammar.specs.declared.stands.Head.{Head}
 use Rattle.rdx_grammar.specs.declared.stands.Head.TheVariants.{Naming, Avoiding, Prefixing, Plain}
 
+-- one thing that stands in a form
 pub data Stand : Type 0 where
   -- a form or a definition that has not its shape
   misshaped : Sexp → Stand
@@ -34,6 +35,7 @@ head_of x =
     else if bytes_eq x (codes "variable-prefix") then Prefixing
     else Plain
 
+-- the kind of a list of these data
 abbrev pub head_among : Sexps → Head
 head_among (cons (leaf (symbol x) s) ds) = head_of x
 head_among ds = Plain
@@ -53,6 +55,7 @@ abbrev mutual
 abbrev pub malformed_list : Sexp → Sexps → List Stand
 malformed_list whole ds = malformed whole ∷ keys_in ds
 
+-- each of these symbols is excepted
 abbrev pub all_excepted : List Sexp → List Stand
 all_excepted ds = map (λ d. excepted d) ds
 
@@ -60,6 +63,7 @@ all_excepted ds = map (λ d. excepted d) ds
 abbrev pub avoiding : Sexp → Sexps → Sexps → List Stand
 avoiding whole ds rest = if are_symbols (listed rest) then all_excepted (listed rest) else malformed_list whole ds
 
+-- what stands in an atom: literals are never refused
 abbrev pub atom_stands : Atom → Sexp → List Stand
 atom_stands (integer n) d = []
 atom_stands (truth b) d = []
@@ -96,6 +100,7 @@ alternatives_stand names again [] = []
 alternatives_stand names again (d ∷ ds) =
     (if is_word (codes "....") d then inherited d names again ∷ [] else stands d) ++ alternatives_stand names (again || is_word (codes "....") d) ds
 
+-- what stands in one definition: its names, and then its alternatives
 abbrev pub definition_stands : Sexp → Option Definition → List Stand
 definition_stands d None = misshaped d ∷ []
 definition_stands d (Some def) = map (λ e. nonterminal e) def.names ++ alternatives_stand def.names false def.alternatives
