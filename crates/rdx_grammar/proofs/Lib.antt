@@ -23,3 +23,4 @@ pub mod Firsts
 pub mod Occurs
 pub mod Seen
 pub mod Shapes
+pub mod OneReading

@@ -4,10 +4,11 @@
 //! definition is `(e p ...)`, `((e f ...) p ...)` or `(e f ... ::= p ...)`, with at least one pattern, and where several names stand,
 //! each has all the alternatives. What forms and patterns mean follows the Redex reference manual ("Languages" and "Patterns").
 //!
-//! A reader gives what the form means, or refuses the form at the first place of the check with the least number that refuses it. Each
-//! check is a definition of its own in `specs/Checks.antt`, over the list of what stands in a form (`specs/Stands.antt`); what forms mean
-//! is in `specs/Reading.antt` and `specs/Languages.antt`, and `specs/Refused.antt` puts both together. The tests of [`shape`], [`names`] and
-//! [`unbuilt`] are those that the readers of other forms need too.
+//! A reader gives what the form means, or refuses the form at the first place of the check with the least number that refuses it. The
+//! first check looks for words of forms to come in the whole form (`specs/Unbuilt.antt`), and the last one for left recursion in the
+//! language. Each check between them is a definition of its own in `specs/Checks.antt`, over the list of what stands in a form
+//! (`specs/Stands.antt`). What forms mean is in `specs/Reading.antt` and `specs/Languages.antt`, and `specs/Refused.antt` puts all together.
+//! The tests of [`shape`], [`names`] and [`unbuilt`] are those that the readers of other forms need too.
 #![tactic(auto)]
 
 mod bases;
@@ -20,6 +21,7 @@ mod fault;
 mod form_parts;
 mod heads;
 mod languages;
+pub mod laws;
 pub mod names;
 mod nonterminals;
 mod parts;

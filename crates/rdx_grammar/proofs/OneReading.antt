@@ -1,0 +1,50 @@
+-- A form is one language at most, or it has one refusal.
+use Rattle.std.proofs.Common.{◌≡◌, ℕ, List, Option, Some, None, Ok, Err, sym, ◌∙◌, ap, subst}
+use Rattle.rdx_sexp.specs.Sexp.{Sexp}
+use Rattle.rdx_lang.specs.Edges.{IsFree, IsFirstRecursive}
+use Rattle.rdx_lang.specs.Patterns.{Language}
+use Rattle.rdx_lang.specs.declared.pattern.Ref.TheVariants.{Nt}
+use Rattle.rdx_grammar.specs.Answers.{refusal_of}
+use Rattle.rdx_grammar.specs.FirstRecursive.{first_recursive-one, first_recursive-free}
+use Rattle.rdx_grammar.specs.Languages.{GrammarForm, language_over}
+use Rattle.rdx_grammar.specs.Laws.{OneLanguage, OneRefusal, LanguageOrRefusal, OnePattern, OnePatternRefusal, PatternOrRefusal}
+use Rattle.rdx_grammar.specs.Refused.{IsLanguage, IsRefused, by_check, by_recursion, refusal_over, recursion_at, pattern_refusal}
+
+-- what is some value is one
+same_some : {A : Type 0} (o : Option A) (x y : A) → o ≡ Some x → o ≡ Some y → x ≡ y
+same_some o x y e f = cc
+
+-- it is none or some
+not_some : {A : Type 0} (o : Option A) (x : A) → o ≡ None → o ≡ Some x → ⊥
+not_some o x e f = absurd cc
+
+-- ---- forms
+
+pub one_language : OneLanguage
+one_language base d g L M a b = a.reads ∙ ap (language_over base) (same_some g a.parts b.parts a.are b.are) ∙ sym b.reads
+
+pub one_refusal : OneRefusal
+one_refusal base d g r q (by_check e) (by_check f) = same_some (refusal_over base d g) r q e f
+one_refusal base d g r q (by_check e) (by_recursion m y f n b h) = absurd (not_some (refusal_over base d g) r f e)
+one_refusal base d g r q (by_recursion p x e l a k) (by_check f) = absurd (not_some (refusal_over base d g) q e f)
+one_refusal base d g r q (by_recursion p x e l a k) (by_recursion m y f n b h) =
+    let s : p ≡ m = same_some g p m l n in
+    let t = subst (λ (o : GrammarForm). IsFirstRecursive (language_over base o) (Nt x)) s a in
+    k ∙ ap (recursion_at d) (first_recursive-one (language_over base m) x y t b) ∙ sym h
+
+pub language_or_refusal : LanguageOrRefusal
+language_or_refusal base d g L r a (by_check e) = not_some (refusal_over base d g) r a.passes e
+language_or_refusal base d g L r a (by_recursion m x e n b h) =
+    let s : a.parts ≡ m = same_some g a.parts m a.are n in
+    first_recursive-free (language_over base m) x (subst IsFree (a.reads ∙ ap (language_over base) s) a.free) b
+
+-- ---- patterns
+
+pub one_pattern : OnePattern
+one_pattern ns d c e a b = a.1 ∙ sym b.1
+
+pub one_pattern_refusal : OnePatternRefusal
+one_pattern_refusal ns d r q e f = same_some (pattern_refusal ns d) (refusal_of r) (refusal_of q) e f
+
+pub pattern_or_refusal : PatternOrRefusal
+pattern_or_refusal ns d c r a e = not_some (pattern_refusal ns d) (refusal_of r) a.0 e

@@ -1,0 +1,61 @@
+-- Worked examples: the language that an extension is, and the refusal of a form that two checks refuse.
+use Rattle.std.specs.Prelude.{◌≡◌, ℕ, List, [], ◌∷◌, Some, None, option_map, codes}
+use Rattle.rdx_base.specs.declared.place.Place.{Place}
+use Rattle.rdx_base.specs.declared.place.Span.{Span}
+use Rattle.rdx_sexp.specs.Sexp.{symbol, Sexp, leaf, list, sexps}
+use Rattle.rdx_lang.specs.Patterns.{of_kind, Language}
+use Rattle.rdx_lang.specs.declared.pattern.Kind.TheVariants.{Any, Number, Text, Boolean}
+use Rattle.rdx_lang.specs.declared.pattern.Ref.TheVariants.{Nt}
+use Rattle.rdx_grammar.specs.Languages.{empty_language, language_form, extension_form, language_over}
+use Rattle.rdx_grammar.specs.Refused.{IsRefused, refusal_over}
+use Rattle.rdx_grammar.specs.declared.fault.DefKind.TheVariants.{Duplicate}
+
+-- a symbol, and a list
+abbrev pub word : Span → List ℕ → Sexp
+word s x = leaf (symbol x) s
+
+abbrev pub group : Span → List Sexp → Sexp
+group s ds = list (sexps ds) s
+
+-- ---- an extension
+
+-- the language of `(define-language B (e number) (f boolean))`
+abbrev pub base : Language
+base = record { name = codes "B"; nonterminals = (Nt (codes "e"), of_kind Number ∷ []) ∷ (Nt (codes "f"), of_kind Boolean ∷ []) ∷ [] }
+
+-- `(define-extended-language M B (g any) (e string ....))`, wherever it stands
+abbrev pub extension : Span → Sexp
+extension s =
+    group s (word s (codes "define-extended-language") ∷ word s (codes "M") ∷ word s (codes "B")
+    ∷ group s (word s (codes "g") ∷ word s (codes "any") ∷ [])
+    ∷ group s (word s (codes "e") ∷ word s (codes "string") ∷ word s (codes "....") ∷ []) ∷ [])
+
+-- the language that it is
+abbrev pub extended : Language
+extended = record {
+  name = codes "M";
+  nonterminals = (Nt (codes "e"), of_kind Text ∷ of_kind Number ∷ []) ∷ (Nt (codes "f"), of_kind Boolean ∷ []) ∷ (Nt (codes "g"), of_kind Any ∷ []) ∷ [];
+}
+
+-- No check refuses it. The inherited alternative stands where `....` is written, `e` stays in the place that it has in the base, `f` is taken
+-- over, and `g`, which is new, comes last, although it is written first.
+abbrev pub InheritsInPlace : Type 0
+InheritsInPlace = (s : Span) → (refusal_over base (extension s) (extension_form (extension s)) ≡ None) × (option_map (language_over base) (extension_form (extension s)) ≡ Some extended)
+
+-- ---- two checks
+
+-- in the first line, from one column up to the one before the other
+abbrev pub columns : ℕ → ℕ → Span
+columns first behind = record { start = record { line = 1; column = first }; end = record { line = 1; column = behind } }
+
+-- `(define-language L (e foo_1) (e number))`
+abbrev pub defined_twice : Sexp
+defined_twice =
+    group (columns 1 41) (word (columns 2 17) (codes "define-language") ∷ word (columns 18 19) (codes "L")
+    ∷ group (columns 20 29) (word (columns 21 22) (codes "e") ∷ word (columns 23 28) (codes "foo_1") ∷ [])
+    ∷ group (columns 30 40) (word (columns 31 32) (codes "e") ∷ word (columns 33 39) (codes "number") ∷ []) ∷ [])
+
+-- The symbol `foo_1`, which is no pattern, stands before the second `e`. But the check for nonterminals that are defined twice has a lesser
+-- number than that of patterns, so the second `e` is reported.
+abbrev pub LeastCheckFirst : Type 0
+LeastCheckFirst = IsRefused empty_language defined_twice (language_form defined_twice) (record { kind = Duplicate; place = record { line = 1; column = 31 }; name = Some (codes "e") })
