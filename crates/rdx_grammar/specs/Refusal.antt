@@ -15,9 +15,13 @@ pub record Refusal : Type 0 where
 abbrev pub unnamed : DefKind → Sexp → Refusal
 unnamed k d = record { kind = k; place = (span_of d).start; name = None }
 
+-- at a datum, with this name
+abbrev pub named_at : DefKind → Sexp → List ℕ → Refusal
+named_at k d x = record { kind = k; place = (span_of d).start; name = Some x }
+
 -- at a symbol, by its name
 abbrev pub named : DefKind → Sexp → Refusal
-named k d = record { kind = k; place = (span_of d).start; name = Some (text_of d) }
+named k d = named_at k d (text_of d)
 
 -- the first of two
 abbrev pub or_else : {A : Type 0} → Option A → Option A → Option A

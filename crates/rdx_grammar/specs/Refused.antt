@@ -1,12 +1,12 @@
 -- When a form is refused, and which language it is else.
 use Rattle.std.specs.Prelude.{◌≡◌, ℕ, List, [], Option, Some, None, option_map, if◌then◌else◌}
-use Rattle.rdx_sexp.specs.Sexp.{Sexp, span_of}
+use Rattle.rdx_sexp.specs.Sexp.{Sexp}
 use Rattle.rdx_lang.specs.Edges.{IsFree, IsFirstRecursive}
 use Rattle.rdx_lang.specs.Patterns.{Language}
 use Rattle.rdx_lang.specs.declared.pattern.Ref.TheVariants.{Nt}
 use Rattle.rdx_grammar.specs.Checks.{shape_faults, repeats, bad_names, bad_patterns}
 use Rattle.rdx_grammar.specs.Languages.{GrammarForm, all_names, empty_language, form_stands, language_over}
-use Rattle.rdx_grammar.specs.Refusal.{Refusal, unnamed, named, or_else, first}
+use Rattle.rdx_grammar.specs.Refusal.{Refusal, unnamed, named, named_at, or_else, first}
 use Rattle.rdx_grammar.specs.Stands.{Stand, stands}
 use Rattle.rdx_grammar.specs.Unbuilt.{has_word_to_come}
 use Rattle.rdx_grammar.specs.declared.fault.DefKind.TheVariants.{Unbuilt, Shape, Duplicate, BadName, BadPattern, LeftRecursive}
@@ -48,7 +48,7 @@ refusal_over base d g =
 
 -- the language of the form d is left-recursive at x; the place is that of the form
 abbrev pub recursion_at : Sexp → List ℕ → Refusal
-recursion_at d x = record { kind = LeftRecursive; place = (span_of d).start; name = Some x }
+recursion_at d x = named_at LeftRecursive d x
 
 -- a form is the language L
 pub record IsLanguage (base : Language) (d : Sexp) (g : Option GrammarForm) (L : Language) : Type 0 where

@@ -85,12 +85,3 @@ pub(crate) fn form_stands<'a>(
     }
     Ok(found)
 }
-
-/// What stands in a pattern by itself.
-pub(crate) fn pattern_stands<'a>(alloc: Global, d: &'a Datum) -> Result<Vec<Stand<'a>>, NoMemory>
-    ensures { IfOk result (λ found. stands_of found.items ≡ model.stands d.now) }
-{
-    let mut found = Vec::new(alloc);
-    add_pattern(d, &mut found)?;
-    Ok(found)
-}

@@ -20,7 +20,7 @@ pub enum DefKind {
     Duplicate,
     /// A name may not be that of a nonterminal, or of what else it is to name. The place and the name are its own.
     BadName,
-    /// A pattern is none. The place is the pattern's.
+    /// What stands as a pattern means nothing as one. The place is its own.
     BadPattern,
     /// The language is left-recursive. The place is the form's, and the name that of the first nonterminal that reaches itself.
     LeftRecursive,

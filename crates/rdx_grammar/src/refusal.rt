@@ -8,11 +8,11 @@ ghost use Rattle.rdx_grammar.specs.Refused as model;
 ghost use Rattle.rdx_grammar.specs.StandView.{stands_of};
 
 use crate::checks::{first_bad_name, first_repeated, first_shape_fault};
-use crate::definition_stands::{form_stands, pattern_stands};
+use crate::definition_stands::form_stands;
 use crate::form_parts::FormParts;
 use crate::pattern_checks::first_bad_pattern;
 use crate::shape::text;
-use crate::stands::Stand;
+use crate::stands::{Stand, add_pattern};
 use crate::texts_of::{all_texts, texts};
 use crate::unbuilt::has_word_to_come;
 use crate::{DefKind, DefRefusal};
@@ -33,11 +33,16 @@ fn unnamed(kind: DefKind, d: &Datum) -> DefRefusal
     }
 }
 
-// A refusal at a symbol, by its name.
-fn named(alloc: Global, kind: DefKind, d: &Datum) -> Result<DefRefusal, NoMemory>
-    ensures { IfOk result (λ r. refusal_of r ≡ places.named kind d.now) }
+/// A refusal at a datum, with a name.
+pub(crate) fn named_at(
+    alloc: Global,
+    kind: DefKind,
+    d: &Datum,
+    name: &str,
+) -> Result<DefRefusal, NoMemory>
+    ensures { IfOk result (λ r. refusal_of r ≡ places.named_at kind d.now name.now) }
 {
-    let name = RcStr::from_str(alloc, text(d))?;
+    let name = RcStr::from_str(alloc, name)?;
     Ok(DefRefusal {
         kind,
         place: d.span.start,
@@ -64,10 +69,10 @@ fn refuse_names(alloc: Global, found: &[Stand]) -> Result<Option<DefRefusal>, No
     ensures { IfOk result (λ r. option_map refusal_of r ≡ places.or_else (model.duplicate_at (stands_of found.now)) (model.bad_name_at (stands_of found.now))) }
 {
     if let Some(d) = first_repeated(found) {
-        return Ok(Some(named(alloc, DefKind::Duplicate, d)?));
+        return Ok(Some(named_at(alloc, DefKind::Duplicate, d, text(d))?));
     }
     if let Some(d) = first_bad_name(found) {
-        return Ok(Some(named(alloc, DefKind::BadName, d)?));
+        return Ok(Some(named_at(alloc, DefKind::BadName, d, text(d))?));
     }
     Ok(None)
 }
@@ -109,12 +114,13 @@ pub(crate) fn refuse_pattern(
     if has_word_to_come(d) {
         return Ok(Some(unnamed(DefKind::Unbuilt, d)));
     }
-    let found = pattern_stands(alloc, d)?;
+    let mut found = Vec::new(alloc);
+    add_pattern(d, &mut found)?;
     if let Some(d) = first_shape_fault(&found) {
         return Ok(Some(unnamed(DefKind::Shape, d)));
     }
     if let Some(d) = first_bad_name(&found) {
-        return Ok(Some(named(alloc, DefKind::BadName, d)?));
+        return Ok(Some(named_at(alloc, DefKind::BadName, d, text(d))?));
     }
     let texts = texts(alloc, names)?;
     if let Some(d) = first_bad_pattern(None, &texts, &found) {

@@ -4,30 +4,21 @@ ghost use Rattle.rdx_lang.specs.PatternView.{language_of};
 ghost use Rattle.rdx_grammar.specs.BaseView.{base_in};
 ghost use Rattle.rdx_grammar.specs.Languages as model;
 ghost use Rattle.rdx_grammar.specs.Parts.{text_of};
-ghost use Rattle.rdx_grammar.specs.Parts as parts;
 
+use crate::nonterminals::ref_name;
 use crate::parts::definition_in;
 use crate::shape::text;
-use rdx_lang::{CheckedLang, Language, Ref};
+use rdx_lang::{CheckedLang, Language};
 use rdx_sexp::Datum;
 use rdx_term::{Name, NoMemory};
 use std::alloc::Global;
-
-// The name of a nonterminal.
-fn ref_text(nonterminal: &Ref) -> &str
-    ensures { result.now ≡ model.ref_text nonterminal.now }
-{
-    match nonterminal {
-        Ref::Nt(name) => name.text(),
-    }
-}
 
 // Adds the names of a language's nonterminals.
 fn add_names<'a>(language: &'a Language, out: &mut Vec<&'a str>) -> Result<(), NoMemory>
     ensures { IfOk result (λ _. map (λ x. x.now) out.new.items ≡ map (λ x. x.now) out.old.items ++ model.names_of (language_of language.now)) }
 {
     for (nonterminal, _) in &language.nts {
-        out.push(ref_text(nonterminal))?;
+        out.push(ref_name(nonterminal).text())?;
     }
     Ok(())
 }
@@ -42,22 +33,14 @@ fn add_texts<'a>(symbols: &'a [Datum], out: &mut Vec<&'a str>) -> Result<(), NoM
     Ok(())
 }
 
-// Adds the names that a definition defines.
-fn add_defined<'a>(d: &'a Datum, out: &mut Vec<&'a str>) -> Result<(), NoMemory>
-    ensures { IfOk result (λ _. map (λ x. x.now) out.new.items ≡ map (λ x. x.now) out.old.items ++ model.names_by (parts.definition_in d.now)) }
-{
-    match definition_in(d) {
-        None => Ok(()),
-        Some(definition) => add_texts(definition.names, out),
-    }
-}
-
 // Adds the names that definitions define.
-fn add_all_defined<'a>(definitions: &'a [Datum], out: &mut Vec<&'a str>) -> Result<(), NoMemory>
+fn add_defined<'a>(definitions: &'a [Datum], out: &mut Vec<&'a str>) -> Result<(), NoMemory>
     ensures { IfOk result (λ _. map (λ x. x.now) out.new.items ≡ map (λ x. x.now) out.old.items ++ model.names_in definitions.now) }
 {
     for d in definitions {
-        add_defined(d, out)?;
+        if let Some(definition) = definition_in(d) {
+            add_texts(definition.names, out)?;
+        }
     }
     Ok(())
 }
@@ -74,7 +57,7 @@ pub(crate) fn all_texts<'a>(
     if let Some(checked) = base {
         add_names(checked.language(), &mut names)?;
     }
-    add_all_defined(definitions, &mut names)?;
+    add_defined(definitions, &mut names)?;
     Ok(names)
 }
 
