@@ -29,6 +29,7 @@ abbrev pub ReadsForm : Language → Sexp → Option GrammarForm → Result Check
 ReadsForm base d g (Ok c) = IsLanguage base d g (language_in c)
 ReadsForm base d g (Err e) = IsFaultOf base d g e
 
+-- the datum is refused so as a pattern, unless memory ran out
 abbrev pub IsPatternFault : List (List ℕ) → Sexp → DefFault → Type 0
 IsPatternFault ns d (Refused r) = pattern_refusal ns d ≡ Some (refusal_of r)
 IsPatternFault ns d NoMemory = Unit {0}

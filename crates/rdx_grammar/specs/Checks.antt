@@ -28,7 +28,7 @@ shape_faults (s ∷ ss) = shape_fault s ++ shape_faults ss
 abbrev pub is_seen : List (List ℕ) → Sexp → Bool
 is_seen seen d = list_any (λ x. bytes_eq (text_of d) x) seen
 
--- with the names of the nonterminals before
+-- the nonterminals whose names come among these, or among those of the nonterminals before
 abbrev pub repeats : List (List ℕ) → List Stand → List Sexp
 repeats seen [] = []
 repeats seen (nonterminal d ∷ ss) = (if is_seen seen d then d ∷ [] else []) ++ repeats (text_of d ∷ seen) ss

@@ -76,6 +76,7 @@ abbrev mutual
   reading_by ns pos Plain nil = seq model.nil
   reading_by ns pos Plain (cons d ds) = seq (model.one (reading ns pos d) (readings ns pos ds))
 
+  -- the items of a list pattern
   pub readings : List (List ℕ) → Position → Sexps → Items
   readings ns pos nil = model.nil
   readings ns pos (cons d ds) = model.one (reading ns pos d) (readings ns pos ds)

@@ -47,6 +47,7 @@ abbrev mutual
   keys (leaf a s) = []
   keys (list ds s) = keys_in ds
 
+  -- and in several data
   pub keys_in : Sexps → List Stand
   keys_in nil = []
   keys_in (cons d ds) = keys d ++ keys_in ds
@@ -88,6 +89,7 @@ abbrev mutual
   stands_by Plain whole nil = []
   stands_by Plain whole (cons d ds) = stands d ++ stands_in ds
 
+  -- in several patterns
   pub stands_in : Sexps → List Stand
   stands_in nil = []
   stands_in (cons d ds) = stands d ++ stands_in ds

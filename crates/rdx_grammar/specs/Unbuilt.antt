@@ -20,6 +20,7 @@ occurs_in y (b ∷ x) = starts_with nat_eq (b ∷ x) y || occurs_in y x
 abbrev pub is_word_to_come : List ℕ → Bool
 is_word_to_come x = is_one_of words_to_come x || (begins_with_dots x && not (is_inherited x)) || (occurs_in (codes "_!_") x && not (begins_with_dots x))
 
+-- such a symbol, or the keyword `#:binding-forms`
 abbrev pub is_atom_to_come : Atom → Bool
 is_atom_to_come (integer n) = false
 is_atom_to_come (truth b) = false
@@ -27,12 +28,13 @@ is_atom_to_come (text t) = false
 is_atom_to_come (symbol x) = is_word_to_come x
 is_atom_to_come (keyword k) = bytes_eq k (codes "binding-forms")
 
--- such a word stands in the datum, however deep
 abbrev mutual
+  -- such a word stands in the datum, however deep
   pub has_word_to_come : Sexp → Bool
   has_word_to_come (leaf a s) = is_atom_to_come a
   has_word_to_come (list ds s) = have_word_to_come ds
 
+  -- or in one of several data
   pub have_word_to_come : Sexps → Bool
   have_word_to_come nil = false
   have_word_to_come (cons d ds) = has_word_to_come d || have_word_to_come ds
