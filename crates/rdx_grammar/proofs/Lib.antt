@@ -24,3 +24,4 @@ pub mod Occurs
 pub mod Seen
 pub mod Shapes
 pub mod OneReading
+pub mod Examples

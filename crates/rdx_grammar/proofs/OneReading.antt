@@ -1,14 +1,12 @@
 -- A form is one language at most, or it has one refusal.
-use Rattle.std.proofs.Common.{◌≡◌, ℕ, List, Option, Some, None, Ok, Err, sym, ◌∙◌, ap, subst}
-use Rattle.rdx_sexp.specs.Sexp.{Sexp}
+use Rattle.std.proofs.Common.{◌≡◌, Option, Some, None, sym, ◌∙◌, ap, subst}
 use Rattle.rdx_lang.specs.Edges.{IsFree, IsFirstRecursive}
-use Rattle.rdx_lang.specs.Patterns.{Language}
 use Rattle.rdx_lang.specs.declared.pattern.Ref.TheVariants.{Nt}
 use Rattle.rdx_grammar.specs.Answers.{refusal_of}
 use Rattle.rdx_grammar.specs.FirstRecursive.{first_recursive-one, first_recursive-free}
 use Rattle.rdx_grammar.specs.Languages.{GrammarForm, language_over}
 use Rattle.rdx_grammar.specs.Laws.{OneLanguage, OneRefusal, LanguageOrRefusal, OnePattern, OnePatternRefusal, PatternOrRefusal}
-use Rattle.rdx_grammar.specs.Refused.{IsLanguage, IsRefused, by_check, by_recursion, refusal_over, recursion_at, pattern_refusal}
+use Rattle.rdx_grammar.specs.Refused.{by_check, by_recursion, refusal_over, recursion_at, pattern_refusal}
 
 -- what is some value is one
 same_some : {A : Type 0} (o : Option A) (x y : A) → o ≡ Some x → o ≡ Some y → x ≡ y

@@ -1,13 +1,12 @@
 -- Worked examples: the language that an extension is, and the refusal of a form that two checks refuse.
-use Rattle.std.specs.Prelude.{◌≡◌, ℕ, List, [], ◌∷◌, Some, None, option_map, codes}
-use Rattle.rdx_base.specs.declared.place.Place.{Place}
+use Rattle.std.specs.Prelude.{ℕ, List, [], ◌∷◌, Some, codes}
 use Rattle.rdx_base.specs.declared.place.Span.{Span}
 use Rattle.rdx_sexp.specs.Sexp.{symbol, Sexp, leaf, list, sexps}
 use Rattle.rdx_lang.specs.Patterns.{of_kind, Language}
 use Rattle.rdx_lang.specs.declared.pattern.Kind.TheVariants.{Any, Number, Text, Boolean}
 use Rattle.rdx_lang.specs.declared.pattern.Ref.TheVariants.{Nt}
-use Rattle.rdx_grammar.specs.Languages.{empty_language, language_form, extension_form, language_over}
-use Rattle.rdx_grammar.specs.Refused.{IsRefused, refusal_over}
+use Rattle.rdx_grammar.specs.Languages.{empty_language, language_form, extension_form}
+use Rattle.rdx_grammar.specs.Refused.{IsLanguage, IsRefused}
 use Rattle.rdx_grammar.specs.declared.fault.DefKind.TheVariants.{Duplicate}
 
 -- a symbol, and a list
@@ -23,12 +22,15 @@ group s ds = list (sexps ds) s
 abbrev pub base : Language
 base = record { name = codes "B"; nonterminals = (Nt (codes "e"), of_kind Number ∷ []) ∷ (Nt (codes "f"), of_kind Boolean ∷ []) ∷ [] }
 
+-- `(g any) (e string ....)`
+abbrev pub definitions : Span → List Sexp
+definitions s =
+    group s (word s (codes "g") ∷ word s (codes "any") ∷ [])
+    ∷ group s (word s (codes "e") ∷ word s (codes "string") ∷ word s (codes "....") ∷ []) ∷ []
+
 -- `(define-extended-language M B (g any) (e string ....))`, wherever it stands
 abbrev pub extension : Span → Sexp
-extension s =
-    group s (word s (codes "define-extended-language") ∷ word s (codes "M") ∷ word s (codes "B")
-    ∷ group s (word s (codes "g") ∷ word s (codes "any") ∷ [])
-    ∷ group s (word s (codes "e") ∷ word s (codes "string") ∷ word s (codes "....") ∷ []) ∷ [])
+extension s = group s (word s (codes "define-extended-language") ∷ word s (codes "M") ∷ word s (codes "B") ∷ definitions s)
 
 -- the language that it is
 abbrev pub extended : Language
@@ -37,10 +39,10 @@ extended = record {
   nonterminals = (Nt (codes "e"), of_kind Text ∷ of_kind Number ∷ []) ∷ (Nt (codes "f"), of_kind Boolean ∷ []) ∷ (Nt (codes "g"), of_kind Any ∷ []) ∷ [];
 }
 
--- No check refuses it. The inherited alternative stands where `....` is written, `e` stays in the place that it has in the base, `f` is taken
--- over, and `g`, which is new, comes last, although it is written first.
+-- The inherited alternative stands where `....` is written, `e` stays in the place that it has in the base, `f` is taken over, and `g`, which
+-- is new, comes last, although it is written first.
 abbrev pub InheritsInPlace : Type 0
-InheritsInPlace = (s : Span) → (refusal_over base (extension s) (extension_form (extension s)) ≡ None) × (option_map (language_over base) (extension_form (extension s)) ≡ Some extended)
+InheritsInPlace = (s : Span) → IsLanguage base (extension s) (extension_form (extension s)) extended
 
 -- ---- two checks
 

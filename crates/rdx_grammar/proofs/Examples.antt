@@ -1,0 +1,68 @@
+-- The worked examples.
+use Rattle.std.proofs.Common.{◌≡◌, Bool, true, false, List, [], ◌∷◌, refl, sym, subst}
+use Rattle.std.specs.Prelude.{codes}
+use Rattle.rdx_lang.specs.Edges.{Edge, edge_nt, edge_named, Reaches, at_once, further, IsFree}
+use Rattle.rdx_lang.specs.Members.{In, here, there}
+use Rattle.rdx_lang.specs.Patterns.{Pattern, of_kind, nt, Definition, Language}
+use Rattle.rdx_lang.specs.WellFormed.{all_patterns, all_alternatives}
+use Rattle.rdx_lang.specs.declared.pattern.Ref.{Ref}
+use Rattle.rdx_grammar.specs.Examples.{word, definitions, extended, InheritsInPlace, LeastCheckFirst}
+use Rattle.rdx_grammar.specs.Refused.{by_check}
+use Rattle.rdx_grammar.proofs.Booleans.{and_true}
+
+-- ---- languages whose alternatives are built-in names
+
+-- the pattern is a built-in name
+abbrev is_built_in : Pattern → Bool
+is_built_in (of_kind k) = true
+is_built_in p = false
+
+-- one of several patterns that pass a test
+patterns-in : (test : Pattern → Bool) (ps : List Pattern) (p : Pattern) → all_patterns test ps ≡ true → In p ps → test p ≡ true
+patterns-in test [] p h i = elim i [ ]
+patterns-in test (q ∷ ps) p h (here e) = subst (λ (r : Pattern). test r ≡ true) (sym e) (and_true (test q) (all_patterns test ps) h).0
+patterns-in test (q ∷ ps) p h (there i) = patterns-in test ps p (and_true (test q) (all_patterns test ps) h).1 i
+
+-- an alternative of definitions whose alternatives pass it
+alternatives-in : (test : Pattern → Bool) (ds : List Definition) (d : Definition) (p : Pattern) → all_alternatives test ds ≡ true → In d ds → In p d.1 → test p ≡ true
+alternatives-in test [] d p h i j = elim i [ ]
+alternatives-in test (c ∷ ds) d p h (here e) j = patterns-in test c.1 p (and_true (all_patterns test c.1) (all_alternatives test ds) h).0 (subst (λ (b : Definition). In p b.1) e j)
+alternatives-in test (c ∷ ds) d p h (there i) j = alternatives-in test ds d p (and_true (all_patterns test c.1) (all_alternatives test ds) h).1 i j
+
+module _ (L : Language) (all : all_alternatives is_built_in L.nonterminals ≡ true) where
+  -- no left edge leads from a built-in name
+  no_edge : {p q : Pattern} → Edge L p q → is_built_in p ≡ true → ⊥
+  no_edge (edge_nt {x = x} {p = p} a) e = absurd cc
+  no_edge (edge_named {x = x} {q = q}) e = absurd cc
+
+  -- so nothing is reached from it
+  nothing_behind : {p q : Pattern} → Reaches L p q → is_built_in p ≡ true → ⊥
+  nothing_behind (at_once e) h = no_edge e h
+  nothing_behind (further e w) h = no_edge e h
+
+  -- those of a nonterminal lead to built-in names
+  edge_to : {x : Ref} {q : Pattern} → Edge L (nt x) q → is_built_in q ≡ true
+  edge_to (edge_nt {x = x} {p = p} a) = alternatives-in is_built_in L.nonterminals (x, a.all) p all a.defined a.among
+
+  -- so these alone are reached from it
+  built_in-reached : {x : Ref} {q : Pattern} → Reaches L (nt x) q → is_built_in q ≡ true
+  built_in-reached (at_once e) = edge_to e
+  built_in-reached (further e w) = absurd (nothing_behind w (edge_to e))
+
+  -- no nonterminal reaches itself
+  free : IsFree L
+  free x w = let e : is_built_in (nt x) ≡ true = built_in-reached w in absurd cc
+
+-- ---- the examples
+
+pub inherits_in_place : InheritsInPlace
+inherits_in_place s = record {
+  passes = refl;
+  parts = record { name = word s (codes "M"); definitions = definitions s };
+  are = refl;
+  reads = refl;
+  free = free extended refl;
+}
+
+pub least_check_first : LeastCheckFirst
+least_check_first = by_check refl
