@@ -5,6 +5,7 @@ pub mod Stacks
 pub mod Reading
 pub mod Faults
 pub mod Once
+pub mod Always
 pub mod Spelled
 pub mod Sizes
 pub mod Whole
@@ -15,3 +16,4 @@ pub mod PrintedTokens
 pub mod PrintedAtoms
 pub mod PrintedFirstLine
 pub mod PrintedTrees
+pub mod WorkedExamples

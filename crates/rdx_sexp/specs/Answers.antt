@@ -18,6 +18,7 @@ abbrev pub HasData : {Z : Type 0} → List Sexp → Result (Vec Datum Z) ReadFau
 HasData ds (Ok v) = v.items ≡ ds
 HasData ds (Err e) = e ≡ NoMemory
 
+-- the fault is this refusal, or memory ran out
 abbrev pub IsRefusal : ReadRefusal → ReadFault → Type 0
 IsRefusal r (Refused q) = q ≡ r
 IsRefusal r NoMemory = Unit {0}

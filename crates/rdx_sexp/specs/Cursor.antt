@@ -18,6 +18,7 @@ use Rattle.rdx_sexp.specs.Stack.{atom_of, lexeme_of}
 use Rattle.rdx_sexp.specs.Strings.{Body}
 use Rattle.rdx_sexp.specs.Text.{Text, at}
 
+-- the text from a cursor on
 abbrev pub text_of : Cursor → Text
 text_of c = at c.place c.rest.now
 
@@ -31,6 +32,7 @@ abbrev pub with_bytes : List ℕ → Body → Result (List ℕ × Text) ReadRefu
 with_bytes bs (Ok x) = Ok (bs ++ encode_utf8_all x.0, x.1)
 with_bytes bs (Err r) = Err r
 
+-- the refusal is the string's, or memory ran out
 abbrev pub FailsBody : ReadFault → Body → Type 0
 FailsBody (Refused r) body = body ≡ Err r
 FailsBody NoMemory body = Unit {0}
@@ -40,6 +42,7 @@ abbrev pub GivesBody : {A : Type 0} → Result (String A × Cursor) ReadFault �
 GivesBody (Ok x) body = with_bytes [] body ≡ Ok (string_bytes x.0, text_of x.1)
 GivesBody (Err e) body = FailsBody e body
 
+-- the lexeme is refused for this, or memory ran out
 abbrev pub FailsLexeme : ReadFault → Lexeme → Type 0
 FailsLexeme (Refused r) l = l ≡ bad r
 FailsLexeme NoMemory l = Unit {0}
@@ -49,6 +52,7 @@ abbrev pub GivesWord : Result Leaf ReadFault → Span → Lexeme → Type 0
 GivesWord (Ok a) s l = l ≡ word (atom_of a) s
 GivesWord (Err e) s l = FailsLexeme e l
 
+-- the step's lexeme is refused for this, or memory ran out
 abbrev pub FailsPair : ReadFault → Step → Type 0
 FailsPair (Refused r) step = step.0 ≡ bad r
 FailsPair NoMemory step = Unit {0}
@@ -58,10 +62,12 @@ abbrev pub GivesPair : Result (Token × Cursor) ReadFault → Step → Type 0
 GivesPair (Ok x) step = step ≡ (lexeme_of x.0, text_of x.1)
 GivesPair (Err e) step = FailsPair e step
 
+-- the same of a step that there may be
 abbrev pub FailsStep : ReadFault → Option Step → Type 0
 FailsStep (Refused r) step = option_map (λ s. s.0) step ≡ Some (bad r)
 FailsStep NoMemory step = Unit {0}
 
+-- the token and the cursor are the step, or there is none, or the refusal is its lexeme
 abbrev pub GivesStep : Result (Option (Token × Cursor)) ReadFault → Option Step → Type 0
 GivesStep (Ok None) step = step ≡ None
 GivesStep (Ok (Some x)) step = step ≡ Some (lexeme_of x.0, text_of x.1)

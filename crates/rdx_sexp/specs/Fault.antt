@@ -18,6 +18,7 @@ opener_place (Nest b s) = s.start
 opener_place (Quoting m s) = s.start
 opener_place (Skipping s) = s.start
 
+-- both are round, or square, or curly
 abbrev pub same_bracket : Bracket → Bracket → Bool
 same_bracket Round Round = true
 same_bracket Square Square = true
@@ -52,6 +53,7 @@ if_closes b t (Nest a s ∷ os) rest = if same_bracket a b then rest (after_datu
 if_closes b t (Quoting m s ∷ os) rest = Some (refusal WrongClose t.start)
 if_closes b t (Skipping s ∷ os) rest = Some (refusal WrongClose t.start)
 
+-- the first fault of these lexemes behind what is open, if there is one
 abbrev pub fault : List Opener → List Lexeme → Option ReadRefusal
 fault os [] = at_end os
 fault os (opening b s ∷ ls) = unless_deep os s (fault (Nest b s ∷ os) ls)

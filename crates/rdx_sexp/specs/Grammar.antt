@@ -30,8 +30,9 @@ quoted m s d = list (cons (leaf (symbol (mark_name m)) s) (cons d nil)) (joined 
 abbrev pub max_open : ℕ
 max_open = 500
 
--- With n of them open, the lexemes begin with one datum, or with data, and the lexemes `rest` follow. Each list is closed by the bracket of
--- its own kind, and `#;` drops the one datum behind it.
+-- With n of them open, `One n ls d rest` says that the lexemes ls begin with the datum d, and that the lexemes `rest` follow it, and
+-- `Many n ls ds rest` the same of the data ds, of which there may be none. Each list is closed by the bracket of its own kind. A mark `#;`
+-- drops the datum behind it, be it before another datum or at the end of the data.
 mutual
   pub data One : ℕ → List Lexeme → Sexp → List Lexeme → Type 0 where
     one_leaf : {n : ℕ} {a : Atom} {s : Span} {ls : List Lexeme} → One n (word a s ∷ ls) (leaf a s) ls

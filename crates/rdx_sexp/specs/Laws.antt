@@ -1,5 +1,5 @@
 -- What follows from the definitions, stated for the contracts of the module of laws.
-use Rattle.std.specs.Prelude.{◌≡◌, ℕ, List, [], ◌∷◌, Some}
+use Rattle.std.specs.Prelude.{◌≡◌, ◌⊎◌, ℕ, List, [], ◌∷◌, Some}
 use Rattle.rdx_term.specs.Bare.{bare}
 use Rattle.rdx_term.specs.Text.{tree_text}
 use Rattle.rdx_term.specs.Tree.{Tree, IsTerm}
@@ -19,6 +19,10 @@ OneFault = (bytes : List ℕ) (r q : ReadRefusal) → FirstFault bytes r → Fir
 -- bytes that are data have no fault
 abbrev pub DataOrFault : Type 0
 DataOrFault = (bytes : List ℕ) (ds : List Sexp) (r : ReadRefusal) → Reads bytes ds → FirstFault bytes r → ⊥
+
+-- bytes are data, or have a first fault
+abbrev pub NeverNeither : Type 0
+NeverNeither = (bytes : List ℕ) → ((ds : List Sexp) × Reads bytes ds) ⊎ ((r : ReadRefusal) × FirstFault bytes r)
 
 -- the printed spelling of the tree is read as one datum, and this stands for the same term, marks forgotten
 pub record ReadsBack (t : Tree) : Type 0 where

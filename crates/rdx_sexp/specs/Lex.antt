@@ -18,6 +18,7 @@ use Rattle.rdx_sexp.specs.Token.{token_chars, past_token, token_lexeme}
 abbrev pub Step : Type 0
 Step = Lexeme × Text
 
+-- from p up to the place before q
 abbrev pub span : Place → Place → Span
 span p q = record { start = p; end = q }
 
@@ -48,6 +49,7 @@ lexeme_from p c r =
     else if c == 35 && next_is 59 r.chars then until skip p (skip_one r.place r.chars)
     else token_step p c r
 
+-- the lexeme that begins with the first character, if there is one
 abbrev pub lexeme_at : Place → List ℕ → Option Step
 lexeme_at p [] = None
 lexeme_at p (c ∷ cs) = Some (lexeme_from p c (at (after p c) cs))

@@ -5,7 +5,8 @@ use Rattle.rdx_sexp.specs.declared.token.Bracket.{Bracket}
 use Rattle.rdx_sexp.specs.declared.token.Mark.{Mark}
 use Rattle.rdx_sexp.specs.Sexp.{Atom}
 
--- an opening or a closing bracket, a quote mark, the mark `#;` of a comment on one datum, an atom, or what is refused by itself
+-- An opening or a closing bracket, a quote mark, the mark `#;` of a comment on one datum, an atom, or what is refused by itself. What a text
+-- is cut into behind the last doesn't matter, since its first fault counts.
 pub data Lexeme : Type 0 where
   opening : Bracket → Span → Lexeme
   closing : Bracket → Span → Lexeme

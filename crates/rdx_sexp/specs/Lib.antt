@@ -21,3 +21,4 @@ pub mod Cursor
 pub mod Print
 pub mod Meaning
 pub mod Laws
+pub mod Examples

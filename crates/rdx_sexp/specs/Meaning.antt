@@ -12,12 +12,13 @@ atom_tree (text t) = Some (tree.text t)
 atom_tree (symbol t) = if bytes_eq t (codes "hole") then Some tree.hole else Some (tree.symbol t)
 atom_tree (keyword t) = None
 
+-- one term more in front, where there are terms
 abbrev pub one_more : Option Tree → Option Trees → Option Trees
 one_more (Some t) (Some ts) = Some (tree.cons t ts)
 one_more (Some t) None = None
 one_more None ts = None
 
--- a list is marked where its one hole is, as each list of terms
+-- A datum with a keyword in it stands for no term. A list is marked where its one hole is, as each list of terms.
 abbrev mutual
   pub meaning : Sexp → Option Tree
   meaning (leaf a s) = atom_tree a

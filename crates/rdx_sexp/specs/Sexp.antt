@@ -10,6 +10,7 @@ pub data Atom : Type 0 where
   symbol : List ℕ → Atom
   keyword : List ℕ → Atom
 
+-- a datum: an atom, or a list, whose span has its brackets in it
 mutual
   pub data Sexp : Type 0 where
     leaf : Atom → Span → Sexp
@@ -24,6 +25,7 @@ abbrev pub sexps : List Sexp → Sexps
 sexps [] = nil
 sexps (d ∷ ds) = cons d (sexps ds)
 
+-- from the first character of a datum to the place behind its last
 abbrev pub span_of : Sexp → Span
 span_of (leaf a s) = s
 span_of (list ds s) = s

@@ -14,6 +14,7 @@ use Rattle.rdx_sexp.specs.Lexeme.{Lexeme, opening, closing, mark, skip, word}
 use Rattle.rdx_sexp.specs.Machine.{Frame, frame, Outcome}
 use Rattle.rdx_sexp.specs.Sexp.{Atom, integer, truth, text, symbol, keyword}
 
+-- the atom of a leaf of the program
 abbrev pub atom_of : Leaf → Atom
 atom_of (Int n) = integer n
 atom_of (Bool b) = truth b
@@ -21,6 +22,7 @@ atom_of (Str t) = text (rc_str_bytes t)
 atom_of (Sym t) = symbol (rc_str_bytes t)
 atom_of (Key t) = keyword (rc_str_bytes t)
 
+-- the lexeme of a token of the program
 abbrev pub lexeme_of : Token → Lexeme
 lexeme_of (Open b s) = opening b s
 lexeme_of (Close b s) = closing b s
@@ -28,10 +30,11 @@ lexeme_of (Marked m s) = mark m s
 lexeme_of (Skip s) = skip s
 lexeme_of (Word a s) = word (atom_of a) s
 
+-- the frame of a level of the program's stack
 abbrev pub frame_of : Level → Frame
 frame_of l = frame l.opener l.before.items
 
--- innermost first
+-- the frames of the program's stack, innermost first; the program has the innermost last
 abbrev pub frames : List Level → List Frame
 frames ls = reverse (map frame_of ls)
 

@@ -7,6 +7,7 @@ pub record Text : Type 0 where
   pub place : Place
   pub chars : List ℕ
 
+-- these characters, from this place on
 abbrev pub at : Place → List ℕ → Text
 at p cs = record { place = p; chars = cs }
 
