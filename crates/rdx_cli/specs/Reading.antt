@@ -6,11 +6,11 @@ use Rattle.std.specs.declared.option.Option.{Option}
 -- the bytes came off the front of what was left: all of it, or one byte more than a file may have
 pub record IsRead (left rest : Option (List ℕ)) (bytes : List ℕ) : Type 0 where
   pub front : Consumes left rest bytes
-  pub limit : length bytes ≤ 1048577
-  pub whole : length bytes < 1048577 → IsAtEnd rest
+  pub limit : length bytes ≤ 1_048_577
+  pub whole : length bytes < 1_048_577 → IsAtEnd rest
 
 -- some bytes, no more than a reading takes, came off the front of what was left
 pub record LosesFront (left rest : Option (List ℕ)) : Type 0 where
   pub bytes : List ℕ
   pub front : Consumes left rest bytes
-  pub limit : length bytes ≤ 1048577
+  pub limit : length bytes ≤ 1_048_577

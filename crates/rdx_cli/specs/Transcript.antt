@@ -28,10 +28,10 @@ pub record IsAnswered (bytes text : List ℕ) : Type 0 where
 -- A file of more than 1,048,576 bytes is refused by its length alone. Any other is refused at its first fault where it is no data, and at
 -- its first form that is refused where it is data with such a form; what is left is answered.
 pub data IsTranscript (bytes text : List ℕ) (verdict : Verdict) : Type 0 where
-  too_long : 1048576 < length bytes → text ≡ codes "refused F9 TooLong\n" → verdict ≡ Refused → IsTranscript bytes text verdict
-  unread : length bytes ≤ 1048576 → (r : ReadRefusal) → FirstFault bytes r → text ≡ read_line r → verdict ≡ Refused → IsTranscript bytes text verdict
-  refused : length bytes ≤ 1048576 → (r : Refusal) → IsRefused bytes r → text ≡ form_line r → verdict ≡ Refused → IsTranscript bytes text verdict
-  answered : length bytes ≤ 1048576 → IsAnswered bytes text → verdict ≡ Done → IsTranscript bytes text verdict
+  too_long : 1_048_576 < length bytes → text ≡ codes "refused F9 TooLong\n" → verdict ≡ Refused → IsTranscript bytes text verdict
+  unread : length bytes ≤ 1_048_576 → (r : ReadRefusal) → FirstFault bytes r → text ≡ read_line r → verdict ≡ Refused → IsTranscript bytes text verdict
+  refused : length bytes ≤ 1_048_576 → (r : Refusal) → IsRefused bytes r → text ≡ form_line r → verdict ≡ Refused → IsTranscript bytes text verdict
+  answered : length bytes ≤ 1_048_576 → IsAnswered bytes text → verdict ≡ Done → IsTranscript bytes text verdict
 
 -- what is answered to a file that is not too long
 abbrev pub Answers : List ℕ → Answer → Type 0
