@@ -1,7 +1,6 @@
 -- The worked examples: the lexemes of each text, and the data that these spell or their first fault.
-use Rattle.std.proofs.Common.{◌≡◌, ℕ, List, [], ◌∷◌, Some, IsUtf8, chars, codes, refl, sym, subst, arith}
+use Rattle.std.proofs.Common.{◌≡◌, ℕ, List, [], ◌∷◌, Some, codes, refl, sym, subst, arith}
 use Rattle.std.proofs.Math.Utf8.{encode}
-use Rattle.rdx_base.specs.declared.place.Span.{Span}
 use Rattle.rdx_sexp.specs.declared.fault.ReadKind.TheVariants.{BadToken, BadString}
 use Rattle.rdx_sexp.specs.declared.fault.ReadRefusal.{ReadRefusal}
 use Rattle.rdx_sexp.specs.declared.token.Bracket.TheVariants.{Round, Square}

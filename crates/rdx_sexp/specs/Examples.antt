@@ -1,11 +1,11 @@
 -- Worked examples: short texts, with the data that they are or their first fault.
-use Rattle.std.specs.Prelude.{ℕ, List, [], ◌∷◌, codes}
+use Rattle.std.specs.Prelude.{ℕ, [], ◌∷◌, codes}
 use Rattle.rdx_base.specs.declared.place.Place.{Place}
 use Rattle.rdx_base.specs.declared.place.Span.{Span}
 use Rattle.rdx_sexp.specs.declared.fault.ReadKind.TheVariants.{Unclosed, WrongClose, BadString}
 use Rattle.rdx_sexp.specs.Reads.{Reads, FirstFault}
 use Rattle.rdx_sexp.specs.Refusal.{refusal}
-use Rattle.rdx_sexp.specs.Sexp.{Sexp, leaf, list, nil, cons, symbol}
+use Rattle.rdx_sexp.specs.Sexp.{leaf, list, nil, cons, symbol}
 
 abbrev pub place : ℕ → ℕ → Place
 place line column = record { line = line; column = column }
