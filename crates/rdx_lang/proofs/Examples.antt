@@ -6,7 +6,7 @@ use Rattle.rdx_term.specs.Tree.{Tree}
 use Rattle.rdx_lang.specs.Bindings.{Value, Pair, Binding, name_cmp, HasAscendingNames}
 use Rattle.rdx_lang.specs.Bindings.{one as one_term}
 use Rattle.rdx_lang.specs.Edges.{edge_nt, edge_named, Reaches, at_once, further, IsRecursive}
-use Rattle.rdx_lang.specs.Examples.{int, first_marked, second_marked, list_of_one, list_of_two, binds, seq_of_one, seq_of_two, e, f, e_1, Numbers, Twins, Mentions, ThroughAName, UnderAList, TwoEqual, TwoDifferent, TwoMarks, NameAround, NameAroundItself, Forgotten, OnceForTwo, Mentioned, ExceptMentionsNone, NonterminalsAreNotMentioned, PrefixFirst, ItemsDecide, FirstPairDecides, NameKeepsTheTerm, ListTakesOff}
+use Rattle.rdx_lang.specs.Examples.{int, first_marked, second_marked, list_of_one, list_of_two, binds, seq_of_one, seq_of_two, e, f, e_1, Numbers, Twins, ThroughAName, UnderAList, TwoEqual, TwoDifferent, TwoMarks, NameAround, NameAroundItself, Forgotten, OnceForTwo, Mentioned, ExceptMentionsNone, NonterminalsAreNotMentioned, PrefixFirst, ItemsDecide, FirstPairDecides, NameKeepsTheTerm, ListTakesOff}
 use Rattle.rdx_lang.specs.Join.{IsJoin}
 use Rattle.rdx_lang.specs.JoinLaws.{one_join, join_agrees}
 use Rattle.rdx_lang.specs.Listing.{IsListing}

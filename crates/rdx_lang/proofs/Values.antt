@@ -1,5 +1,5 @@
 -- What a name stands for in a finite map is the value of its pair.
-use Rattle.std.proofs.Common.{◌≡◌, ℕ, Bool, true, false, List, [], ◌∷◌, Option, Some, refl, sym, ap, if◌then◌else◌}
+use Rattle.std.proofs.Common.{◌≡◌, ℕ, Bool, true, false, List, [], ◌∷◌, Some, refl, sym, ap, if◌then◌else◌}
 use Rattle.std.specs.Prelude.{◌↔◌, bytes_eq}
 use Rattle.std.specs.Cmp.Lexicographic.{bytes_decides}
 use Rattle.rdx_lang.specs.Bindings.{Value, Pair, Binding, HasAscendingNames, value_at}
