@@ -22,7 +22,7 @@ is_name-symbol (leaf (keyword k) s) e h = absurd cc
 is_name-symbol (list ds s) e h = absurd cc
 
 -- several symbols
-AreNamed-symbols : (ds : List Sexp) → are_symbols ds ≡ true → AllAreNames (sexps ds) → AreNamed ds
+pub AreNamed-symbols : (ds : List Sexp) → are_symbols ds ≡ true → AllAreNames (sexps ds) → AreNamed ds
 AreNamed-symbols [] e h = tt
 AreNamed-symbols (d ∷ ds) e h =
     let k = and_true (is_symbol d) (are_symbols ds) e in

@@ -3,7 +3,6 @@ pub mod Booleans
 pub mod Signs
 pub mod Sexps
 pub mod Rests
-pub mod SymbolTexts
 pub mod Headed
 pub mod ReadItems
 pub mod Spelled

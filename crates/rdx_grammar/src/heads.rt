@@ -9,7 +9,8 @@ ghost use Rattle.rdx_grammar.specs.Parts.{symbol_text};
 ghost use Rattle.rdx_grammar.specs.Stands as stands;
 ghost use Rattle.rdx_grammar.specs.SymbolNames.{AreNames, AllAreNames};
 
-use crate::shape::symbol;
+use crate::nonterminals::add_symbols;
+use crate::shape::{are_symbols, symbol};
 use rdx_lang::Pat;
 use rdx_sexp::Datum;
 use rdx_term::{Name, NoMemory};
@@ -43,13 +44,11 @@ pub(crate) fn symbol_names(alloc: Global, parts: &[Datum]) -> Result<Option<Vec<
     requires { AllAreNames (sexps parts.now) }
     ensures { IfOk result (λ found. option_map (λ names. names.items) found ≡ symbol_texts parts.now) }
 {
-    let mut names = Vec::new(alloc);
-    for part in parts {
-        match symbol_name(part)? {
-            Some(name) => names.push(name)?,
-            None => return Ok(None),
-        }
+    if !are_symbols(parts) {
+        return Ok(None);
     }
+    let mut names = Vec::new(alloc);
+    add_symbols(parts, &mut names)?;
     Ok(Some(names))
 }
 

@@ -57,8 +57,8 @@ fn base_names(alloc: Global, base: Option<&CheckedLang>) -> Result<Vec<Name>, No
     }
 }
 
-// Puts the names that symbols are behind those that are there.
-fn add_symbols(symbols: &[Datum], out: &mut Vec<Name>) -> Result<(), NoMemory>
+/// Puts the names that symbols are behind those that are there.
+pub(crate) fn add_symbols(symbols: &[Datum], out: &mut Vec<Name>) -> Result<(), NoMemory>
     requires { AreNamed symbols.now }
     ensures { OnOk result (out.new.items ≡ out.old.items ++ map text_of symbols.now) }
 {

@@ -30,10 +30,10 @@ pub fn read_pattern(
     ensures reads { ReadsPattern (names_of (language_in language.old)) d.now result }
     ensures same { language_in language.new ≡ language_in language.old }
 {
-    let names = language_names(alloc, language)?;
-    if let Some(refusal) = refuse_pattern(alloc, &names, d)? {
+    if let Some(refusal) = refuse_pattern(alloc, language, d)? {
         return Err(DefFault::Refused(refusal));
     }
+    let names = language_names(alloc, language)?;
     let pattern = read_datum(alloc, &names, Position::Query, d)?;
     match CheckedPat::new(language, pattern)? {
         Some(pattern) => Ok(pattern),

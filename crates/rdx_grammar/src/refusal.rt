@@ -1,7 +1,9 @@
 // Why a form or a pattern is refused.
 ghost use Rattle.std.specs.Prelude.{◌≡◌, IfOk, map, option_map};
+ghost use Rattle.rdx_lang.specs.Checked.{language_in};
 ghost use Rattle.rdx_grammar.specs.Answers.{refusal_of};
 ghost use Rattle.rdx_grammar.specs.BaseView.{base_in};
+ghost use Rattle.rdx_grammar.specs.Languages.{names_of};
 ghost use Rattle.rdx_grammar.specs.PartViews.{parts_of};
 ghost use Rattle.rdx_grammar.specs.Refusal as places;
 ghost use Rattle.rdx_grammar.specs.Refused as model;
@@ -13,12 +15,12 @@ use crate::form_parts::FormParts;
 use crate::pattern_checks::first_bad_pattern;
 use crate::shape::text;
 use crate::stands::{Stand, add_pattern};
-use crate::texts_of::{all_texts, texts};
+use crate::texts_of::{add_names, all_texts};
 use crate::unbuilt::has_word_to_come;
 use crate::{DefKind, DefRefusal};
 use rdx_lang::CheckedLang;
 use rdx_sexp::Datum;
-use rdx_term::{Name, NoMemory};
+use rdx_term::NoMemory;
 use std::alloc::Global;
 use std::rc::RcStr;
 
@@ -103,13 +105,13 @@ pub(crate) fn refuse_form(
     Ok(None)
 }
 
-/// The refusal by the check with the least number that refuses a pattern outside grammars, over these nonterminals.
+/// The refusal by the check with the least number that refuses a pattern outside grammars, over a language.
 pub(crate) fn refuse_pattern(
     alloc: Global,
-    names: &[Name],
+    language: &CheckedLang,
     d: &Datum,
 ) -> Result<Option<DefRefusal>, NoMemory>
-    ensures { IfOk result (λ r. option_map refusal_of r ≡ model.pattern_refusal names.now d.now) }
+    ensures { IfOk result (λ r. option_map refusal_of r ≡ model.pattern_refusal (names_of (language_in language.now)) d.now) }
 {
     if has_word_to_come(d) {
         return Ok(Some(unnamed(DefKind::Unbuilt, d)));
@@ -122,8 +124,9 @@ pub(crate) fn refuse_pattern(
     if let Some(d) = first_bad_name(&found) {
         return Ok(Some(named_at(alloc, DefKind::BadName, d, text(d))?));
     }
-    let texts = texts(alloc, names)?;
-    if let Some(d) = first_bad_pattern(None, &texts, &found) {
+    let mut names = Vec::new(alloc);
+    add_names(language.language(), &mut names)?;
+    if let Some(d) = first_bad_pattern(None, &names, &found) {
         return Ok(Some(unnamed(DefKind::BadPattern, d)));
     }
     Ok(None)

@@ -10,11 +10,11 @@ use crate::parts::definition_in;
 use crate::shape::text;
 use rdx_lang::{CheckedLang, Language};
 use rdx_sexp::Datum;
-use rdx_term::{Name, NoMemory};
+use rdx_term::NoMemory;
 use std::alloc::Global;
 
-// Adds the names of a language's nonterminals.
-fn add_names<'a>(language: &'a Language, out: &mut Vec<&'a str>) -> Result<(), NoMemory>
+/// Adds the names of a language's nonterminals.
+pub(crate) fn add_names<'a>(language: &'a Language, out: &mut Vec<&'a str>) -> Result<(), NoMemory>
     ensures { IfOk result (λ _. map (λ x. x.now) out.new.items ≡ map (λ x. x.now) out.old.items ++ model.names_of (language_of language.now)) }
 {
     for (nonterminal, _) in &language.nts {
@@ -59,15 +59,4 @@ pub(crate) fn all_texts<'a>(
     }
     add_defined(definitions, &mut names)?;
     Ok(names)
-}
-
-/// The texts of names.
-pub(crate) fn texts<'a>(alloc: Global, names: &'a [Name]) -> Result<Vec<&'a str>, NoMemory>
-    ensures { IfOk result (λ texts. map (λ x. x.now) texts.items ≡ names.now) }
-{
-    let mut texts = Vec::new(alloc);
-    for name in names {
-        texts.push(name.text())?;
-    }
-    Ok(texts)
 }

@@ -14,7 +14,7 @@ use Rattle.rdx_grammar.proofs.patterns.read_pattern.Goals as goal
 
 pub read_datum-requires : goal.read_datum-requires
 read_datum-requires c =
-    let e : pattern_refusal c.deref.result.now c.args.d.now ≡ None = grind (arith, common_steps) in
+    let e : pattern_refusal (names_of (language_in c.args.language.now)) c.args.d.now ≡ None = grind (arith, common_steps) in
     AreNames-spelled c.args.d.now c.requires (none_to_come c.args.d.now _ e)
 
 pub unreachable-requires : goal.unreachable-requires
