@@ -157,7 +157,8 @@ fn order_and_texts(rt: HostRuntime) -> Result<(), Fail> {
     let alloc = rt.alloc();
     let terms = sorted_terms(alloc)?;
     for (term, text) in terms.iter().zip(TEXTS.iter()) {
-        assert!(rt; is_printed_as(alloc, term, text)?, "{text}");
+        let shared = term.share()?;
+        assert!(rt; is_printed_as(alloc, &shared, text)?, "{text}");
     }
     assert!(rt; is_ascending(&terms));
     Ok(())
