@@ -16,6 +16,5 @@ pub mod Headed
 pub mod BaseView
 pub mod Extended
 pub mod CheckedForms
-pub mod FirstRecursive
 pub mod Laws
 pub mod Examples

@@ -22,6 +22,7 @@ pub mod Laws
 pub mod LookupLaws
 pub mod JoinLaws
 pub mod NameLaws
+pub mod FirstRecursive
 pub mod Rest
 pub mod PatternEquations
 pub mod Examples

@@ -1,5 +1,4 @@
 pub mod Upto
-pub mod FirstRecursive
 pub mod OneReading
 pub mod OneText
 pub mod Keywords

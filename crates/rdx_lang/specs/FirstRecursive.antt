@@ -1,4 +1,4 @@
--- Lemmas about the first nonterminal that reaches itself.
+-- At most one nonterminal is the first that reaches itself. What the crates above need of it.
 use Rattle.std.proofs.Common.{◌≡◌, ◌++◌, ℕ, List, [], ◌∷◌, sym, ◌∙◌, ap, subst}
 use Rattle.rdx_lang.specs.Edges.{IsFree, IsFirstRecursive, IsRecursive}
 use Rattle.rdx_lang.specs.Members.{In, here, there}
