@@ -10,7 +10,7 @@ use Rattle.rdx_lang.specs.PatternView.{Slot, just, slot_of, items_of}
 use Rattle.rdx_lang.specs.declared.pattern.Item as code_item
 use Rattle.rdx_match.specs.Searching.{item_pattern}
 use Rattle.rdx_match.proofs.Collecting.{no_member}
-use Rattle.rdx_match.proofs.Measures.{size, size_of}
+use Rattle.rdx_lang.specs.Ranks.{pattern_nodes, items_nodes}
 
 -- an item of a list has at most the nodes of all
 pub nodes-item : (ts : List Term) (i : ℕ) (t : Term) → i < length ts → t ≡ get_or ts i t → tree_nodes (tree_of t) ≤ trees_nodes (trees_of ts)
@@ -20,10 +20,10 @@ nodes-item ts i t h e =
     omega arith
 
 -- a pattern among items is as large as all of them at most
-size-slots : (p : Pattern) (slots : List Slot) → In p (map item_pattern slots) → size p ≤ size_of (items_of slots)
-size-slots p [] m = no_member m
-size-slots p (just q ∷ slots) (here f) = let l : size p ≡ size q = ap size f in omega arith
-size-slots p (just q ∷ slots) (there m) = omega (arith, size-slots p slots m)
+pattern_nodes-slots : (p : Pattern) (slots : List Slot) → In p (map item_pattern slots) → pattern_nodes p ≤ items_nodes (items_of slots)
+pattern_nodes-slots p [] m = no_member m
+pattern_nodes-slots p (just q ∷ slots) (here f) = let l : pattern_nodes p ≡ pattern_nodes q = ap pattern_nodes f in omega arith
+pattern_nodes-slots p (just q ∷ slots) (there m) = omega (arith, pattern_nodes-slots p slots m)
 
 -- the pattern of an item is among those of all
 In-items : (items : List code_item.Item) (i : ℕ) (item : code_item.Item) → i < length items → item ≡ get_or items i item → In (item_pattern (slot_of item)) (map item_pattern (map slot_of items))
@@ -32,5 +32,5 @@ In-items (x ∷ xs) zero item h e = here (ap (λ s. item_pattern (slot_of s)) e)
 In-items (x ∷ xs) (suc i) item h e = there (In-items xs i item (omega arith) e)
 
 -- the pattern of an item is as large as all items at most
-pub size-item : (items : List code_item.Item) (i : ℕ) (item : code_item.Item) → i < length items → item ≡ get_or items i item → size (item_pattern (slot_of item)) ≤ size_of (items_of (map slot_of items))
-size-item items i item h e = size-slots (item_pattern (slot_of item)) (map slot_of items) (In-items items i item h e)
+pub pattern_nodes-item : (items : List code_item.Item) (i : ℕ) (item : code_item.Item) → i < length items → item ≡ get_or items i item → pattern_nodes (item_pattern (slot_of item)) ≤ items_nodes (items_of (map slot_of items))
+pattern_nodes-item items i item h e = pattern_nodes-slots (item_pattern (slot_of item)) (map slot_of items) (In-items items i item h e)

@@ -5,32 +5,15 @@ use Rattle.std.proofs.Math.Nat.{mul-le-mul}
 use Rattle.rdx_term.specs.Tree.{Tree, Trees, tree_nodes, trees_nodes}
 use Rattle.rdx_lang.specs.Members.{In, here, there}
 use Rattle.rdx_lang.specs.Patterns.{Pattern, wild, of_kind, except, prefix, lit, nt, named, seq, Items, nil, one, Definition, Language}
-use Rattle.rdx_lang.specs.Ranks.{patterns_nodes, root_ranks, roots_among, above, rank_of, left}
+use Rattle.rdx_lang.specs.Ranks.{pattern_nodes, patterns_nodes, root_ranks, roots_among, above, rank_of, left}
 use Rattle.rdx_lang.specs.Rules.{IsAlternative}
 use Rattle.rdx_lang.specs.WellFormed.{is_same}
 use Rattle.rdx_lang.specs.declared.pattern.Ref.{Ref}
 
--- the size of a pattern
-abbrev mutual
-  pub size : Pattern → ℕ
-  size wild = 1
-  size (of_kind k) = 1
-  size (except rs) = 1
-  size (prefix r) = 1
-  size (lit u) = 1
-  size (nt x) = 1
-  size (named x q) = size q + 1
-  size (seq ps) = size_of ps + 1
-
-  -- the sizes of all items together
-  pub size_of : Items → ℕ
-  size_of nil = 0
-  size_of (one p ps) = size p + size_of ps
-
 -- the greatest size of these patterns
 abbrev pub largest_of : List Pattern → ℕ
 largest_of [] = 0
-largest_of (p ∷ ps) = max (size p) (largest_of ps)
+largest_of (p ∷ ps) = max (pattern_nodes p) (largest_of ps)
 
 -- the greatest size of the alternatives in these definitions
 abbrev pub largest_in : List Definition → ℕ
@@ -56,7 +39,7 @@ wide L ns s = 4 * (max s (largest L) + top L ns + 2)
 
 -- The measure of the search at a pattern; k, below 4, orders its functions there.
 abbrev pub weight : Language → List ℕ → ℕ → Pattern → Tree → ℕ
-weight L ns k p t = tree_nodes t * wide L ns (size p) + (4 * left (rank_of L ns) p + k)
+weight L ns k p t = tree_nodes t * wide L ns (pattern_nodes p) + (4 * left (rank_of L ns) p + k)
 
 -- the measure of the search at the items of a list pattern of size s in all
 abbrev pub items_weight : Language → List ℕ → ℕ → Trees → ℕ
@@ -80,7 +63,7 @@ rank_of-top : (L : Language) (ns : List ℕ) (x : Ref) → rank_of L ns x ≤ to
 rank_of-top L ns x = above-top L.nonterminals ns x
 
 -- a pattern's number is its size and the greatest number of a nonterminal at most
-pub left-bound : (L : Language) (ns : List ℕ) (p : Pattern) → left (rank_of L ns) p ≤ size p + top L ns
+pub left-bound : (L : Language) (ns : List ℕ) (p : Pattern) → left (rank_of L ns) p ≤ pattern_nodes p + top L ns
 left-bound L ns wild = omega arith
 left-bound L ns (of_kind k) = omega arith
 left-bound L ns (except rs) = omega arith
@@ -93,10 +76,10 @@ left-bound L ns (seq ps) = omega arith
 -- ---- sizes
 
 -- no member is larger than the largest
-size-largest_of : (p : Pattern) (ps : List Pattern) → In p ps → size p ≤ largest_of ps
-size-largest_of p [] h = elim h [ ]
-size-largest_of p (q ∷ ps) (here e) = let f : size p ≡ size q = ap size e in omega arith
-size-largest_of p (q ∷ ps) (there h) = omega (arith, size-largest_of p ps h)
+pattern_nodes-largest_of : (p : Pattern) (ps : List Pattern) → In p ps → pattern_nodes p ≤ largest_of ps
+pattern_nodes-largest_of p [] h = elim h [ ]
+pattern_nodes-largest_of p (q ∷ ps) (here e) = let f : pattern_nodes p ≡ pattern_nodes q = ap pattern_nodes e in omega arith
+pattern_nodes-largest_of p (q ∷ ps) (there h) = omega (arith, pattern_nodes-largest_of p ps h)
 
 -- no alternative of one definition is larger than the largest of all
 largest_of-in : (ds : List Definition) (x : Ref) (ps : List Pattern) → In (x, ps) ds → largest_of ps ≤ largest_in ds
@@ -105,8 +88,8 @@ largest_of-in (d ∷ ds) x ps (here e) = let f : largest_of ps ≡ largest_of d.
 largest_of-in (d ∷ ds) x ps (there h) = omega (arith, largest_of-in ds x ps h)
 
 -- no alternative is larger than the largest
-pub size-alternative : (L : Language) (x : Ref) (p : Pattern) → IsAlternative L x p → size p ≤ largest L
-size-alternative L x p a = omega (arith, size-largest_of p a.all a.among, largest_of-in L.nonterminals x a.all a.defined)
+pub pattern_nodes-alternative : (L : Language) (x : Ref) (p : Pattern) → IsAlternative L x p → pattern_nodes p ≤ largest L
+pattern_nodes-alternative L x p a = omega (arith, pattern_nodes-largest_of p a.all a.among, largest_of-in L.nonterminals x a.all a.defined)
 
 -- ---- what falls
 
@@ -117,10 +100,10 @@ lex_same n n' w w' l l' a b c = omega (arith, mul-le-mul a b)
 -- from a nonterminal to an alternative whose number is less
 pub weight-alternative : (L : Language) (ns : List ℕ) (x : Ref) (p : Pattern) (t : Tree) → IsAlternative L x p → left (rank_of L ns) p < rank_of L ns x → weight L ns 3 p t < weight L ns 2 (nt x) t
 weight-alternative L ns x p t a h =
-    lex_same (tree_nodes t) (tree_nodes t) (wide L ns 1) (wide L ns (size p)) (4 * rank_of L ns x + 2) (4 * left (rank_of L ns) p + 3)
-    (omega arith) (omega (arith, size-alternative L x p a)) (omega arith)
+    lex_same (tree_nodes t) (tree_nodes t) (wide L ns 1) (wide L ns (pattern_nodes p)) (4 * rank_of L ns x + 2) (4 * left (rank_of L ns) p + 3)
+    (omega arith) (omega (arith, pattern_nodes-alternative L x p a)) (omega arith)
 
 -- from the items of a list to one of them
-pub weight-item : (L : Language) (ns : List ℕ) (p : Pattern) (t : Tree) (s : ℕ) (ts : Trees) → tree_nodes t ≤ trees_nodes ts → size p ≤ s → weight L ns 3 p t < items_weight L ns s ts
+pub weight-item : (L : Language) (ns : List ℕ) (p : Pattern) (t : Tree) (s : ℕ) (ts : Trees) → tree_nodes t ≤ trees_nodes ts → pattern_nodes p ≤ s → weight L ns 3 p t < items_weight L ns s ts
 weight-item L ns p t s ts a b =
-    lex_same (trees_nodes ts) (tree_nodes t) (wide L ns s) (wide L ns (size p)) (4 * (max s (largest L) + top L ns) + 5) (4 * left (rank_of L ns) p + 3) a (omega arith) (omega (arith, left-bound L ns p))
+    lex_same (trees_nodes ts) (tree_nodes t) (wide L ns s) (wide L ns (pattern_nodes p)) (4 * (max s (largest L) + top L ns) + 5) (4 * left (rank_of L ns) p + 3) a (omega arith) (omega (arith, left-bound L ns p))

@@ -17,9 +17,10 @@ use Rattle.rdx_match.specs.Atoms.{is_other_symbol}
 use Rattle.rdx_match.specs.Combining.{Joined}
 use Rattle.rdx_match.specs.Searching.{item_pattern}
 use Rattle.rdx_match.proofs.AnyOf.{untried_first, untried_next, untried_none}
-use Rattle.rdx_match.proofs.Measures.{weight-alternative, weight-item, size, size_of}
+use Rattle.rdx_lang.specs.Ranks.{pattern_nodes, items_nodes}
+use Rattle.rdx_match.proofs.Measures.{weight-alternative, weight-item}
 use Rattle.rdx_match.proofs.AtomListings.{listing_wild, listing_kind, listing_except, listing_prefix, listing_lit}
-use Rattle.rdx_match.proofs.ItemSizes.{nodes-item, size-item}
+use Rattle.rdx_match.proofs.ItemSizes.{nodes-item, pattern_nodes-item}
 use Rattle.rdx_match.proofs.RuleSteps.{listing_nt, listing_named, listing_seq, listing_elsewhere, items_differ, items_end, items_before, some_of_listing, none_of_listing}
 use Rattle.rdx_match.proofs.search.+search.Goals as goal
 
@@ -82,9 +83,9 @@ pub match_items-matches-requires : goal.match_items-matches-requires
 match_items-matches-requires t c =
     let L : Language = language_in c.args.language.now in
     let a = nodes-item c.args.ts.now (c.loop-i.i - 1) c.index-ts-i.result (omega arith) c.index-ts-i.is in
-    let b = size-item c.args.items.now (c.loop-i.i - 1) c.index-items-i.result (omega arith) c.index-items-i.is in
-    let e : size (pattern_of c.pattern_in.result.now) ≡ size (item_pattern (slot_of c.index-items-i.result)) = ap size c.pattern_in.ensures in
-    omega (arith, weight-item L (ranks_in c.args.language.now) (pattern_of c.pattern_in.result.now) (tree_of c.index-ts-i.result) (size_of (items_of (map slot_of c.args.items.now))) (trees_of c.args.ts.now) a (omega arith))
+    let b = pattern_nodes-item c.args.items.now (c.loop-i.i - 1) c.index-items-i.result (omega arith) c.index-items-i.is in
+    let e : pattern_nodes (pattern_of c.pattern_in.result.now) ≡ pattern_nodes (item_pattern (slot_of c.index-items-i.result)) = ap pattern_nodes c.pattern_in.ensures in
+    omega (arith, weight-item L (ranks_in c.args.language.now) (pattern_of c.pattern_in.result.now) (tree_of c.index-ts-i.result) (items_nodes (items_of (map slot_of c.args.items.now))) (trees_of c.args.ts.now) a (omega arith))
 
 pub match_items-loop-i-preserved : goal.match_items-loop-i-preserved
 match_items-loop-i-preserved t c =

@@ -8,7 +8,8 @@ use Rattle.rdx_lang.specs.PatternView.{pattern_of, patterns_of, slot_of, items_o
 use Rattle.rdx_lang.specs.Rules.{MatchItems}
 use Rattle.rdx_lang.specs.Shown.{bindings_of}
 use Rattle.rdx_match.proofs.AnyOf.{Untried}
-use Rattle.rdx_match.proofs.Measures.{weight, items_weight, size_of}
+use Rattle.rdx_lang.specs.Ranks.{items_nodes}
+use Rattle.rdx_match.proofs.Measures.{weight, items_weight}
 use Rattle.rdx_match.proofs.search.+search.Given as goal
 
 abbrev pub decreases-matches : goal.decreases-matches
@@ -18,7 +19,7 @@ abbrev pub decreases-any_alternative : goal.decreases-any_alternative
 decreases-any_alternative l = weight (language_in l.language.now) (ranks_in l.language.now) 2 (nt l.name.now) (tree_of l.t.now)
 
 abbrev pub decreases-match_items : goal.decreases-match_items
-decreases-match_items l = items_weight (language_in l.language.now) (ranks_in l.language.now) (size_of (items_of (map slot_of l.items.now))) (trees_of l.ts.now)
+decreases-match_items l = items_weight (language_in l.language.now) (ranks_in l.language.now) (items_nodes (items_of (map slot_of l.items.now))) (trees_of l.ts.now)
 
 abbrev pub invariant-any_alternative-loop-alternative : goal.invariant-any_alternative-loop-alternative
 invariant-any_alternative-loop-alternative l = Untried (language_in l.language) (patterns_of l.alternative-items) (patterns_of (drop l.alternative-index l.alternative-items)) (tree_of l.t)
