@@ -8,7 +8,7 @@
 //! first check looks for words of forms to come in the whole form (`specs/Unbuilt.antt`), and the last one for left recursion in the
 //! language. Each check between them is a definition of its own in `specs/Checks.antt`, over the list of what stands in a form
 //! (`specs/Stands.antt`). What forms mean is in `specs/Reading.antt` and `specs/Languages.antt`, and `specs/Refused.antt` puts all together.
-//! The tests of [`shape`], [`names`] and [`unbuilt`] are those that the readers of other forms need too.
+//! The tests of [`shape`], [`names`] and [`unbuilt`] and the refusals of [`refusal`] are those that the readers of other forms need too.
 #![tactic(auto)]
 
 mod bases;
@@ -29,7 +29,7 @@ mod pattern_checks;
 mod patterns;
 mod readings;
 mod recursion;
-mod refusal;
+pub mod refusal;
 pub mod shape;
 mod stands;
 mod texts_of;

@@ -1,4 +1,4 @@
-// Why a form or a pattern is refused.
+//! Why a form or a pattern is refused, and what a refusal at a datum says.
 ghost use Rattle.std.specs.Prelude.{◌≡◌, IfOk, map, option_map};
 ghost use Rattle.rdx_lang.specs.Checked.{language_in};
 ghost use Rattle.rdx_grammar.specs.Answers.{refusal_of};
@@ -24,8 +24,8 @@ use rdx_term::NoMemory;
 use std::alloc::Global;
 use std::rc::RcStr;
 
-// A refusal at a datum, without a name.
-fn unnamed(kind: DefKind, d: &Datum) -> DefRefusal
+/// A refusal at a datum, without a name.
+pub fn unnamed(kind: DefKind, d: &Datum) -> DefRefusal
     ensures { refusal_of result ≡ places.unnamed kind d.now }
 {
     DefRefusal {
@@ -36,7 +36,7 @@ fn unnamed(kind: DefKind, d: &Datum) -> DefRefusal
 }
 
 /// A refusal at a datum, with a name.
-pub(crate) fn named_at(
+pub fn named_at(
     alloc: Global,
     kind: DefKind,
     d: &Datum,
@@ -50,6 +50,13 @@ pub(crate) fn named_at(
         place: d.span.start,
         name: Some(name),
     })
+}
+
+/// A refusal at a symbol, by its name.
+pub fn named(alloc: Global, kind: DefKind, d: &Datum) -> Result<DefRefusal, NoMemory>
+    ensures { IfOk result (λ r. refusal_of r ≡ places.named kind d.now) }
+{
+    named_at(alloc, kind, d, text(d))
 }
 
 // The nonterminals of a form with these parts.
@@ -71,10 +78,10 @@ fn refuse_names(alloc: Global, found: &[Stand]) -> Result<Option<DefRefusal>, No
     ensures { IfOk result (λ r. option_map refusal_of r ≡ places.or_else (model.duplicate_at (stands_of found.now)) (model.bad_name_at (stands_of found.now))) }
 {
     if let Some(d) = first_repeated(found) {
-        return Ok(Some(named_at(alloc, DefKind::Duplicate, d, text(d))?));
+        return Ok(Some(named(alloc, DefKind::Duplicate, d)?));
     }
     if let Some(d) = first_bad_name(found) {
-        return Ok(Some(named_at(alloc, DefKind::BadName, d, text(d))?));
+        return Ok(Some(named(alloc, DefKind::BadName, d)?));
     }
     Ok(None)
 }
@@ -122,7 +129,7 @@ pub(crate) fn refuse_pattern(
         return Ok(Some(unnamed(DefKind::Shape, d)));
     }
     if let Some(d) = first_bad_name(&found) {
-        return Ok(Some(named_at(alloc, DefKind::BadName, d, text(d))?));
+        return Ok(Some(named(alloc, DefKind::BadName, d)?));
     }
     let mut names = Vec::new(alloc);
     add_names(language.language(), &mut names)?;

@@ -16,7 +16,8 @@ ghost use Rattle.rdx_query.specs.declared.kind.FormKind.TheVariants as kind;
 
 use crate::known::place_named;
 use crate::parts::{base_name, second_item};
-use crate::refusals::{misshaped, named};
+use crate::refusals::misshaped;
+use rdx_grammar::refusal::named;
 use rdx_grammar::shape::text;
 use rdx_grammar::{DefFault, DefKind, extend, read_language};
 use rdx_lang::{CheckedLang, Language, Ranks};

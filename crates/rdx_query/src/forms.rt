@@ -11,7 +11,7 @@ use crate::Query;
 use crate::definitions::{define_extension, define_language};
 use crate::kind::{FormKind, form_kind};
 use crate::queries::{Asked, read_query};
-use crate::refusals::unnamed;
+use rdx_grammar::refusal::unnamed;
 use rdx_grammar::{DefFault, DefKind};
 use rdx_lang::CheckedLang;
 use rdx_sexp::Datum;
