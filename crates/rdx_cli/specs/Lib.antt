@@ -4,3 +4,4 @@ pub mod Ends
 pub mod Refusals
 pub mod Transcript
 pub mod Laws
+pub mod Examples

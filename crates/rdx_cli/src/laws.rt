@@ -1,4 +1,5 @@
 //! Laws of the definitions: functions that do nothing, whose contracts are the laws.
+ghost use Rattle.rdx_cli.specs.Examples.{CommentsAreAnswered, BracketIsRefused};
 ghost use Rattle.rdx_cli.specs.Laws.{OneTranscript};
 
 /// A file has one transcript and one verdict at most.
@@ -11,4 +12,12 @@ pub fn one_transcript()
     rdx_query::laws::one_text();
     rdx_query::laws::one_refusal();
     rdx_query::laws::text_or_refusal();
+}
+
+/// What some small files write, as the definitions have it.
+pub fn worked_examples()
+    ensures comments_are_answered { CommentsAreAnswered }
+    ensures bracket_is_refused { BracketIsRefused }
+{
+    rdx_sexp::laws::worked_examples();
 }

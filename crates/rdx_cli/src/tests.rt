@@ -15,10 +15,12 @@ mod refused_unbuilt;
 mod unread;
 
 use crate::top::{Status, run};
+use crate::writing::write_text;
 use crate::{status_without_words, words_of};
 use rdx_base::{MemSink, MemSource, SteadySource};
 use std::env::{Env, FillError};
 use std::process::Abort;
+use std::str::from_utf8;
 use std::test::Fail;
 
 // How many bytes a call moves at most, and which calls fail.
@@ -47,7 +49,7 @@ fn run_on<R: Abort + AllocGlobal>(
     bytes: &[u8],
     takes: Plan<'_>,
     puts: Plan<'_>,
-    (status, text): (Status, &[u8]),
+    (status, text): (Status, &str),
 ) -> Result<(), Fail> {
     let alloc = rt.alloc();
     let mut owned = Vec::new(alloc);
@@ -59,15 +61,16 @@ fn run_on<R: Abort + AllocGlobal>(
     let mut source = MemSource::new(bytes.to_vec(alloc)?, takes.piece, failing);
     let mut sink = MemSink::new(puts.piece, puts.failing.to_vec(alloc)?);
     let ended = run(alloc, &owned, &mut source, &mut sink);
-    assert_eq!(rt; ended, status, "at {words:?} and the file {bytes:?}");
-    assert_eq!(rt; sink.written(), text, "at {words:?} and the file {bytes:?}");
+    let (file, written) = (from_utf8(bytes), from_utf8(sink.written()));
+    assert_eq!(rt; ended, status, "at {words:?} and the file {file:?}");
+    assert_eq!(rt; written, Ok(text), "at {words:?} and the file {file:?}");
     Ok(())
 }
 
 // Each of these files is answered so.
 fn answers<R: Abort + AllocGlobal>(rt: &R, rows: &[(&str, &str)]) -> Result<(), Fail> {
     for (file, text) in rows {
-        let wanted = (Status::Done, text.as_bytes());
+        let wanted = (Status::Done, *text);
         run_on(rt, &["run"], file.as_bytes(), STEADY, STEADY, wanted)?;
     }
     Ok(())
@@ -77,7 +80,7 @@ fn answers<R: Abort + AllocGlobal>(rt: &R, rows: &[(&str, &str)]) -> Result<(), 
 fn refuses<R: Abort + AllocGlobal>(rt: &R, rows: &[(&str, &str)]) -> Result<(), Fail> {
     for (file, fault) in rows {
         let line = format!(in rt.alloc(); "refused {fault}\n")?;
-        let wanted = (Status::Refused, line.as_bytes());
+        let wanted = (Status::Refused, line.as_str());
         run_on(rt, &["run"], file.as_bytes(), STEADY, STEADY, wanted)?;
     }
     Ok(())
@@ -86,15 +89,15 @@ fn refuses<R: Abort + AllocGlobal>(rt: &R, rows: &[(&str, &str)]) -> Result<(), 
 #[test]
 fn words_that_fit_no_row_read_and_write_nothing(rt: HostRuntime) -> Result<(), Fail> {
     for words in UNFIT {
-        run_on(&rt, words, b"(a)", BROKEN, STEADY, (Status::Usage, b""))?;
+        run_on(&rt, words, b"(a)", BROKEN, STEADY, (Status::Usage, ""))?;
     }
     Ok(())
 }
 
 #[test]
 fn files_have_their_transcripts(rt: HostRuntime) -> Result<(), Fail> {
-    let unclosed = (Status::Refused, b"refused F2 Unclosed at 1:1\n".as_slice());
-    run_on(&rt, &["run"], b"", STEADY, STEADY, (Status::Done, b""))?;
+    let unclosed = (Status::Refused, "refused F2 Unclosed at 1:1\n");
+    run_on(&rt, &["run"], b"", STEADY, STEADY, (Status::Done, ""))?;
     run_on(
         &rt,
         &["run"],
@@ -134,10 +137,10 @@ fn a_long_file_is_refused(rt: HostRuntime) -> Result<(), Fail> {
 #[test]
 fn faults_end_a_run(rt: HostRuntime) -> Result<(), Fail> {
     let file = [b'x'; 5000];
-    let unbuilt = b"refused S0 Unbuilt at 1:1\n".as_slice();
+    let unbuilt = "refused S0 Unbuilt at 1:1\n";
     let rows = [
-        (1, Status::ReadFault, b"".as_slice()),
-        (2, Status::ReadFault, b"".as_slice()),
+        (1, Status::ReadFault, ""),
+        (2, Status::ReadFault, ""),
         (3, Status::Refused, unbuilt),
     ];
     for (failing, status, text) in rows {
@@ -157,8 +160,28 @@ fn faults_end_a_run(rt: HostRuntime) -> Result<(), Fail> {
         &file,
         STEADY,
         puts,
-        (Status::WriteFault, b"refu"),
+        (Status::WriteFault, "refu"),
     )?;
+    Ok(())
+}
+
+// A text of 9,000 bytes is put as 4,096 bytes, 4,096 bytes and 808 bytes: each put is the first that
+// fails, and then none is.
+#[test]
+fn puts_offer_a_piece_or_the_rest(rt: HostRuntime) -> Result<(), Fail> {
+    let alloc = rt.alloc();
+    let text = [b'x'; 9000];
+    let rows = [
+        (0, false, 0),
+        (1, false, 4096),
+        (2, false, 8192),
+        (3, true, 9000),
+    ];
+    for (failing, whole, written) in rows {
+        let mut sink = MemSink::new(10_000, vec![in alloc; failing]?);
+        assert_eq!(rt; write_text(&mut sink, &text), whole);
+        assert_eq!(rt; sink.written().len(), written);
+    }
     Ok(())
 }
 

@@ -36,12 +36,7 @@ pub fn unnamed(kind: DefKind, d: &Datum) -> DefRefusal
 }
 
 /// A refusal at a datum, with a name.
-pub fn named_at(
-    alloc: Global,
-    kind: DefKind,
-    d: &Datum,
-    name: &str,
-) -> Result<DefRefusal, NoMemory>
+pub fn named_at(alloc: Global, kind: DefKind, d: &Datum, name: &str) -> Result<DefRefusal, NoMemory>
     ensures { IfOk result (λ r. refusal_of r ≡ places.named_at kind d.now name.now) }
 {
     let name = RcStr::from_str(alloc, name)?;

@@ -4,7 +4,7 @@ use Rattle.std.specs.Prelude.{decimal}
 use Rattle.std.proofs.lemmas.Fmt.{decimal_digit}
 use Rattle.rdx_base.specs.declared.place.Span.{Span}
 use Rattle.rdx_term.specs.Tree as tree
-use Rattle.rdx_lang.specs.Bindings.{Value, Pair, Binding, HasAscendingNames}
+use Rattle.rdx_lang.specs.Bindings.{Pair, Binding}
 use Rattle.rdx_lang.specs.Bindings.{one as one_term}
 use Rattle.rdx_lang.specs.Edges.{Reaches, at_once, further, edge_nt, IsFree}
 use Rattle.rdx_lang.specs.Join.{IsJoin}
@@ -19,8 +19,8 @@ use Rattle.rdx_lang.specs.declared.pattern.Ref.{Ref}
 use Rattle.rdx_lang.specs.declared.pattern.Ref.TheVariants.{Nt}
 use Rattle.rdx_query.specs.AnswerText.{matches_text}
 use Rattle.rdx_query.specs.Answering.{no_answers, more_answers}
-use Rattle.rdx_query.specs.Examples.{word, number, form, defines_L, extends, asks, AnswersInOrder, FirstRefusedForm, EarlierLanguagesOnly}
-use Rattle.rdx_query.specs.File.{Defines, Asks, by_check, accepts_none, accepts_language, accepts_query, refuses_here, refuses_behind_language}
+use Rattle.rdx_query.specs.Examples.{defines_L, AnswersInOrder, FirstRefusedForm, EarlierLanguagesOnly}
+use Rattle.rdx_query.specs.File.{Defines, by_check, accepts_none, accepts_language, accepts_query, refuses_here, refuses_behind_language}
 use Rattle.rdx_query.specs.FormReadings.{matches}
 
 -- ---- the language L

@@ -184,11 +184,11 @@ fn files_in_pieces(rt: HostRuntime) -> Result<(), Fail> {
     let file = PAIRS.as_bytes();
     let takes = |failing| Plan { piece: 16, failing };
     let puts = |failing| Plan { piece: 4, failing };
-    let whole = (Status::Done, PAIRS_MATCHED.as_bytes());
+    let whole = (Status::Done, PAIRS_MATCHED);
     run_on(&rt, &["run"], file, takes(&[]), puts(&[]), whole)?;
-    let nothing = (Status::ReadFault, b"".as_slice());
+    let nothing = (Status::ReadFault, "");
     run_on(&rt, &["run"], file, takes(&[1]), puts(&[]), nothing)?;
-    let start = (Status::WriteFault, b"matc".as_slice());
+    let start = (Status::WriteFault, "matc");
     run_on(&rt, &["run"], file, takes(&[]), puts(&[1]), start)?;
     Ok(())
 }
@@ -213,7 +213,7 @@ fn deep_files_are_answered(rt: HostRuntime) -> Result<(), Fail> {
     ] {
         file.extend_from_slice(piece)?;
     }
-    let wanted = (Status::Done, b"match 1\n  -\nmatches #t\n".as_slice());
+    let wanted = (Status::Done, "match 1\n  -\nmatches #t\n");
     run_on(&rt, &["run"], &file, STEADY, STEADY, wanted)?;
     Ok(())
 }

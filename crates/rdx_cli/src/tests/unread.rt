@@ -34,7 +34,7 @@ fn files_that_are_no_data_are_refused(rt: HostRuntime) -> Result<(), Fail> {
 
 #[test]
 fn bytes_that_are_no_text_are_refused(rt: HostRuntime) -> Result<(), Fail> {
-    let line = b"refused F1 NotUtf8 at 2:3\n".as_slice();
+    let line = "refused F1 NotUtf8 at 2:3\n";
     let wanted = (Status::Refused, line);
     run_on(&rt, &["run"], b"(a\n\xce\xbb)\xff", STEADY, STEADY, wanted)?;
     Ok(())
@@ -44,7 +44,7 @@ fn bytes_that_are_no_text_are_refused(rt: HostRuntime) -> Result<(), Fail> {
 #[test]
 fn a_deep_file_is_refused(rt: HostRuntime) -> Result<(), Fail> {
     let brackets = [b'('; 501];
-    let line = b"refused F8 TooDeep at 1:501\n".as_slice();
+    let line = "refused F8 TooDeep at 1:501\n";
     let wanted = (Status::Refused, line);
     run_on(&rt, &["run"], &brackets, STEADY, STEADY, wanted)?;
     Ok(())
