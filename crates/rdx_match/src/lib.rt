@@ -16,7 +16,5 @@ mod listing;
 mod literals;
 mod plain;
 mod search;
-#[cfg(test)]
-mod tests;
 
 pub use plain::Plain;
