@@ -11,6 +11,10 @@ pub record PlannedSource : Type 0 where
   pub calls : ℕ
   pub faults : ℕ
 
+-- with these bytes to come and this plan, and no call or fault so far
+abbrev pub planned_source : List ℕ → ℕ → List ℕ → PlannedSource
+planned_source bytes piece failing = record { left = bytes; piece = piece; failing = failing; calls = 0; faults = 0 }
+
 -- one call more was made and counted, and the plan is the same
 pub record IsNextSource (old new : PlannedSource) (taken : Taken) : Type 0 where
   pub calls : new.calls ≡ min (old.calls + 1) (2 ^ 64 - 1)

@@ -3,6 +3,7 @@ use Rattle.std.specs.Prelude.{◌≡◌, ℕ, ◌<◌, ◌≤◌, List, ◌++◌
 use Rattle.std.specs.Io.KnownBytes.{Appends}
 use Rattle.std.specs.declared.option.Option.{Option}
 use Rattle.rdx_base.specs.Faults.{next_count}
+use Rattle.rdx_base.specs.StdEnds.{Counted}
 use Rattle.rdx_base.specs.declared.sink.Put.{Put}
 use Rattle.rdx_base.specs.declared.sink.Put.TheVariants.{Took, Failed}
 
@@ -22,9 +23,9 @@ abbrev pub GainsPrefix : Option (List ℕ) → Option (List ℕ) → List ℕ �
 GainsPrefix old new text = (n : ℕ) × (n ≤ length text) × Gains old new (take n text)
 
 -- what a writer of std holds grew by the bytes that were taken; it may have taken some before a flush failed
-abbrev pub WriterPuts : Option (List ℕ) → Option (List ℕ) → List ℕ → Put → Type 0
-WriterPuts old new piece (Took n) = Appends old new (take n piece)
-WriterPuts old new piece Failed = (n : ℕ) × (n ≤ length piece) × Appends old new (take n piece)
+abbrev pub WriterPuts : {W : Type 0} → (W → Option (List ℕ)) → Counted W → Counted W → List ℕ → Put → Type 0
+WriterPuts held old new piece (Took n) = Appends (held old.end) (held new.end) (take n piece)
+WriterPuts held old new piece Failed = (n : ℕ) × (n ≤ length piece) × Appends (held old.end) (held new.end) (take n piece)
 
 -- the count after the put: one fault more if it failed, and else the same
 abbrev pub count_after_put : ℕ → Put → ℕ

@@ -1,5 +1,5 @@
 -- A sink in memory that never fails, as its callers see it.
-use Rattle.std.specs.Prelude.{◌≡◌, ℕ, ◌+◌, ◌<◌, ◌≤◌, List, ◌++◌, length, Bool, true, false, Some, None, if◌then◌else◌}
+use Rattle.std.specs.Prelude.{◌≡◌, ℕ, ◌+◌, ◌<◌, ◌≤◌, List, [], ◌++◌, length, Bool, true, false, Some, None, if◌then◌else◌}
 use Rattle.std.specs.declared.option.Option.{Option}
 
 -- the bytes that it stored, whether those are all that it took, how many a call takes at most, and how many it has room for
@@ -8,6 +8,10 @@ pub record SteadyStore : Type 0 where
   pub told : Bool
   pub piece : ℕ
   pub room : ℕ
+
+-- with nothing stored, all of it told, and these two numbers
+abbrev pub empty_store : ℕ → ℕ → SteadyStore
+empty_store piece room = record { kept = []; told = true; piece = piece; room = room }
 
 -- the bytes that were written, as far as they are told: all that it took, while all of it is stored
 abbrev pub told_bytes : SteadyStore → Option (List ℕ)

@@ -1,6 +1,7 @@
 // A sink in memory that fails where its plan says, and where it is full.
-ghost use Rattle.std.specs.Prelude.{◌≡◌, ◌<◌, ◌≤◌, ◌↔◌, ◌⊎◌, ◌-◌, [], Some, Contains, min, length};
+ghost use Rattle.std.specs.Prelude.{◌≡◌, ◌<◌, ◌≤◌, ◌↔◌, Some, length};
 ghost use Rattle.rdx_base.specs.Faults.{Rose};
+ghost use Rattle.rdx_base.specs.MemSink.{planned_sink, NextFails, bytes_taken};
 ghost use Rattle.rdx_base.specs.Putting.{Puts, IfTook};
 
 use crate::{Put, Sink};
@@ -26,7 +27,13 @@ impl Model for MemSink {
 
     ghost Value = { PlannedSink };
 
-    ghost view = { λ s. record { written = take s.len s.store; piece = s.piece; failing = s.failing.items; calls = s.calls; faults = s.faults } };
+    ghost view = { λ s. record {
+      written = take s.len s.store;
+      piece = s.piece;
+      failing = s.failing.items;
+      calls = s.calls;
+      faults = s.faults;
+    } };
 
     ghost invariant = { λ s. (s.len ≤ 65536) × (0 < s.piece) };
 }
@@ -36,7 +43,7 @@ impl MemSink {
     /// 0, and those with their number in `failing` fail.
     pub fn new(piece: usize, failing: Vec<usize>) -> MemSink
         requires { 0 < piece }
-        ensures { result ≡ record { written = []; piece = piece; failing = failing.items; calls = 0; faults = 0 } }
+        ensures { result ≡ planned_sink piece failing.items }
     {
         MemSink {
             store: [0; ROOM],
@@ -70,8 +77,8 @@ impl Sink for MemSink {
         ensures failed { result ≡ Put.Failed → Rose self.old.faults self.new.faults }
 
         // Exactly the calls of the plan fail and those that find the store full, and any other takes as much as it can.
-        ensures exact { (result ≡ Put.Failed) ↔ ((length self.old.written ≡ 65536) ⊎ Contains self.old.failing self.old.calls) }
-        ensures most { IfTook result (λ n. n ≡ min (min self.old.piece (length piece.now)) (65536 - length self.old.written)) }
+        ensures exact { (result ≡ Put.Failed) ↔ NextFails self.old }
+        ensures most { IfTook result (λ n. n ≡ bytes_taken self.old piece.now) }
         ensures next { IsNextSink self.old self.new result }
     {
         let call = self.calls;

@@ -1,7 +1,8 @@
 // A source in memory that fails where its plan says.
-ghost use Rattle.std.specs.Prelude.{◌≡◌, ◌<◌, ◌≤◌, ◌↔◌, length, Some, Contains, min};
+ghost use Rattle.std.specs.Prelude.{◌≡◌, ◌<◌, ◌≤◌, ◌↔◌, length, Some, Contains};
 ghost use Rattle.rdx_base.specs.Faults.{Rose};
-ghost use Rattle.rdx_base.specs.Taking.{Takes, IfGot};
+ghost use Rattle.rdx_base.specs.MemSource.{planned_source};
+ghost use Rattle.rdx_base.specs.Taking.{Takes, bytes_given, IfGot};
 
 use crate::{Source, Taken};
 use std::marker::Model;
@@ -23,7 +24,13 @@ impl Model for MemSource {
 
     ghost Value = { PlannedSource };
 
-    ghost view = { λ s. record { left = drop s.at s.bytes.items; piece = s.piece; failing = s.failing.items; calls = s.calls; faults = s.faults } };
+    ghost view = { λ s. record {
+      left = drop s.at s.bytes.items;
+      piece = s.piece;
+      failing = s.failing.items;
+      calls = s.calls;
+      faults = s.faults;
+    } };
 
     ghost invariant = { λ s. (s.at ≤ length s.bytes.items) × (0 < s.piece) };
 }
@@ -33,7 +40,7 @@ impl MemSource {
     /// numbered from 0, and those with their number in `failing` fail.
     pub fn new(bytes: Vec<u8>, piece: usize, failing: Vec<usize>) -> MemSource
         requires { 0 < piece }
-        ensures { result ≡ record { left = bytes.items; piece = piece; failing = failing.items; calls = 0; faults = 0 } }
+        ensures { result ≡ planned_source bytes.items piece failing.items }
     {
         MemSource {
             bytes,
@@ -61,7 +68,7 @@ impl Source for MemSource {
 
         // Exactly the calls of the plan fail, and any other gives as much as it can.
         ensures exact { (result ≡ Taken.Failed) ↔ Contains self.old.failing self.old.calls }
-        ensures most { IfGot result (λ n. n ≡ min (min self.old.piece (length into.new)) (length self.old.left)) }
+        ensures most { IfGot result (λ n. n ≡ bytes_given self.old.piece self.old.left into.new) }
         ensures next { IsNextSource self.old self.new result }
     {
         let call = self.calls;

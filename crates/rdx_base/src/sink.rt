@@ -9,7 +9,8 @@ ghost use Rattle.rdx_base.specs.Putting.{Puts};
 pub enum Put {
     /// That many bytes, at least one.
     Took(usize),
-    /// None, since the sink failed. It counted this fault.
+    /// None, since the sink failed. It counted this fault. A sink that doesn't tell what it holds may
+    /// hold a front of the piece all the same.
     Failed,
 }
 

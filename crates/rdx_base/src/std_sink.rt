@@ -44,7 +44,7 @@ impl<W: Write> Sink for StdSink<W> {
         ensures failed { result ≡ Put.Failed → Rose self.old.faults self.new.faults }
 
         // The writer took these bytes, where those that it holds are known.
-        ensures writer { WriterPuts (W.contents self.old.end) (W.contents self.new.end) piece.now result }
+        ensures writer { WriterPuts W.contents self.old self.new piece.now result }
         ensures counted { self.new.faults ≡ count_after_put self.old.faults result }
     {
         let count = match self.writer.write(piece) {

@@ -44,7 +44,7 @@ impl<R: Read> Source for StdSource<R> {
         ensures failed { result ≡ Taken.Failed → Rose self.old.faults self.new.faults }
 
         // The reader gave these bytes, where those that it has left are known.
-        ensures reader { ReaderTakes (R.remaining self.old.end) (R.remaining self.new.end) into.new result }
+        ensures reader { ReaderTakes R.remaining self.old self.new into.new result }
         ensures counted { self.new.faults ≡ count_after_take self.old.faults result }
     {
         match self.reader.read(into) {

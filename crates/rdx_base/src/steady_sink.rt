@@ -1,6 +1,6 @@
 // A sink in memory that never fails.
-ghost use Rattle.std.specs.Prelude.{◌≡◌, ◌≢◌, ◌<◌, [], true, length, min, take, vec_capacity};
-ghost use Rattle.rdx_base.specs.SteadySink.{KeepsWhatFits, told_bytes};
+ghost use Rattle.std.specs.Prelude.{◌≡◌, ◌≢◌, ◌<◌, [], length, min, take, vec_capacity};
+ghost use Rattle.rdx_base.specs.SteadySink.{KeepsWhatFits, empty_store, told_bytes};
 ghost use Rattle.rdx_base.specs.Putting.{Puts, IfTook};
 
 use crate::{Put, Sink};
@@ -22,9 +22,15 @@ impl Model for SteadySink {
 
     ghost Value = { SteadyStore };
 
-    ghost view = { λ s. record { kept = s.store.items; told = s.is_whole; piece = s.piece; room = s.room } };
+    ghost view = { λ s. record {
+      kept = s.store.items;
+      told = s.is_whole;
+      piece = s.piece;
+      room = s.room;
+    } };
 
-    ghost invariant = { λ s. (0 < s.piece) × (length s.store.items ≤ s.room) × (s.room ≤ vec_capacity s.store) };
+    ghost invariant = { λ s. (0 < s.piece) × (length s.store.items ≤ s.room)
+        × (s.room ≤ vec_capacity s.store) };
 }
 
 impl SteadySink {
@@ -33,7 +39,7 @@ impl SteadySink {
     pub fn new(piece: usize, room: Vec<u8>) -> SteadySink
         requires positive { 0 < piece }
         requires empty { room.items ≡ [] }
-        ensures { result ≡ record { kept = []; told = true; piece = piece; room = vec_capacity room } }
+        ensures { result ≡ empty_store piece (vec_capacity room) }
     {
         SteadySink {
             room: room.capacity(),

@@ -1,6 +1,6 @@
 // A source in memory that never fails.
-ghost use Rattle.std.specs.Prelude.{◌≡◌, ◌≢◌, ◌<◌, length, min, Some};
-ghost use Rattle.rdx_base.specs.Taking.{Takes, IfGot};
+ghost use Rattle.std.specs.Prelude.{◌≡◌, ◌≢◌, ◌<◌, length, Some};
+ghost use Rattle.rdx_base.specs.Taking.{Takes, bytes_given, IfGot};
 
 use crate::{Source, Taken};
 use std::marker::Model;
@@ -47,7 +47,7 @@ impl Source for SteadySource {
         requires { 0 < length into.old }
         ensures taken { Takes (Some self.old.left) (Some self.new.left) into.new result }
         ensures steady { result ≢ Taken.Failed }
-        ensures most { IfGot result (λ n. n ≡ min (min self.old.piece (length into.new)) (length self.old.left)) }
+        ensures most { IfGot result (λ n. n ≡ bytes_given self.old.piece self.old.left into.new) }
         ensures piece { self.new.piece ≡ self.old.piece }
     {
         let rest = &self.bytes[self.at..];

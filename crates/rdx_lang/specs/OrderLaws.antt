@@ -10,7 +10,8 @@ use Rattle.std.specs.Cmp.Lexicographic.{slice_cmp, lists_total, nat_list_cmp_tot
 use Rattle.std.proofs.lemmas.Cmp.{tied_itself}
 use Rattle.rdx_term.specs.Tree.{Tree}
 use Rattle.rdx_term.specs.Order.{tree_cmp}
-use Rattle.rdx_term.specs.OrderLaws.{tree_cmp-total, tree_cmp-equal}
+use Rattle.rdx_term.specs.Model.TotalOrder.{tree_cmp-total}
+use Rattle.rdx_term.proofs.OrderLaws.{tree_cmp-equal}
 use Rattle.rdx_lang.specs.Ascending.{IsBelow, IsAscending}
 use Rattle.rdx_lang.specs.Bindings.{Value, one, Pair, name_cmp}
 use Rattle.rdx_lang.specs.Listing.{IsListing}

@@ -1,6 +1,6 @@
 -- The items of a list pattern are smaller than the pattern, and those of a list than the list.
 use Rattle.std.proofs.Common.{◌≡◌, ℕ, zero, suc, ◌<◌, ◌≤◌, None, List, [], ◌∷◌, length, get_or, map, refl, ap, arith}
-use Rattle.rdx_term.specs.Items.{item_has_fewer_nodes}
+use Rattle.rdx_term.proofs.Items.{item_has_fewer_nodes}
 use Rattle.rdx_term.specs.Tree.{list, tree_nodes, trees_nodes}
 use Rattle.rdx_term.specs.View.{tree_of, trees_of}
 use Rattle.rdx_term.specs.declared.term.Term.{Term}

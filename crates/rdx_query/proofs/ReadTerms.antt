@@ -7,7 +7,8 @@ use Rattle.rdx_sexp.specs.Sexp.{Sexp, Sexps, sexps, leaf, integer, truth, text, 
 use Rattle.rdx_sexp.specs.Sexp.{list as list_datum, symbol as symbol_atom, nil as no_data, cons as more_data}
 use Rattle.rdx_sexp.specs.Size.{sexp_depth, sexps_depth, AreSpelled}
 use Rattle.rdx_term.specs.Tree as tree
-use Rattle.rdx_term.specs.Tree.{Tree, Trees, symbol, nil, cons, tree_depth, trees_depth, tree_nodes, trees_nodes, list_of}
+use Rattle.rdx_term.specs.Tree.{Tree, Trees, symbol, nil, cons, tree_depth, trees_depth, tree_nodes, trees_nodes}
+use Rattle.rdx_term.specs.Building.{list_of}
 use Rattle.rdx_term.specs.View.{tree_of, trees_of}
 use Rattle.rdx_term.specs.declared.term.Term.{Term}
 

@@ -8,7 +8,8 @@ use Rattle.std.specs.Fmt.{signed_decimal}
 use Rattle.rdx_base.specs.declared.place.Place.{Place}
 use Rattle.rdx_base.specs.declared.place.Span.{Span}
 use Rattle.rdx_term.specs.Spelling.{ends_token, is_symbol_quote, begins_with_hash, begins_unsigned, begins_number, is_reserved, is_token, is_symbol_token, is_symbol_spelling, is_name}
-use Rattle.rdx_term.specs.Tree.{Tree, hole, IsSpelled}
+use Rattle.rdx_term.specs.Tree.{Tree, hole}
+use Rattle.rdx_term.specs.Terms.{IsSpelled}
 use Rattle.rdx_term.specs.Tree as tree
 use Rattle.rdx_sexp.specs.Lexeme.{word}
 use Rattle.rdx_sexp.specs.Meaning.{atom_tree}

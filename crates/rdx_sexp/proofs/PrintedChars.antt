@@ -6,7 +6,8 @@ use Rattle.std.specs.List.{list_all}
 use Rattle.std.specs.Fmt.{signed_decimal}
 use Rattle.std.proofs.Math.Utf8.{scalar, scalars, encode, low_scalar}
 use Rattle.rdx_term.specs.Text.{escaped, all_escaped, truth_text, tree_text, trees_text, spaced_text}
-use Rattle.rdx_term.specs.Tree.{Tree, Trees, hole, integer, truth, text, symbol, list, nil, cons, IsSpelled, AreSpelled}
+use Rattle.rdx_term.specs.Tree.{Tree, Trees, hole, integer, truth, text, symbol, list, nil, cons}
+use Rattle.rdx_term.specs.Terms.{IsSpelled, AreSpelled}
 use Rattle.rdx_sexp.proofs.PrintedTests.{if-false, is_ascii, holds_below}
 use Rattle.rdx_sexp.proofs.PrintedIntegers.{IsInteger-signed_decimal, IsInteger-ascii}
 

@@ -3,7 +3,8 @@ use Rattle.std.proofs.Common.{◌≡◌, ◌==◌, ℕ, true, false, List, [], �
 use Rattle.std.proofs.lemmas.Str.{encodes-chars}
 use Rattle.std.specs.Fmt.{signed_decimal}
 use Rattle.rdx_term.specs.Spelling.{begins_with_hash}
-use Rattle.rdx_term.specs.Tree.{Tree, hole, integer, truth, text, symbol, list, IsSpelled}
+use Rattle.rdx_term.specs.Tree.{Tree, hole, integer, truth, text, symbol, list}
+use Rattle.rdx_term.specs.Terms.{IsSpelled}
 use Rattle.rdx_sexp.specs.Begin.{behind, is_line_end, has_lang_line, body}
 use Rattle.rdx_sexp.specs.Text.{at, start}
 use Rattle.rdx_sexp.proofs.PrintedTests.{if-false, false_from_not, or_false}

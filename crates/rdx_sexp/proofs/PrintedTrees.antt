@@ -4,7 +4,9 @@ use Rattle.std.specs.Prelude.{option_map}
 use Rattle.rdx_base.specs.declared.place.Place.{Place}
 use Rattle.rdx_term.specs.Bare.{bare, bare_all}
 use Rattle.rdx_term.specs.Text.{tree_text}
-use Rattle.rdx_term.specs.Tree.{Tree, Trees, hole, integer, truth, text, symbol, list, nil, cons, IsTerm, IsSpelled, AreSpelled, tree_depth, trees_depth, list_of}
+use Rattle.rdx_term.specs.Tree.{Tree, Trees, hole, integer, truth, text, symbol, list, nil, cons, tree_depth, trees_depth}
+use Rattle.rdx_term.specs.Terms.{IsTerm, IsSpelled, AreSpelled}
+use Rattle.rdx_term.specs.Building.{list_of}
 use Rattle.rdx_sexp.specs.declared.token.Bracket.TheVariants.{Round}
 use Rattle.rdx_sexp.specs.Begin.{body}
 use Rattle.rdx_sexp.specs.Grammar.{One, one_leaf, one_list, Many, many_none, many_more, listed}

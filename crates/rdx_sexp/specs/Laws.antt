@@ -2,7 +2,8 @@
 use Rattle.std.specs.Prelude.{◌≡◌, ◌⊎◌, ℕ, List, [], ◌∷◌, Some}
 use Rattle.rdx_term.specs.Bare.{bare}
 use Rattle.rdx_term.specs.Text.{tree_text}
-use Rattle.rdx_term.specs.Tree.{Tree, IsTerm}
+use Rattle.rdx_term.specs.Tree.{Tree}
+use Rattle.rdx_term.specs.Terms.{IsTerm}
 use Rattle.rdx_sexp.specs.declared.fault.ReadRefusal.{ReadRefusal}
 use Rattle.rdx_sexp.specs.Meaning.{meaning}
 use Rattle.rdx_sexp.specs.Reads.{Reads, FirstFault}

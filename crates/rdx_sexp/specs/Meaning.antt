@@ -1,7 +1,8 @@
 -- The term that a datum stands for.
 use Rattle.std.specs.Prelude.{Option, Some, None, option_map, codes, bytes_eq, if◌then◌else◌}
 use Rattle.rdx_term.specs.Tree as tree
-use Rattle.rdx_term.specs.Tree.{Tree, Trees, list_of}
+use Rattle.rdx_term.specs.Tree.{Tree, Trees}
+use Rattle.rdx_term.specs.Building.{list_of}
 use Rattle.rdx_sexp.specs.Sexp.{Atom, integer, truth, text, symbol, keyword, Sexp, Sexps, leaf, list, nil, cons}
 
 -- the symbol `hole` is the hole, and no keyword is a term

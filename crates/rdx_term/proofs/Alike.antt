@@ -5,7 +5,7 @@ use Rattle.std.specs.Cmp.{first_so, second_so, signed_Decides, booleans_Decides}
 use Rattle.std.specs.Cmp.Lexicographic.{bytes_decides}
 use Rattle.rdx_term.specs.Tree.{Tree, hole, integer, truth, text, symbol, list, Trees, nil, cons}
 use Rattle.rdx_term.specs.Bare.{bare, bare_all}
-use Rattle.rdx_term.specs.Alike.{is_alike, are_alike}
+use Rattle.rdx_term.specs.Inside.Alike.{is_alike, are_alike}
 use Rattle.rdx_term.specs.declared.term.Term.{Term}
 use Rattle.rdx_term.specs.View.{tree_of, trees_of}
 

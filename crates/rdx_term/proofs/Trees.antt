@@ -2,7 +2,10 @@
 use Rattle.std.proofs.Common.{◌≡◌, ◌≢◌, ℕ, zero, suc, ◌+◌, ◌≤◌, ◌==◌, Bool, true, false, if◌then◌else◌, ◌⊎◌, inl, inr, Option, Some, None, IsTrue, refl, sym, ap, add-one, arith}
 use mathlib.Core.Bool.{true≢false}
 use Rattle.std.proofs.lemmas.Bool.Decides.{eqb_tells, nat_tests}
-use Rattle.rdx_term.specs.Tree.{Tree, hole, integer, truth, text, symbol, list, Trees, nil, cons, tree_nodes, trees_nodes, tree_holes, trees_holes, is_context, is_context_at, MarkFits, IsMarked, AreMarked, AreSpelled, hole_place, mark_for, list_of, trees_depth, IsTerm}
+use Rattle.rdx_term.specs.Tree.{Tree, hole, integer, truth, text, symbol, list, Trees, nil, cons, tree_nodes, trees_nodes, tree_holes, trees_holes, trees_depth}
+use Rattle.rdx_term.specs.Context.{is_context, is_context_at, MarkFits, IsMarked, AreMarked}
+use Rattle.rdx_term.specs.Terms.{AreSpelled, IsTerm}
+use Rattle.rdx_term.specs.Building.{hole_place, mark_for, list_of}
 
 -- each hole is a node
 mutual
@@ -32,7 +35,7 @@ mutual
   context-holes (list None ts) h = absurd (true≢false (sym h))
   context-holes (list (Some k) ts) h = context_at-holes ts k h
 
-  context_at-holes : (ts : Trees) (k : ℕ) → IsTrue (is_context_at ts k) → 1 ≤ trees_holes ts
+  pub context_at-holes : (ts : Trees) (k : ℕ) → IsTrue (is_context_at ts k) → 1 ≤ trees_holes ts
   context_at-holes nil k h = absurd (true≢false (sym h))
   context_at-holes (cons t ts) zero h = let in_first : 1 ≤ tree_holes t = context-holes t h in omega arith
   context_at-holes (cons t ts) (suc k) h = let in_others : 1 ≤ trees_holes ts = context_at-holes ts k h in omega arith

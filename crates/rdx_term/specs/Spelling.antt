@@ -6,17 +6,17 @@
 -- reference manual for the hole.
 use Rattle.std.specs.Prelude.{ℕ, ◌==◌, Bool, false, ◌||◌, ◌&&◌, not, List, [], ◌∷◌, length, codes, nat_eq}
 use Rattle.std.specs.Char.{is_whitespace, is_ascii_digit}
-use Rattle.std.specs.Str.{chars}
+use Rattle.std.specs.Str.{byte, chars}
 use Rattle.std.specs.List.{list_any}
 use Rattle.std.specs.Cmp.Lexicographic.{pointwise}
 
 -- the round, square and curly brackets
 abbrev pub is_bracket : ℕ → Bool
-is_bracket c = c == 40 || c == 41 || c == 91 || c == 93 || c == 123 || c == 125
+is_bracket c = c == byte "(" || c == byte ")" || c == byte "[" || c == byte "]" || c == byte "{" || c == byte "}"
 
 -- one of `"`, `,`, `'`, `` ` `` and `;`
 abbrev pub is_quotation : ℕ → Bool
-is_quotation c = c == 34 || c == 44 || c == 39 || c == 96 || c == 59
+is_quotation c = c == byte "\"" || c == byte "," || c == byte "'" || c == byte "`" || c == byte ";"
 
 -- a character before which a token ends
 abbrev pub ends_token : ℕ → Bool
@@ -28,12 +28,12 @@ is_token bs = not (length bs == 0) && not (list_any ends_token (chars bs))
 
 -- `|` or `\`, with which Racket quotes other characters in a symbol
 abbrev pub is_symbol_quote : ℕ → Bool
-is_symbol_quote b = b == 124 || b == 92
+is_symbol_quote b = b == byte "|" || b == byte "\\"
 
 -- `#` stands first
 abbrev pub begins_with_hash : List ℕ → Bool
 begins_with_hash [] = false
-begins_with_hash (b ∷ bs) = b == 35
+begins_with_hash (b ∷ bs) = b == byte "#"
 
 -- a digit, `0` to `9`, stands first
 abbrev pub begins_with_digit : List ℕ → Bool
@@ -43,12 +43,12 @@ begins_with_digit (b ∷ bs) = is_ascii_digit b
 -- a digit stands first, or a point and then a digit
 abbrev pub begins_unsigned : List ℕ → Bool
 begins_unsigned [] = false
-begins_unsigned (b ∷ bs) = is_ascii_digit b || (b == 46 && begins_with_digit bs)
+begins_unsigned (b ∷ bs) = is_ascii_digit b || (b == byte "." && begins_with_digit bs)
 
 -- The same, with or without a sign before it: an integer or what is too much like a number to be a symbol.
 abbrev pub begins_number : List ℕ → Bool
 begins_number [] = false
-begins_number (b ∷ bs) = begins_unsigned (b ∷ bs) || ((b == 43 || b == 45) && begins_unsigned bs)
+begins_number (b ∷ bs) = begins_unsigned (b ∷ bs) || ((b == byte "+" || b == byte "-") && begins_unsigned bs)
 
 -- the single point, and the numbers that are written in letters
 abbrev pub is_reserved : List ℕ → Bool

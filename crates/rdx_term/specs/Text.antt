@@ -1,17 +1,27 @@
 -- The one printed spelling of a tree.
 use Rattle.std.specs.Prelude.{ℕ, ◌==◌, Bool, true, false, List, [], ◌∷◌, ◌++◌, codes, if◌then◌else◌}
 use Rattle.std.specs.Fmt.{signed_decimal}
+use Rattle.std.specs.Str.{byte}
 use Rattle.rdx_term.specs.Tree.{Tree, hole, integer, truth, text, symbol, list, Trees, nil, cons}
 
--- one byte of a string: `"` (34), `\` (92), LF (10), TAB (9) and CR (13) as escapes, and all else as it is
+-- one byte of a string: `"`, `\`, LF, TAB and CR as escapes, and all else as it is
 abbrev pub escaped : ℕ → List ℕ
 escaped b =
-    if b == 34 then codes "\\\"" else if b == 92 then codes "\\\\" else if b == 10 then codes "\\n" else if b == 9 then codes "\\t" else if b == 13 then codes "\\r" else b ∷ []
+    if b == byte "\"" then codes "\\\""
+    else if b == byte "\\" then codes "\\\\"
+    else if b == byte "\n" then codes "\\n"
+    else if b == byte "\t" then codes "\\t"
+    else if b == byte "\r" then codes "\\r"
+    else b ∷ []
 
 -- the bytes of a string, each so
 abbrev pub all_escaped : List ℕ → List ℕ
 all_escaped [] = []
 all_escaped (b ∷ bs) = escaped b ++ all_escaped bs
+
+-- a string, its bytes escaped, between quotation marks
+abbrev pub string_text : List ℕ → List ℕ
+string_text s = codes "\"" ++ all_escaped s ++ codes "\""
 
 -- true as `#t`, false as `#f`
 abbrev pub truth_text : Bool → List ℕ
@@ -25,7 +35,7 @@ abbrev mutual
   tree_text hole = codes "hole"
   tree_text (integer n) = signed_decimal n
   tree_text (truth b) = truth_text b
-  tree_text (text s) = codes "\"" ++ all_escaped s ++ codes "\""
+  tree_text (text s) = string_text s
   tree_text (symbol s) = s
   tree_text (list m ts) = codes "(" ++ trees_text ts ++ codes ")"
 

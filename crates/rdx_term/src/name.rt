@@ -1,5 +1,6 @@
 // Names: the texts of symbols.
-ghost use Rattle.std.specs.Prelude.{◌≡◌, ◌↔◌, IfOk, IfSome, IsNone, true, false};
+ghost use Rattle.std.specs.Prelude.{◌≡◌, ◌↔◌, IfOk, IfSome, IsNone, IsTrue};
+ghost use Rattle.std.specs.Bool.{IsFalse};
 ghost use Rattle.std.specs.Rc.{rc_str_bytes};
 ghost use Rattle.std.specs.Str.{IsUtf8};
 ghost use Rattle.rdx_term.specs.Spelling.{is_name};
@@ -16,7 +17,7 @@ pub struct Name {
 }
 
 impl Model for Name {
-    ghost use Rattle.std.specs.Prelude.{◌≡◌, List, ℕ, true};
+    ghost use Rattle.std.specs.Prelude.{List, ℕ, IsTrue};
     ghost use Rattle.std.specs.Rc.{rc_str_bytes};
     ghost use Rattle.rdx_term.specs.Spelling.{is_name};
 
@@ -24,14 +25,14 @@ impl Model for Name {
 
     ghost view = { λ a. rc_str_bytes a.text };
 
-    ghost invariant = { λ a. is_name (rc_str_bytes a.text) ≡ true };
+    ghost invariant = { λ a. IsTrue (is_name (rc_str_bytes a.text)) };
 }
 
 impl Name {
     /// The name with this text, or `None` where the text is no name.
     pub fn new(text: RcStr) -> Option<Name>
         ensures some { IfSome result (λ name. name ≡ rc_str_bytes text) }
-        ensures none { IsNone result ↔ (is_name (rc_str_bytes text) ≡ false) }
+        ensures none { IsNone result ↔ IsFalse (is_name (rc_str_bytes text)) }
     {
         if is_name(text.as_str()) {
             Some(Name { text })
@@ -43,7 +44,7 @@ impl Name {
     /// The text of the name.
     pub fn text(&self) -> &str
         ensures value { result.now ≡ self.now }
-        ensures valid { is_name self.now ≡ true }
+        ensures valid { IsTrue (is_name self.now) }
         ensures utf8 { IsUtf8 self.now }
     {
         self.text.as_str()

@@ -1,9 +1,9 @@
 //! What prints the atoms of terms, for other spellings that have them too.
 //!
 //! Each function appends to `out`. Where memory is wanting it may have appended a part; what stood there before always stays.
-ghost use Rattle.std.specs.Prelude.{◌≡◌, ◌++◌, OnOk, length, take, codes};
+ghost use Rattle.std.specs.Prelude.{◌≡◌, ◌++◌, OnOk, length, take};
 ghost use Rattle.std.specs.Fmt.{signed_decimal};
-ghost use Rattle.rdx_term.specs.Text.{escaped, all_escaped};
+ghost use Rattle.rdx_term.specs.Text.{escaped, all_escaped, string_text};
 
 use crate::error::NoMemory;
 use itoa::Buffer;
@@ -28,7 +28,7 @@ pub fn print_integer(n: i128, out: &mut Vec<u8>) -> Result<(), NoMemory>
 
 /// Appends a string to `out`, between quotation marks, with `"`, `\`, LF, TAB and CR as escapes.
 pub fn print_string(text: &[u8], out: &mut Vec<u8>) -> Result<(), NoMemory>
-    ensures ok { OnOk result (out.new.items ≡ out.old.items ++ (codes "\"" ++ all_escaped text.now ++ codes "\"")) }
+    ensures ok { OnOk result (out.new.items ≡ out.old.items ++ string_text text.now) }
     ensures kept { take (length out.old.items) out.new.items ≡ out.old.items }
 {
     out.push(b'"')?;

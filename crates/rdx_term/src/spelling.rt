@@ -3,18 +3,7 @@
 ghost use Rattle.std.specs.Prelude.{◌≡◌};
 ghost use Rattle.std.specs.List.{list_any};
 ghost use Rattle.std.specs.Str.{chars};
-ghost use Rattle.rdx_term.specs.Spelling.{
-  ends_token,
-  is_token,
-  is_symbol_quote,
-  begins_with_hash,
-  begins_with_digit,
-  begins_unsigned,
-  begins_number,
-  is_reserved,
-  is_symbol_token,
-  is_name,
-};
+ghost use Rattle.rdx_term.specs.Spelling.{ends_token, is_token, is_symbol_quote, begins_with_hash, begins_with_digit, begins_unsigned, begins_number, is_reserved, is_symbol_token, is_name};
 
 /// A character before which a token ends: white space, a bracket, or one of `"`, `,`, `'`, `` ` `` and `;`.
 pub fn ends_token(c: char) -> bool

@@ -1,6 +1,8 @@
 // Terms, and the shared lists in them.
 ghost use Rattle.std.specs.Prelude.{◌≡◌, ◌≤◌, IfOk, map};
-ghost use Rattle.rdx_term.specs.Tree.{tree_depth, tree_nodes, tree_holes, listing_tree, is_context, IsTerm};
+ghost use Rattle.rdx_term.specs.Tree.{tree_depth, tree_nodes, tree_holes, contents_tree};
+ghost use Rattle.rdx_term.specs.Context.{is_context};
+ghost use Rattle.rdx_term.specs.Terms.{IsTerm};
 ghost use Rattle.rdx_term.specs.View.{tree_of};
 
 use crate::error::NoMemory;
@@ -33,7 +35,7 @@ pub enum Term {
     List(Rc<Node>),
 }
 
-/// What a list holds: its items, and the place of the marked one if it has a mark. In contracts it is a `Listing` of trees.
+/// What a list holds: its items, and the place of the marked one if it has a mark. In contracts it is its `Contents`.
 ///
 /// Its depth, its nodes and its holes are kept, so that to ask for one takes no time.
 #[cycle(term)]
@@ -48,24 +50,24 @@ pub struct Node {
 
 impl Model for Node {
     ghost use Rattle.std.specs.Prelude.{map};
-    ghost use Rattle.rdx_term.specs.Tree.{Listing, listing_tree, tree_nodes};
-    ghost use Rattle.rdx_term.specs.Tokens.{coded_listing};
+    ghost use Rattle.rdx_term.specs.Tree.{Contents, contents_tree, tree_nodes};
+    ghost use Rattle.rdx_term.specs.Model.Tokens.{coded_contents};
 
-    ghost Value = { Listing };
+    ghost Value = { Contents };
 
-    ghost coded = { coded_listing };
+    ghost coded = { coded_contents };
 
     ghost use Rattle.rdx_term.specs.View.{tree_of};
-    ghost use Rattle.rdx_term.specs.Measures.{IsMeasured};
+    ghost use Rattle.rdx_term.specs.Model.Measures.{IsMeasured};
 
     ghost view = { λ a. record { mark = a.mark; items = map tree_of a.items.items } };
 
     ghost invariant = { IsMeasured };
 
-    ghost size = { λ l. tree_nodes (listing_tree l) };
+    ghost size = { λ l. tree_nodes (contents_tree l) };
 
     ghost use Rattle.std.proofs.Common.{arith};
-    ghost use Rattle.rdx_term.specs.Weights.{most_weight_le-nodes};
+    ghost use Rattle.rdx_term.specs.Model.Weights.{most_weight_le-nodes};
 
     ghost size_decreases = { λ a h. omega (arith, most_weight_le-nodes a.items.items) };
 }
@@ -74,7 +76,7 @@ impl Node {
     /// The items, in order.
     pub fn items(&self) -> &[Term]
         ensures value { map tree_of result.now ≡ self.now.items }
-        ensures valid { IsTerm (listing_tree self.now) }
+        ensures valid { IsTerm (contents_tree self.now) }
     {
         self.items.as_slice()
     }
@@ -82,45 +84,68 @@ impl Node {
     /// The place of the marked item, from 0.
     pub fn mark(&self) -> Option<usize>
         ensures value { result ≡ self.now.mark }
-        ensures valid { IsTerm (listing_tree self.now) }
+        ensures valid { IsTerm (contents_tree self.now) }
     {
         self.mark
     }
 
     /// One more than the depth of the deepest item, and 1 where there is none.
     pub fn depth(&self) -> u32
-        ensures value { result ≡ tree_depth (listing_tree self.now) }
-        ensures valid { IsTerm (listing_tree self.now) }
+        ensures value { result ≡ tree_depth (contents_tree self.now) }
+        ensures valid { IsTerm (contents_tree self.now) }
     {
         self.depth
     }
 
     /// One more than the nodes of the items together. A shared part counts each time that it stands in the list.
     pub fn nodes(&self) -> u32
-        ensures value { result ≡ tree_nodes (listing_tree self.now) }
-        ensures valid { IsTerm (listing_tree self.now) }
+        ensures value { result ≡ tree_nodes (contents_tree self.now) }
+        ensures valid { IsTerm (contents_tree self.now) }
     {
         self.nodes
     }
 
     /// How many holes there are in the items, on the path of marks or beside it.
     pub fn holes(&self) -> u32
-        ensures value { result ≡ tree_holes (listing_tree self.now) }
-        ensures valid { IsTerm (listing_tree self.now) }
+        ensures value { result ≡ tree_holes (contents_tree self.now) }
+        ensures valid { IsTerm (contents_tree self.now) }
     {
         self.holes
     }
 }
 
 impl Term {
-    /// Whether the term is the hole or a list with a mark.
-    pub fn is_context(&self) -> bool
-        ensures { result ≡ is_context (tree_of self.now) }
+    // Reads what the term holds, after which it is known to be well formed. Of an atom this is known once it was read.
+    fn read(&self)
+        ensures { IsTerm (tree_of self.now) }
     {
         match self {
+            Term::Hole | Term::Bool(_) => {}
+            Term::Int(n) => {
+                let _value = *n;
+            }
+            Term::Str(text) => {
+                let _text = text.as_str();
+            }
+            Term::Sym(name) => {
+                let _text = name.text();
+            }
+            Term::List(node) => {
+                let _mark = node.mark();
+            }
+        }
+    }
+
+    /// Whether the term is the hole or a list with a mark.
+    pub fn is_context(&self) -> bool
+        ensures value { result ≡ is_context (tree_of self.now) }
+        ensures valid { IsTerm (tree_of self.now) }
+    {
+        self.read();
+        match self {
             Term::Hole => true,
+            Term::Int(_) | Term::Bool(_) | Term::Str(_) | Term::Sym(_) => false,
             Term::List(node) => node.mark().is_some(),
-            _ => false,
         }
     }
 
@@ -129,21 +154,9 @@ impl Term {
         ensures value { result ≡ tree_depth (tree_of self.now) }
         ensures valid { IsTerm (tree_of self.now) }
     {
+        self.read();
         match self {
-            Term::Hole | Term::Bool(_) => 0,
-            // What the clause `valid` says of an atom is known once the atom is read.
-            Term::Int(n) => {
-                let _value = *n;
-                0
-            }
-            Term::Str(text) => {
-                let _text = text.as_str();
-                0
-            }
-            Term::Sym(name) => {
-                let _text = name.text();
-                0
-            }
+            Term::Hole | Term::Int(_) | Term::Bool(_) | Term::Str(_) | Term::Sym(_) => 0,
             Term::List(node) => node.depth(),
         }
     }
@@ -152,21 +165,25 @@ impl Term {
     pub fn nodes(&self) -> u32
         ensures value { result ≡ tree_nodes (tree_of self.now) }
         ensures small { result ≤ 4_000_000 }
+        ensures valid { IsTerm (tree_of self.now) }
     {
+        self.read();
         match self {
+            Term::Hole | Term::Int(_) | Term::Bool(_) | Term::Str(_) | Term::Sym(_) => 1,
             Term::List(node) => node.nodes(),
-            _ => 1,
         }
     }
 
     /// How many holes there are in the term, on the path of marks or beside it.
     pub fn holes(&self) -> u32
-        ensures { result ≡ tree_holes (tree_of self.now) }
+        ensures value { result ≡ tree_holes (tree_of self.now) }
+        ensures valid { IsTerm (tree_of self.now) }
     {
+        self.read();
         match self {
             Term::Hole => 1,
+            Term::Int(_) | Term::Bool(_) | Term::Str(_) | Term::Sym(_) => 0,
             Term::List(node) => node.holes(),
-            _ => 0,
         }
     }
 

@@ -1,7 +1,7 @@
 // Equality with the marks forgotten.
 ghost use Rattle.std.specs.Prelude.{◌≡◌, ◌↔◌, IsTrue};
-ghost use Rattle.rdx_term.specs.Tree.{listing_tree};
-ghost use Rattle.rdx_term.specs.Alike.{is_alike};
+ghost use Rattle.rdx_term.specs.Tree.{contents_tree};
+ghost use Rattle.rdx_term.specs.Inside.Alike.{is_alike};
 ghost use Rattle.rdx_term.specs.Bare.{bare};
 ghost use Rattle.rdx_term.specs.View.{tree_of};
 
@@ -34,7 +34,7 @@ impl Term {
 impl Node {
     #[cycle(alike)]
     fn is_alike(&self, other: &Node) -> bool
-        ensures { result ≡ is_alike (listing_tree self.now) (listing_tree other.now) }
+        ensures { result ≡ is_alike (contents_tree self.now) (contents_tree other.now) }
     {
         if self.items.len() != other.items.len() {
             return false;

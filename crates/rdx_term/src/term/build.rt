@@ -1,20 +1,10 @@
 // Lists from their items.
 ghost use Rattle.std.specs.Prelude.{◌≡◌, ◌↔◌, Some, IsTrue, IfOk, IsErrOf, OnErr};
-ghost use Rattle.rdx_term.specs.Tree.{
-  tree_depth,
-  tree_nodes,
-  tree_holes,
-  trees_holes,
-  list as list_tree,
-  list_of,
-  mark_for,
-  hole_place,
-  is_context_at,
-  IsTerm,
-  IsTooDeep,
-  IsTooLarge,
-};
-ghost use Rattle.rdx_term.specs.View.{tree_of, trees_of};
+ghost use Rattle.rdx_term.specs.Tree.{tree_depth, tree_nodes, tree_holes, trees_holes, list as list_tree};
+ghost use Rattle.rdx_term.specs.Building.{list_of, mark_for, hole_place};
+ghost use Rattle.rdx_term.specs.Context.{is_context_at};
+ghost use Rattle.rdx_term.specs.Terms.{IsTerm, IsTooDeep, IsTooLarge};
+ghost use Rattle.rdx_term.specs.View.{tree_of, trees_of, built_list, marked_list};
 
 use crate::error::Build;
 use crate::term::measures::{Measures, measures_of};
@@ -79,9 +69,9 @@ fn node(
 
 /// The list of these items. It is marked exactly where it contains exactly one hole, at the item that has it.
 pub fn list(alloc: Global, items: Vec<Term>) -> Result<Term, Build>
-    ensures ok { IfOk result (λ t. tree_of t ≡ list_of (trees_of items.items)) }
-    ensures too_deep { IsErrOf result Build.TooDeep ↔ IsTooDeep (list_of (trees_of items.items)) }
-    ensures too_large { IsErrOf result Build.TooLarge ↔ IsTooLarge (list_of (trees_of items.items)) }
+    ensures ok { IfOk result (λ t. tree_of t ≡ built_list items.items) }
+    ensures too_deep { IsErrOf result Build.TooDeep ↔ IsTooDeep (built_list items.items) }
+    ensures too_large { IsErrOf result Build.TooLarge ↔ IsTooLarge (built_list items.items) }
 {
     let measures = measures_of(&items)?;
     let mark = mark_at_one_hole(&items, measures.holes);
@@ -91,9 +81,9 @@ pub fn list(alloc: Global, items: Vec<Term>) -> Result<Term, Build>
 /// The list of these items with its mark at item `k`, from 0, which has to be a context.
 pub fn marked_list(alloc: Global, items: Vec<Term>, k: usize) -> Result<Term, Build>
     requires { IsTrue (is_context_at (trees_of items.items) k) }
-    ensures ok { IfOk result (λ t. tree_of t ≡ list_tree (Some k) (trees_of items.items)) }
-    ensures too_deep { IsErrOf result Build.TooDeep ↔ IsTooDeep (list_tree (Some k) (trees_of items.items)) }
-    ensures too_large { IsErrOf result Build.TooLarge ↔ IsTooLarge (list_tree (Some k) (trees_of items.items)) }
+    ensures ok { IfOk result (λ t. tree_of t ≡ marked_list k items.items) }
+    ensures too_deep { IsErrOf result Build.TooDeep ↔ IsTooDeep (marked_list k items.items) }
+    ensures too_large { IsErrOf result Build.TooLarge ↔ IsTooLarge (marked_list k items.items) }
 {
     let measures = measures_of(&items)?;
     node(alloc, items, Some(k), measures)

@@ -1,19 +1,9 @@
 // The depth, the nodes and the holes of a list, from its items.
 ghost use Rattle.std.specs.Prelude.{◌≡◌, ◌↔◌, ◌<◌, ◌≤◌, ◌+◌, IfOk, IfSome, IsNone, IsErrOf};
-ghost use Rattle.rdx_term.specs.Tree.{
-  tree_depth,
-  trees_depth,
-  tree_nodes,
-  trees_nodes,
-  tree_holes,
-  trees_holes,
-  list_of,
-  AreMarked,
-  AreSpelled,
-  IsTooDeep,
-  IsTooLarge,
-};
-ghost use Rattle.rdx_term.specs.View.{trees_of};
+ghost use Rattle.rdx_term.specs.Tree.{tree_depth, trees_depth, tree_nodes, trees_nodes, tree_holes, trees_holes};
+ghost use Rattle.rdx_term.specs.Context.{AreMarked};
+ghost use Rattle.rdx_term.specs.Terms.{AreSpelled, IsTooDeep, IsTooLarge};
+ghost use Rattle.rdx_term.specs.View.{trees_of, built_list};
 
 use crate::error::Build;
 use crate::term::Term;
@@ -74,14 +64,14 @@ fn items_holes(items: &[Term]) -> u32
 
 // The measures of the list of these items, if it is within the limits; its mark does not count.
 pub fn measures_of(items: &[Term]) -> Result<Measures, Build>
-    ensures depth { IfOk result (λ m. m.depth ≡ tree_depth (list_of (trees_of items.now))) }
-    ensures nodes { IfOk result (λ m. m.nodes ≡ tree_nodes (list_of (trees_of items.now))) }
-    ensures holes { IfOk result (λ m. m.holes ≡ tree_holes (list_of (trees_of items.now))) }
+    ensures depth { IfOk result (λ m. m.depth ≡ tree_depth (built_list items.now)) }
+    ensures nodes { IfOk result (λ m. m.nodes ≡ tree_nodes (built_list items.now)) }
+    ensures holes { IfOk result (λ m. m.holes ≡ tree_holes (built_list items.now)) }
     ensures within { IfOk result (λ m. (m.depth ≤ 500) × (m.nodes ≤ 4_000_000)) }
     ensures marked { AreMarked (trees_of items.now) }
     ensures spelled { AreSpelled (trees_of items.now) }
-    ensures too_deep { IsErrOf result Build.TooDeep ↔ IsTooDeep (list_of (trees_of items.now)) }
-    ensures too_large { IsErrOf result Build.TooLarge ↔ IsTooLarge (list_of (trees_of items.now)) }
+    ensures too_deep { IsErrOf result Build.TooDeep ↔ IsTooDeep (built_list items.now) }
+    ensures too_large { IsErrOf result Build.TooLarge ↔ IsTooLarge (built_list items.now) }
 {
     let depth = items_depth(items) + 1;
     if depth > MAX_DEPTH {

@@ -1,6 +1,6 @@
 // The order of terms, and equality with marks.
 ghost use Rattle.std.specs.Prelude.{◌≡◌, ◌↔◌, IsTrue};
-ghost use Rattle.rdx_term.specs.Tree.{listing_tree};
+ghost use Rattle.rdx_term.specs.Tree.{contents_tree};
 ghost use Rattle.rdx_term.specs.Order.{kind, tree_cmp};
 ghost use Rattle.rdx_term.specs.View.{tree_of};
 
@@ -50,7 +50,7 @@ impl Term {
 impl Node {
     #[cycle(compare)]
     fn compare(&self, other: &Node) -> Ordering
-        ensures { result ≡ tree_cmp (listing_tree self.now) (listing_tree other.now) }
+        ensures { result ≡ tree_cmp (contents_tree self.now) (contents_tree other.now) }
     {
         let shorter = self.items.len().min(other.items.len());
         for i in 0..shorter {
@@ -70,7 +70,7 @@ impl PartialEq for Term {
     ghost use Rattle.std.specs.Ordering.{on, eq_by_cmp};
     ghost use Rattle.std.specs.Cmp.{partial_equiv_from_equiv, on_equiv, eq_by_cmp_equiv};
     ghost use Rattle.rdx_term.specs.Order.{tree_cmp};
-    ghost use Rattle.rdx_term.specs.OrderLaws.{tree_cmp-total};
+    ghost use Rattle.rdx_term.specs.Model.TotalOrder.{tree_cmp-total};
     ghost use Rattle.rdx_term.specs.View.{tree_of};
 
     ghost eq = { on tree_of (eq_by_cmp tree_cmp) };
@@ -84,7 +84,7 @@ impl PartialEq for Term {
 
 impl Eq for Term {
     ghost use Rattle.std.specs.Cmp.{on_equiv, eq_by_cmp_equiv};
-    ghost use Rattle.rdx_term.specs.OrderLaws.{tree_cmp-total};
+    ghost use Rattle.rdx_term.specs.Model.TotalOrder.{tree_cmp-total};
     ghost use Rattle.rdx_term.specs.View.{tree_of};
 
     ghost laws = { on_equiv tree_of (eq_by_cmp_equiv tree_cmp-total) };
@@ -94,7 +94,7 @@ impl PartialOrd for Term {
     ghost use Rattle.std.specs.Ordering.{on, as_partial_cmp};
     ghost use Rattle.std.specs.Cmp.{on_po, partial_order_from_total};
     ghost use Rattle.rdx_term.specs.Order.{tree_cmp};
-    ghost use Rattle.rdx_term.specs.OrderLaws.{tree_cmp-total};
+    ghost use Rattle.rdx_term.specs.Model.TotalOrder.{tree_cmp-total};
     ghost use Rattle.rdx_term.specs.View.{tree_of};
 
     ghost partial_cmp = { on tree_of (as_partial_cmp tree_cmp) };
@@ -111,7 +111,7 @@ impl Ord for Term {
     ghost use Rattle.std.specs.Ordering.{on};
     ghost use Rattle.std.specs.Cmp.{on_total};
     ghost use Rattle.rdx_term.specs.Order.{tree_cmp};
-    ghost use Rattle.rdx_term.specs.OrderLaws.{tree_cmp-total};
+    ghost use Rattle.rdx_term.specs.Model.TotalOrder.{tree_cmp-total};
     ghost use Rattle.rdx_term.specs.View.{tree_of};
 
     ghost cmp = { on tree_of tree_cmp };

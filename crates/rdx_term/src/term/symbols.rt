@@ -1,6 +1,6 @@
 // The symbols in a term.
 ghost use Rattle.std.specs.Prelude.{◌≡◌};
-ghost use Rattle.rdx_term.specs.Tree.{listing_tree};
+ghost use Rattle.rdx_term.specs.Tree.{contents_tree};
 ghost use Rattle.rdx_term.specs.Symbols.{has_symbol};
 ghost use Rattle.rdx_term.specs.View.{tree_of};
 
@@ -16,7 +16,7 @@ impl Term {
         match self {
             Term::Sym(symbol) => symbol.text() == name.text(),
             Term::List(node) => node.has_symbol(name),
-            _ => false,
+            Term::Hole | Term::Int(_) | Term::Bool(_) | Term::Str(_) => false,
         }
     }
 }
@@ -24,7 +24,7 @@ impl Term {
 impl Node {
     #[cycle(symbols)]
     fn has_symbol(&self, name: &Name) -> bool
-        ensures { result ≡ has_symbol name.now (listing_tree self.now) }
+        ensures { result ≡ has_symbol name.now (contents_tree self.now) }
     {
         for item in &self.items {
             if item.has_symbol(name) {

@@ -1,6 +1,6 @@
 // The printed spelling of terms.
 ghost use Rattle.std.specs.Prelude.{◌≡◌, ◌++◌, OnOk, OnErr, length, take};
-ghost use Rattle.rdx_term.specs.Tree.{listing_tree};
+ghost use Rattle.rdx_term.specs.Tree.{contents_tree};
 ghost use Rattle.rdx_term.specs.Text.{tree_text, trees_text};
 ghost use Rattle.rdx_term.specs.View.{tree_of, trees_of};
 
@@ -44,7 +44,8 @@ impl Term {
 impl Node {
     #[cycle(print)]
     fn print(&self, out: &mut Vec<u8>) -> Result<(), NoMemory>
-        ensures ok { OnOk result (out.new.items ≡ out.old.items ++ tree_text (listing_tree self.now)) }
+        ensures ok { OnOk result (out.new.items ≡ out.old.items
+            ++ tree_text (contents_tree self.now)) }
         ensures kept { take (length out.old.items) out.new.items ≡ out.old.items }
     {
         out.push(b'(')?;

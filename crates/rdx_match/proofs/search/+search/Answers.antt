@@ -1,7 +1,7 @@
 use Rattle.std.proofs.Common.{arith, ◌≡◌, ℕ, ◌+◌, ◌-◌, List, ◌∷◌, length, drop, map, refl, ap, sym, ◌∙◌, subst}
 use Rattle.std.proofs.lemmas.Grind.{common_steps}
 use Rattle.std.proofs.lemmas.Result.{IfOk-weaker}
-use Rattle.rdx_term.specs.Tree.{Tree, Trees, list, trees, Listing}
+use Rattle.rdx_term.specs.Tree.{Tree, Trees, list, trees, Contents}
 use Rattle.rdx_term.specs.View.{tree_of, trees_of}
 use Rattle.rdx_lang.specs.Bindings.{Binding}
 use Rattle.rdx_lang.specs.Checked.{language_in, ranks_in}
@@ -154,7 +154,7 @@ matches-returns-in-List t c =
     let ps : Items = items_of (map slot_of c.in-Seq.items.items) in
     let ts : Trees = trees_of c.items.result.now in
     let f : tree_of c.args.t.now ≡ list c.in-List.node.value.mark ts =
-    ap tree_of c.in-List.is ∙ ap (λ (us : List Tree). list c.in-List.node.value.mark (trees us)) (ap (λ (l : Listing). l.items) (sym c.deref-in-List-2.ensures) ∙ sym c.items.ensures.value) in
+    ap tree_of c.in-List.is ∙ ap (λ (us : List Tree). list c.in-List.node.value.mark (trees us)) (ap (λ (l : Contents). l.items) (sym c.deref-in-List-2.ensures) ∙ sym c.items.ensures.value) in
     IfOk-weaker c.match_items.result _ _ (λ v l.
     let m : IsListing binding_cmp (bindings_of v.items) (MatchItems L ps ts) = rw c.deref-in-List.ensures.value at l in
     subst (λ p. Matches L p (tree_of c.args.t.now) (bindings_of v.items)) (sym e)

@@ -1,6 +1,6 @@
 use Rattle.std.proofs.Common.{◌≡◌, ◌≤◌, ◌+◌, ◌*◌, List, [], ◌∷◌, ◌++◌, length, take, rules, arith}
 use denote.Param.Weighed.{most}
-use Rattle.rdx_term.specs.Kept.{kept_over}
+use Rattle.rdx_term.proofs.Kept.{kept_over}
 use Rattle.rdx_sexp.specs.Sexp.{Sexp, sexps, sexps_nodes}
 use Rattle.rdx_sexp.specs.declared.datum.Datum.TheDeep.{size-Datum as weight}
 use Rattle.rdx_sexp.proofs.print.+print.Goals as goal

@@ -1,4 +1,5 @@
-use Rattle.rdx_term.specs.OrderLaws.{tree_cmp-total, tree_cmp-equal, tree_cmp-itself}
+use Rattle.rdx_term.specs.Model.TotalOrder.{tree_cmp-total}
+use Rattle.rdx_term.proofs.OrderLaws.{tree_cmp-equal, tree_cmp-itself}
 use Rattle.rdx_term.proofs.laws.order_of_terms.Goals as goal
 
 pub returns-clause-total : goal.returns-clause-total

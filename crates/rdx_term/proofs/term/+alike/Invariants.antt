@@ -1,5 +1,5 @@
 use Rattle.std.proofs.Common.{◌≡◌, drop}
-use Rattle.rdx_term.specs.Alike.{are_alike}
+use Rattle.rdx_term.specs.Inside.Alike.{are_alike}
 use Rattle.rdx_term.specs.View.{trees_of}
 use Rattle.rdx_term.proofs.term.+alike.Given as goal
 

@@ -1,5 +1,5 @@
 use Rattle.std.proofs.Common.{◌≡◌, [], ◌∷◌, ◌++◌, length, take, rules}
-use Rattle.rdx_term.specs.Kept.{kept_over}
+use Rattle.rdx_term.proofs.Kept.{kept_over}
 use Rattle.rdx_term.proofs.term.+print.Goals as goal
 
 pub text::print_items-returns-in_err-print-2-clause-kept : goal.text::print_items-returns-in_err-print-2-clause-kept

@@ -1,5 +1,5 @@
 use Rattle.std.proofs.Common.{◌≡◌, ◌+◌, drop}
-use Rattle.rdx_term.specs.Tree.{hole_place}
+use Rattle.rdx_term.specs.Building.{hole_place}
 use Rattle.rdx_term.specs.View.{trees_of}
 use Rattle.rdx_term.proofs.term.build.first_with_hole.Given as goal
 

@@ -1,5 +1,7 @@
 use Rattle.std.proofs.Common.{◌≡◌, ◌≤◌, drop, max}
-use Rattle.rdx_term.specs.Tree.{trees_depth, AreMarked, AreSpelled}
+use Rattle.rdx_term.specs.Tree.{trees_depth}
+use Rattle.rdx_term.specs.Context.{AreMarked}
+use Rattle.rdx_term.specs.Terms.{AreSpelled}
 use Rattle.rdx_term.specs.View.{trees_of}
 use Rattle.rdx_term.proofs.term.measures.items_depth.Given as goal
 

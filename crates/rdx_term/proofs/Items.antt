@@ -1,10 +1,14 @@
--- The items of a list: what recursions over them and builders of terms need, in this crate and above it.
-use Rattle.std.specs.Prelude.{◌≡◌, ℕ, zero, suc, ◌<◌, ◌≤◌, IsTrue, List, [], ◌∷◌, length, map}
-use Rattle.std.proofs.Common.{get_or, refl, subst, sym, arith}
-use mathlib.Core.Bool.{true≢false}
-use Rattle.rdx_term.specs.Tree.{Tree, list, tree_depth, trees_depth, tree_nodes, trees_nodes, IsMarked, AreMarked, IsSpelled, AreSpelled, IsTerm, is_context, is_context_at, trees, Listing, listing_tree}
+-- The items of a list that is a term: that they are smaller terms, and that the marked one is a context.
+use Rattle.std.specs.Prelude.{◌≡◌, ℕ, zero, suc, ◌<◌, ◌≤◌, IsTrue, List, [], ◌∷◌, Option, Some, length, map}
+use Rattle.std.proofs.Common.{get_or, subst, sym, ◌∙◌, ap, arith}
+use Rattle.std.proofs.Math.ListN.{get_or-map}
+use Rattle.std.proofs.lemmas.List.{length-map}
+use Rattle.rdx_term.specs.Tree.{Tree, list, trees, tree_depth, trees_depth, tree_nodes, trees_nodes, Contents, contents_tree}
+use Rattle.rdx_term.specs.Context.{is_context, is_context_at, MarkFits, IsMarked, AreMarked}
+use Rattle.rdx_term.specs.Terms.{IsSpelled, AreSpelled, IsTerm}
 use Rattle.rdx_term.specs.declared.term.Term.{Term}
 use Rattle.rdx_term.specs.View.{tree_of, trees_of}
+use Rattle.rdx_term.proofs.Places.{is_context_at-place, is_context_at-item}
 
 -- an item has at most the nodes of all of them
 item_nodes_le-items : (xs : List Term) (k : ℕ) (d : Term) → k < length xs → tree_nodes (tree_of (get_or xs k d)) ≤ trees_nodes (trees_of xs)
@@ -35,13 +39,13 @@ item_is_spelled (x ∷ xs) zero d h s = s.0
 item_is_spelled (x ∷ xs) (suc k) d h s = item_is_spelled xs k d (omega arith) s.1
 
 -- an item of a list has fewer nodes than the list
-pub item_has_fewer_nodes : (l : Listing) (xs : List Term) (k : ℕ) (d : Term) → map tree_of xs ≡ l.items → k < length xs → tree_nodes (tree_of (get_or xs k d)) < tree_nodes (listing_tree l)
+pub item_has_fewer_nodes : (l : Contents) (xs : List Term) (k : ℕ) (d : Term) → map tree_of xs ≡ l.items → k < length xs → tree_nodes (tree_of (get_or xs k d)) < tree_nodes (contents_tree l)
 item_has_fewer_nodes l xs k d e h =
     let p : tree_nodes (tree_of (get_or xs k d)) ≤ trees_nodes (trees l.items) = subst (λ (ts : List Tree). tree_nodes (tree_of (get_or xs k d)) ≤ trees_nodes (trees ts)) e (item_nodes_le-items xs k d h) in
     omega arith
 
 -- an item of a list that is a term is a term
-pub item_is_term : (l : Listing) (xs : List Term) (k : ℕ) (d : Term) → map tree_of xs ≡ l.items → k < length xs → IsTerm (listing_tree l) → IsTerm (tree_of (get_or xs k d))
+pub item_is_term : (l : Contents) (xs : List Term) (k : ℕ) (d : Term) → map tree_of xs ≡ l.items → k < length xs → IsTerm (contents_tree l) → IsTerm (tree_of (get_or xs k d))
 item_is_term l xs k d e h v =
     let of_items : IsTerm (list l.mark (trees_of xs)) = subst (λ (ts : List Tree). IsTerm (list l.mark (trees ts))) (sym e) v in
     record {
@@ -51,14 +55,20 @@ item_is_term l xs k d e h v =
       small = (let p : tree_nodes (tree_of (get_or xs k d)) ≤ trees_nodes (trees_of xs) = item_nodes_le-items xs k d h in omega arith);
     }
 
--- where a context stands there is an item
-pub is_context_at-place : (ts : List Tree) (k : ℕ) → IsTrue (is_context_at (trees ts) k) → k < length ts
-is_context_at-place [] k h = absurd (true≢false (sym h))
-is_context_at-place (t ∷ ts) zero h = omega arith
-is_context_at-place (t ∷ ts) (suc k) h = let later : k < length ts = is_context_at-place ts k h in omega arith
+-- where a list that is a term is marked, a context stands
+pub mark-context_at : (l : Contents) (xs : List Term) (k : ℕ) → map tree_of xs ≡ l.items → l.mark ≡ Some k → IsTerm (contents_tree l) → IsTrue (is_context_at (trees_of xs) k)
+mark-context_at l xs k e m v =
+    let fits : MarkFits (Some k) (trees l.items) = subst (λ (n : Option ℕ). MarkFits n (trees l.items)) m v.marked.0 in
+    subst (λ (ts : List Tree). IsTrue (is_context_at (trees ts) k)) (sym e) fits
 
--- a context stands at the place of an item where the item is a context
-pub is_context_at-item : (ts : List Tree) (k : ℕ) (d : Tree) → k < length ts → is_context_at (trees ts) k ≡ is_context (get_or ts k d)
-is_context_at-item [] k d h = absurd (omega arith)
-is_context_at-item (t ∷ ts) zero d h = refl
-is_context_at-item (t ∷ ts) (suc k) d h = is_context_at-item ts k d (omega arith)
+-- so there is an item
+pub mark-place : (l : Contents) (xs : List Term) (k : ℕ) → map tree_of xs ≡ l.items → l.mark ≡ Some k → IsTerm (contents_tree l) → k < length xs
+mark-place l xs k e m v =
+    let p : k < length (map tree_of xs) = is_context_at-place (map tree_of xs) k (mark-context_at l xs k e m v) in
+    rw length-map at p
+
+-- and it is a context
+pub mark-item_context : (l : Contents) (xs : List Term) (k : ℕ) (d : Term) → map tree_of xs ≡ l.items → l.mark ≡ Some k → IsTerm (contents_tree l) → IsTrue (is_context (tree_of (get_or xs k d)))
+mark-item_context l xs k d e m v =
+    let p : k < length (map tree_of xs) = is_context_at-place (map tree_of xs) k (mark-context_at l xs k e m v) in
+    sym (ap is_context (get_or-map tree_of xs k d)) ∙ sym (is_context_at-item (map tree_of xs) k (tree_of d) p) ∙ mark-context_at l xs k e m v

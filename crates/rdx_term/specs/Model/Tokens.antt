@@ -2,7 +2,7 @@
 use Rattle.std.specs.Prelude.{◌≡◌, ℕ, zero, suc, ℤ, pos, Bool, false, List, [], ◌∷◌, Option, None, refl}
 use Rattle.std.proofs.Common.{◌∙◌, ap}
 use Rattle.std.specs.Coded.{Coded, code_by, coded×, coded_ℕ, coded_ℤ, coded_bool, coded_list, coded_option}
-use Rattle.rdx_term.specs.Tree.{Tree, hole, integer, truth, text, symbol, list, Trees, nil, cons, Listing, trees}
+use Rattle.rdx_term.specs.Tree.{Tree, hole, integer, truth, text, symbol, list, Trees, nil, cons, Contents, trees}
 
 -- A kind, a number, a truth value, bytes and a mark. The kinds are in the order of trees, with the end of a list before all of them.
 abbrev pub Token : Type 0
@@ -91,19 +91,19 @@ items_of-trees [] = refl
 items_of-trees (t ∷ ts) = ap (λ us. t ∷ us) (items_of-trees ts)
 
 -- the tokens of what a list holds, with its end
-abbrev to_tokens : Listing → List Token
+abbrev to_tokens : Contents → List Token
 to_tokens l = tokens_all (trees l.items) (end l.mark ∷ [])
 
 -- what a list holds, from these tokens
-abbrev from_tokens : List Token → Listing
+abbrev from_tokens : List Token → Contents
 from_tokens ts = record { mark = (innermost (read_all ts)).0; items = items_of (innermost (read_all ts)).1 }
 
 -- what a list holds is made again from its tokens
-pub from-to_tokens : (l : Listing) → from_tokens (to_tokens l) ≡ l
+pub from-to_tokens : (l : Contents) → from_tokens (to_tokens l) ≡ l
 from-to_tokens l =
     ap (λ (e : Ended). record { mark = (innermost e).0; items = items_of (innermost e).1 }) (read_all-tokens_all (trees l.items) l.mark [])
     ∙ ap (λ (ts : List Tree). record { mark = l.mark; items = ts }) (items_of-trees l.items)
 
 -- the code of what a list holds
-abbrev pub coded_listing : Coded Listing
-coded_listing = code_by (List Token) (coded_list coded_token) to_tokens from_tokens from-to_tokens
+abbrev pub coded_contents : Coded Contents
+coded_contents = code_by (List Token) (coded_list coded_token) to_tokens from_tokens from-to_tokens

@@ -1,6 +1,7 @@
 -- What always holds of a shared list: its tree is that of a term, and the depth, the nodes and the holes that it keeps are the tree's.
 use Rattle.std.specs.Prelude.{◌≡◌}
-use Rattle.rdx_term.specs.Tree.{Tree, list, tree_depth, tree_nodes, tree_holes, IsTerm}
+use Rattle.rdx_term.specs.Tree.{Tree, list, tree_depth, tree_nodes, tree_holes}
+use Rattle.rdx_term.specs.Terms.{IsTerm}
 use Rattle.rdx_term.specs.declared.term.Node.TheInside.{Inside}
 use Rattle.rdx_term.specs.View.{trees_of}
 

@@ -1,0 +1,4 @@
+pub mod Tokens
+pub mod TotalOrder
+pub mod Weights
+pub mod Measures
