@@ -5,7 +5,8 @@ use Rattle.rdx_sexp.specs.Sexp.{Sexp}
 use Rattle.rdx_lang.specs.Lookup.{alternatives_of, alternatives_among}
 use Rattle.rdx_lang.specs.Patterns.{Pattern, wild, of_kind, except, prefix, lit, nt, named, seq, Items, nil, one, Language}
 use Rattle.rdx_lang.specs.Patterns as model
-use Rattle.rdx_lang.specs.WellFormed.{is_same, is_among, is_well_formed, are_well_formed, all_patterns, all_alternatives}
+use Rattle.rdx_lang.specs.References.{is_same, is_among}
+use Rattle.rdx_lang.specs.WellFormed.{is_well_formed, have_known_nonterminals as are_well_formed, all_patterns, all_alternatives}
 use Rattle.rdx_lang.specs.declared.pattern.Ref.{Ref}
 use Rattle.rdx_lang.specs.declared.pattern.Ref.TheVariants.{Nt}
 use Rattle.rdx_grammar.specs.Languages.{heads, redefined, added, alternatives, defined_by, definitions_of}

@@ -3,7 +3,7 @@ use Rattle.std.proofs.Common.{◌≡◌, Option, Some, None, sym, ◌∙◌, ap,
 use Rattle.rdx_lang.specs.Edges.{IsFree, IsFirstRecursive}
 use Rattle.rdx_lang.specs.declared.pattern.Ref.TheVariants.{Nt}
 use Rattle.rdx_grammar.specs.Answers.{refusal_of}
-use Rattle.rdx_lang.specs.FirstRecursive.{first_recursive-one, first_recursive-free}
+use Rattle.rdx_lang.proofs.FirstRecursive.{first_recursive-one, first_recursive-free}
 use Rattle.rdx_grammar.specs.Languages.{GrammarForm, language_over}
 use Rattle.rdx_grammar.specs.Laws.{OneLanguage, OneRefusal, LanguageOrRefusal, OnePattern, OnePatternRefusal, PatternOrRefusal}
 use Rattle.rdx_grammar.specs.Refused.{by_check, by_recursion, refusal_over, recursion_at, pattern_refusal}

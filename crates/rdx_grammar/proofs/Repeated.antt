@@ -4,7 +4,7 @@ use Rattle.std.specs.Prelude.{◌&&◌, not, bytes_eq, option_map}
 use Rattle.std.specs.List.{list_any}
 use Rattle.std.specs.Cmp.Lexicographic.{bytes_decides}
 use Rattle.rdx_sexp.specs.Sexp.{Sexp}
-use Rattle.rdx_lang.specs.WellFormed.{is_among, are_distinct}
+use Rattle.rdx_lang.specs.References.{is_among, are_distinct}
 use Rattle.rdx_lang.specs.declared.pattern.Ref.TheVariants.{Nt}
 use Rattle.rdx_grammar.specs.Checks.{is_seen, repeats}
 use Rattle.rdx_grammar.specs.Parts.{text_of}

@@ -3,7 +3,7 @@ use Rattle.std.proofs.Common.{◌≡◌, ◌++◌, ℕ, ◌+◌, ◌<◌, add-on
 use Rattle.std.proofs.Math.Seq.{take-suc}
 use Rattle.std.proofs.lemmas.List.{map-append}
 use Rattle.std.specs.Prelude.{◌||◌, bytes_eq}
-use Rattle.rdx_lang.specs.Rest.{rest_at}
+use Rattle.rdx_lang.proofs.Rest.{rest_at}
 use Rattle.rdx_sexp.specs.Sexp.{Sexp}
 use Rattle.rdx_grammar.specs.Checks.{is_seen, repeats}
 use Rattle.rdx_grammar.specs.Parts.{text_of}

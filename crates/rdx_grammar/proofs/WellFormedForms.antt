@@ -2,7 +2,8 @@
 use Rattle.std.proofs.Common.{◌≡◌, ◌++◌, ℕ, true, List, [], ◌∷◌, Option, Some, None, map, refl, sym, ap, ◌∙◌, subst}
 use Rattle.rdx_sexp.specs.Sexp.{Sexp}
 use Rattle.rdx_lang.specs.Patterns.{Language}
-use Rattle.rdx_lang.specs.WellFormed.{is_among as is_defined_among, are_distinct, is_well_formed, all_alternatives, defined, IsWellFormed}
+use Rattle.rdx_lang.specs.References.{is_among as is_defined_among, are_distinct}
+use Rattle.rdx_lang.specs.WellFormed.{is_well_formed, all_alternatives, defined, IsWellFormed}
 use Rattle.rdx_lang.specs.declared.pattern.Ref.{Ref}
 use Rattle.rdx_lang.specs.declared.pattern.Ref.TheVariants.{Nt}
 use Rattle.rdx_grammar.specs.Languages.{GrammarForm, form_stands, names_of, names_by, names_in, all_names, ref_text, heads, redefined, added, alternatives, defined_by, definitions_of, language_over}

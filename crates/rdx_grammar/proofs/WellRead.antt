@@ -4,7 +4,7 @@ use Rattle.std.specs.Prelude.{bytes_eq, codes}
 use Rattle.rdx_sexp.specs.Sexp.{Sexp, Sexps, leaf, list, nil, cons, Atom, integer, truth, text, symbol, keyword}
 use Rattle.rdx_term.specs.Tree as tree
 use Rattle.rdx_lang.specs.Patterns.{Pattern, wild, nt, lit, except}
-use Rattle.rdx_lang.specs.WellFormed.{is_well_formed, are_well_formed}
+use Rattle.rdx_lang.specs.WellFormed.{is_well_formed, have_known_nonterminals as are_well_formed}
 use Rattle.rdx_lang.specs.declared.pattern.Kind.{Kind}
 use Rattle.rdx_lang.specs.declared.pattern.Ref.{Ref}
 use Rattle.rdx_lang.specs.declared.pattern.Ref.TheVariants.{Nt}

@@ -2,7 +2,7 @@
 use Rattle.std.specs.Prelude.{List, Option, Some, None, if◌then◌else◌}
 use Rattle.rdx_lang.specs.Lookup.{alternatives_among}
 use Rattle.rdx_lang.specs.Patterns.{Pattern, Definition}
-use Rattle.rdx_lang.specs.WellFormed.{is_among}
+use Rattle.rdx_lang.specs.References.{is_among}
 use Rattle.rdx_lang.specs.declared.pattern.Ref.{Ref}
 use Rattle.rdx_grammar.specs.Languages.{heads}
 

@@ -4,7 +4,8 @@ use Rattle.rdx_sexp.specs.Sexp.{Sexp}
 use Rattle.rdx_lang.specs.Lookup.{alternatives_of, alternatives_among}
 use Rattle.rdx_lang.specs.Patterns.{Pattern, Language}
 use Rattle.rdx_lang.specs.Patterns as model
-use Rattle.rdx_lang.specs.WellFormed.{is_among as is_defined_among, defined}
+use Rattle.rdx_lang.specs.References.{is_among as is_defined_among}
+use Rattle.rdx_lang.specs.WellFormed.{defined}
 use Rattle.rdx_lang.specs.declared.pattern.Ref.{Ref}
 use Rattle.rdx_lang.specs.declared.pattern.Ref.TheVariants.{Nt}
 use Rattle.rdx_grammar.specs.Parts.{parts, text_of, is_symbol, is_word, Definition, definition_in}

@@ -2,7 +2,7 @@
 ghost use Rattle.std.specs.Prelude.{◌≡◌, option_map};
 ghost use Rattle.rdx_lang.specs.Lookup.{alternatives_of};
 ghost use Rattle.rdx_lang.specs.PatternView.{language_of};
-ghost use Rattle.rdx_lang.specs.WellFormed.{is_same};
+ghost use Rattle.rdx_lang.specs.References.{is_same};
 ghost use Rattle.rdx_lang.specs.declared.pattern.Ref.TheVariants as refs;
 ghost use Rattle.rdx_grammar.specs.BaseView.{base_in};
 ghost use Rattle.rdx_grammar.specs.Checks as model;

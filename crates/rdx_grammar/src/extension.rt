@@ -1,7 +1,7 @@
 // The definitions of an extension.
 ghost use Rattle.std.specs.Prelude.{◌≡◌, ◌++◌, IfOk, OnOk, [], ◌∷◌, map, option_map};
 ghost use Rattle.rdx_lang.specs.PatternView.{definition_of, patterns_of};
-ghost use Rattle.rdx_lang.specs.WellFormed.{is_same};
+ghost use Rattle.rdx_lang.specs.References.{is_same};
 ghost use Rattle.rdx_grammar.specs.BaseView.{base_in};
 ghost use Rattle.rdx_grammar.specs.Extended.{found_among};
 ghost use Rattle.rdx_grammar.specs.Languages as languages;

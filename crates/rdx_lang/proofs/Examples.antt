@@ -8,18 +8,18 @@ use Rattle.rdx_lang.specs.Bindings.{one as one_term}
 use Rattle.rdx_lang.specs.Edges.{edge_nt, edge_named, Reaches, at_once, further, IsRecursive}
 use Rattle.rdx_lang.specs.Examples.{int, first_marked, second_marked, list_of_one, list_of_two, binds, seq_of_one, seq_of_two, e, f, e_1, Numbers, Twins, ThroughAName, UnderAList, TwoEqual, TwoDifferent, TwoMarks, NameAround, NameAroundItself, Forgotten, OnceForTwo, Mentioned, ExceptMentionsNone, NonterminalsAreNotMentioned, PrefixFirst, ItemsDecide, FirstPairDecides, NameKeepsTheTerm, ListTakesOff}
 use Rattle.rdx_lang.specs.Join.{IsJoin}
-use Rattle.rdx_lang.specs.JoinLaws.{one_join, join_agrees}
+use Rattle.rdx_lang.proofs.JoinLaws.{one_join, join_agrees}
 use Rattle.rdx_lang.specs.Listing.{IsListing}
 use Rattle.rdx_lang.specs.Members.{In, here, there}
-use Rattle.rdx_lang.specs.NameLaws.{match-ascends, turned_join}
+use Rattle.rdx_lang.proofs.NameLaws.{match-ascends, turned_join}
 use Rattle.rdx_lang.specs.Order.{value_cmp, binding_cmp}
-use Rattle.rdx_lang.specs.OrderLaws.{value_cmp-total}
+use Rattle.rdx_lang.specs.Model.TotalOrders.{value_cmp-total}
 use Rattle.rdx_lang.specs.Patterns.{Pattern, of_kind, nt, named, seq, Items, Definition, Language}
 use Rattle.rdx_lang.specs.Rules.{is_of_kind, Match, IsAlternative, match_kind, match_nt, match_named, match_seq, match_none, match_one}
 use Rattle.rdx_lang.specs.declared.pattern.Kind.{Kind}
 use Rattle.rdx_lang.specs.declared.pattern.Kind.TheVariants.{Number, Natural}
 use Rattle.rdx_lang.specs.declared.pattern.Ref.{Ref}
-use Rattle.rdx_lang.specs.LookupLaws.{alternatives_of-all}
+use Rattle.rdx_lang.proofs.LookupLaws.{alternatives_of-all}
 use Rattle.rdx_lang.proofs.RankLaws.{ranked_is_free}
 
 -- ---- listings

@@ -5,10 +5,10 @@ use Rattle.std.specs.declared.cmp.Ordering.TheVariants.{Less, Equal, Greater}
 use Rattle.rdx_lang.specs.Ascending.{IsBelow}
 use Rattle.rdx_lang.specs.Bindings.{Value, Pair, Binding, name_cmp, bound_names, HasAscendingNames}
 use Rattle.rdx_lang.specs.Join.{IsJoin, Agree}
-use Rattle.rdx_lang.specs.JoinLaws.{one_value}
+use Rattle.rdx_lang.proofs.JoinLaws.{one_value}
 use Rattle.rdx_lang.specs.Members.{In, here, there}
-use Rattle.rdx_lang.specs.NameLaws.{above_first, below_all, with_name-below, bound_names-join}
-use Rattle.rdx_lang.specs.OrderLaws.{name_cmp-tells}
+use Rattle.rdx_lang.proofs.NameLaws.{above_first, below_all, with_name-below, bound_names-join}
+use Rattle.rdx_lang.proofs.OrderLaws.{name_cmp-tells}
 
 -- a and b have a join
 abbrev HasJoin : Binding → Binding → Type 0

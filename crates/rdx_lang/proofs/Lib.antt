@@ -1,5 +1,17 @@
+pub mod MemberLaws
+pub mod LookupLaws
+pub mod PatternEquations
+pub mod ValueEquations
+pub mod Rest
+pub mod OrderLaws
 pub mod Orders
+pub mod JoinLaws
+pub mod NameLaws
 pub mod Values
 pub mod Joins
 pub mod RankLaws
+pub mod FirstRecursive
 pub mod Examples
+pub mod Collecting
+pub mod Keys
+pub mod RuleSteps

@@ -6,10 +6,13 @@ use Rattle.rdx_lang.specs.Laws.{RanksFall, EdgesFall, RankedIsFree}
 use Rattle.rdx_lang.specs.Lookup.{alternatives_among}
 use Rattle.rdx_lang.specs.Members.{In, here, there}
 use Rattle.rdx_lang.specs.Patterns.{Pattern, wild, of_kind, except, prefix, lit, nt, named, seq, Definition, Language}
-use Rattle.rdx_lang.specs.Ranks.{pattern_nodes, patterns_nodes, first_rank, root_ranks, roots_among, AreBelow, FallIn, FallInAll, FallAmong, AreRanks, above, rank_of, left}
-use Rattle.rdx_lang.specs.WellFormed.{is_same, IsWellFormed}
+use Rattle.rdx_lang.specs.Nodes.{pattern_nodes, patterns_nodes}
+use Rattle.rdx_lang.specs.Ranks.{first_rank, root_ranks, roots_among, AreBelow, FallIn, FallInAll, FallAmong, AreRanks}
+use Rattle.rdx_lang.specs.LeftNumbers.{above, rank_of, left_number}
+use Rattle.rdx_lang.specs.References.{is_same}
+use Rattle.rdx_lang.specs.WellFormed.{IsWellFormed}
 use Rattle.rdx_lang.specs.declared.pattern.Ref.{Ref}
-use Rattle.rdx_lang.specs.LookupLaws.{alternatives_of-all}
+use Rattle.rdx_lang.proofs.LookupLaws.{alternatives_of-all}
 
 -- what is more than all these is n at most, where they are below n
 above-least : (ms : List ℕ) (n : ℕ) → AreBelow ms n → above ms ≤ n
@@ -19,7 +22,7 @@ above-least (m ∷ ms) n h = max-le h.0 (above-least ms n h.1)
 module _ (roots : Ref → List ℕ) where
   -- a number for each pattern, from these ranks of the roots of alternatives
   abbrev number : Pattern → ℕ
-  number p = left (λ x. above (roots x)) p
+  number p = left_number (λ x. above (roots x)) p
 
   -- the number of a pattern is the rank of its root at most
   number-root : (p : Pattern) (ns : List ℕ) → FallIn roots p ns → number p ≤ first_rank ns
@@ -64,19 +67,19 @@ ranks_fall L ns w r x p a = number-looked_up (roots_among L.nonterminals ns) L.n
 
 module _ (L : Language) (ns : List ℕ) (w : IsWellFormed L) (r : AreRanks L ns) where
   -- numbers fall along a left edge
-  left-edge : {p q : Pattern} → Edge L p q → left (rank_of L ns) q < left (rank_of L ns) p
-  left-edge (edge_nt {x = x} {p = p} a) = ranks_fall L ns w r x p a
-  left-edge (edge_named {x = x} {q = q}) = omega arith
+  left_number-edge : {p q : Pattern} → Edge L p q → left_number (rank_of L ns) q < left_number (rank_of L ns) p
+  left_number-edge (edge_nt {x = x} {p = p} a) = ranks_fall L ns w r x p a
+  left_number-edge (edge_named {x = x} {q = q}) = omega arith
 
   -- numbers fall along left edges
-  left-reaches : {p q : Pattern} → Reaches L p q → left (rank_of L ns) q < left (rank_of L ns) p
-  left-reaches (at_once e) = left-edge e
-  left-reaches (further e h) = let k = left-edge e in let l = left-reaches h in omega arith
+  left_number-reaches : {p q : Pattern} → Reaches L p q → left_number (rank_of L ns) q < left_number (rank_of L ns) p
+  left_number-reaches (at_once e) = left_number-edge e
+  left_number-reaches (further e h) = let k = left_number-edge e in let l = left_number-reaches h in omega arith
 
 -- where ranks fall along every left edge, so do the numbers of patterns
 pub edges_fall : EdgesFall
-edges_fall L ns w r p q e = left-edge L ns w r e
+edges_fall L ns w r p q e = left_number-edge L ns w r e
 
 -- where ranks fall along every left edge, no nonterminal reaches itself
 pub ranked_is_free : RankedIsFree
-ranked_is_free L ns w r x h = let k = left-reaches L ns w r h in omega arith
+ranked_is_free L ns w r x h = let k = left_number-reaches L ns w r h in omega arith

@@ -3,7 +3,7 @@ use Rattle.std.proofs.Common.{◌≡◌, ℕ, Bool, true, false, List, [], ◌�
 use Rattle.std.specs.Prelude.{◌↔◌, bytes_eq}
 use Rattle.std.specs.Cmp.Lexicographic.{bytes_decides}
 use Rattle.rdx_lang.specs.Bindings.{Value, Pair, Binding, HasAscendingNames, value_at}
-use Rattle.rdx_lang.specs.JoinLaws.{one_value}
+use Rattle.rdx_lang.proofs.JoinLaws.{one_value}
 use Rattle.rdx_lang.specs.Members.{In, here, there}
 
 -- what is found is the value of a pair

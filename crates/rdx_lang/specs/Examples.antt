@@ -4,7 +4,7 @@ use Rattle.std.specs.Prelude.{◌≡◌, ℕ, pos, List, [], ◌∷◌, Some, No
 use Rattle.std.specs.declared.cmp.Ordering.TheVariants.{Less}
 use Rattle.rdx_term.specs.Tree.{Tree, hole, integer, symbol, list, cons}
 use Rattle.rdx_term.specs.Tree.{nil as no_trees}
-use Rattle.rdx_lang.specs.Bindings.{Binding}
+use Rattle.rdx_lang.specs.Bindings.{Binding, no_names, one_name}
 use Rattle.rdx_lang.specs.Bindings.{one as one_term}
 use Rattle.rdx_lang.specs.Edges.{IsFree, IsFirstRecursive}
 use Rattle.rdx_lang.specs.Listing.{Matches}
@@ -36,7 +36,7 @@ second_marked = list (Some 1) (cons hole (cons hole no_trees))
 
 -- the binding of one name alone, to a term
 abbrev pub binds : List ℕ → Tree → Binding
-binds x t = (x, one_term t) ∷ []
+binds x t = one_name x (one_term t)
 
 -- list patterns of one item and of two
 abbrev pub seq_of_one : Pattern → Pattern
@@ -96,7 +96,8 @@ NameAroundItself = Matches Numbers (named (codes "x") (seq_of_one (named (codes 
 
 -- `(e e)` matches `((1 1) (2 2))`, where e_1 is 1 in the one item and 2 in the other, and binds nothing
 abbrev pub Forgotten : Type 0
-Forgotten = Matches Twins (seq_of_two (nt e) (nt e)) (list_of_two (list_of_two (int 1) (int 1)) (list_of_two (int 2) (int 2))) ([] ∷ [])
+Forgotten = Matches Twins (seq_of_two (nt e) (nt e)) (list_of_two (list_of_two (int 1) (int 1)) (list_of_two (int 2) (int 2)))
+    (no_names ∷ [])
 
 -- `e_1` matches 1 by two alternatives, and the one binding is listed once
 abbrev pub OnceForTwo : Type 0
@@ -117,11 +118,11 @@ Mentioned = Matches Mentions (of_kind Unmentioned) (symbol (codes "if")) []
 
 -- it matches `then`, which `variable-except` names
 abbrev pub ExceptMentionsNone : Type 0
-ExceptMentionsNone = Matches Mentions (of_kind Unmentioned) (symbol (codes "then")) ([] ∷ [])
+ExceptMentionsNone = Matches Mentions (of_kind Unmentioned) (symbol (codes "then")) (no_names ∷ [])
 
 -- it matches `e`, which is a nonterminal
 abbrev pub NonterminalsAreNotMentioned : Type 0
-NonterminalsAreNotMentioned = Matches Mentions (of_kind Unmentioned) (symbol (codes "e")) ([] ∷ [])
+NonterminalsAreNotMentioned = Matches Mentions (of_kind Unmentioned) (symbol (codes "e")) (no_names ∷ [])
 
 -- ---- the order of bindings
 

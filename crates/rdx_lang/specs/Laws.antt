@@ -8,7 +8,8 @@ use Rattle.rdx_lang.specs.Listing.{Matches}
 use Rattle.rdx_lang.specs.Edges.{Edge, IsFree}
 use Rattle.rdx_lang.specs.Names.{names}
 use Rattle.rdx_lang.specs.Patterns.{Pattern, Language}
-use Rattle.rdx_lang.specs.Ranks.{AreRanks, rank_of, left}
+use Rattle.rdx_lang.specs.Ranks.{AreRanks}
+use Rattle.rdx_lang.specs.LeftNumbers.{rank_of, left_number}
 use Rattle.rdx_lang.specs.Rules.{Match, IsAlternative}
 use Rattle.rdx_lang.specs.WellFormed.{IsWellFormed}
 use Rattle.rdx_lang.specs.declared.pattern.Ref.{Ref}
@@ -43,11 +44,11 @@ BindsItsNames = (L : Language) (p : Pattern) (t : Tree) (b : Binding) → Match 
 
 -- where ranks fall along every left edge, the number of an alternative is below that of its nonterminal
 abbrev pub RanksFall : Type 0
-RanksFall = (L : Language) (ns : List ℕ) → IsWellFormed L → AreRanks L ns → (x : Ref) (p : Pattern) → IsAlternative L x p → left (rank_of L ns) p < rank_of L ns x
+RanksFall = (L : Language) (ns : List ℕ) → IsWellFormed L → AreRanks L ns → (x : Ref) (p : Pattern) → IsAlternative L x p → left_number (rank_of L ns) p < rank_of L ns x
 
 -- so do the numbers of patterns, along every left edge
 abbrev pub EdgesFall : Type 0
-EdgesFall = (L : Language) (ns : List ℕ) → IsWellFormed L → AreRanks L ns → (p q : Pattern) → Edge L p q → left (rank_of L ns) q < left (rank_of L ns) p
+EdgesFall = (L : Language) (ns : List ℕ) → IsWellFormed L → AreRanks L ns → (p q : Pattern) → Edge L p q → left_number (rank_of L ns) q < left_number (rank_of L ns) p
 
 -- and no nonterminal reaches itself
 abbrev pub RankedIsFree : Type 0

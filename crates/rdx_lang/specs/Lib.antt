@@ -1,5 +1,6 @@
 pub mod Members
 pub mod Ascending
+pub mod References
 pub mod Patterns
 pub mod PatternView
 pub mod WellFormed
@@ -13,16 +14,12 @@ pub mod Join
 pub mod Literals
 pub mod Rules
 pub mod Edges
+pub mod Nodes
 pub mod Ranks
-pub mod RankProps
+pub mod LeftNumbers
 pub mod Listing
 pub mod Names
-pub mod OrderLaws
 pub mod Laws
-pub mod LookupLaws
-pub mod JoinLaws
-pub mod NameLaws
-pub mod FirstRecursive
-pub mod Rest
-pub mod PatternEquations
 pub mod Examples
+pub mod Model
+pub mod Inside

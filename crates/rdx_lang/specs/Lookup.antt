@@ -1,7 +1,7 @@
 -- The alternatives of a nonterminal, looked up among the definitions.
 use Rattle.std.specs.Prelude.{List, [], ◌∷◌, if◌then◌else◌}
 use Rattle.rdx_lang.specs.Patterns.{Pattern, Definition, Language}
-use Rattle.rdx_lang.specs.WellFormed.{is_same}
+use Rattle.rdx_lang.specs.References.{is_same}
 use Rattle.rdx_lang.specs.declared.pattern.Ref.{Ref}
 
 -- the alternatives of the first definition of x, in their order; none where x isn't defined

@@ -1,4 +1,4 @@
--- The names that a pattern binds: ascending by their bytes, each once. What names stand for inside a nonterminal's alternatives is
+-- The names that a pattern binds: ascending by their bytes, each once. They are put together as joins are. What names stand for inside a nonterminal's alternatives is
 -- forgotten where the nonterminal has matched, so a nonterminal binds none.
 use Rattle.std.specs.Prelude.{ℕ, List, [], ◌∷◌}
 use Rattle.std.specs.declared.cmp.Ordering.{Ordering}
@@ -18,9 +18,9 @@ with_name x [] = x ∷ []
 with_name x (y ∷ ys) = placed (name_cmp x y) x y ys (with_name x ys)
 
 -- the names of two ascending lists together
-abbrev pub union : List (List ℕ) → List (List ℕ) → List (List ℕ)
-union [] ys = ys
-union (x ∷ xs) ys = with_name x (union xs ys)
+abbrev pub add_names : List (List ℕ) → List (List ℕ) → List (List ℕ)
+add_names [] ys = ys
+add_names (x ∷ xs) ys = with_name x (add_names xs ys)
 
 abbrev mutual
   -- the names that the pattern binds
@@ -31,10 +31,10 @@ abbrev mutual
   names (prefix r) = []
   names (lit u) = []
   names (nt x) = []
-  names (named x q) = with_name x (names q)
-  names (seq ps) = names_of ps
+  names (named x q) = add_names (names q) (x ∷ [])
+  names (seq ps) = item_names ps
 
   -- the names that the items bind together
-  pub names_of : Items → List (List ℕ)
-  names_of nil = []
-  names_of (one p ps) = union (names p) (names_of ps)
+  pub item_names : Items → List (List ℕ)
+  item_names nil = []
+  item_names (one p ps) = add_names (names p) (item_names ps)

@@ -1,6 +1,8 @@
 -- The order of values and of bindings: bindings compare pair by pair, by the bytes of the name and then by the value, a proper
 -- prefix first; values compare as terms do, marks included.
+use Rattle.std.specs.Prelude.{◌≡◌}
 use Rattle.std.specs.declared.cmp.Ordering.{Ordering}
+use Rattle.std.specs.declared.cmp.Ordering.TheVariants.{Equal}
 use Rattle.std.specs.Ordering.{ordering_then}
 use Rattle.std.specs.Cmp.Lexicographic.{slice_cmp}
 use Rattle.rdx_term.specs.Order.{tree_cmp}
@@ -17,3 +19,7 @@ pair_cmp p q = ordering_then (name_cmp p.0 q.0) (value_cmp p.1 q.1)
 -- bindings pair by pair, a proper prefix first
 abbrev pub binding_cmp : Binding → Binding → Ordering
 binding_cmp = slice_cmp pair_cmp
+
+-- what an order does not tell apart is equal
+abbrev pub TellsApart : {A : Type 0} → (A → A → Ordering) → Type 0
+TellsApart {A} cmp = (x y : A) → cmp x y ≡ Equal → x ≡ y

@@ -1,37 +1,11 @@
 -- Ranks of the nodes of a language's alternatives: the nonterminals in their order, the alternatives in theirs, the nodes of each in
 -- pre-order. They fall along every left edge: the rank of a named pattern is above that of its part, and that of a nonterminal that stands
 -- in a pattern above those of the roots of its alternatives.
-use Rattle.std.specs.Prelude.{◌≡◌, ℕ, suc, ◌+◌, ◌<◌, max, List, [], ◌∷◌, drop, length, if◌then◌else◌}
+use Rattle.std.specs.Prelude.{◌≡◌, ℕ, ◌<◌, List, [], ◌∷◌, drop, length, if◌then◌else◌}
+use Rattle.rdx_lang.specs.Nodes.{pattern_nodes, patterns_nodes, definitions_nodes}
 use Rattle.rdx_lang.specs.Patterns.{Pattern, wild, of_kind, except, prefix, lit, nt, named, seq, Items, nil, one, Definition, Language}
-use Rattle.rdx_lang.specs.WellFormed.{is_same}
+use Rattle.rdx_lang.specs.References.{is_same}
 use Rattle.rdx_lang.specs.declared.pattern.Ref.{Ref}
-
--- how many nodes a pattern has, with its own
-abbrev mutual
-  pub pattern_nodes : Pattern → ℕ
-  pattern_nodes wild = 1
-  pattern_nodes (of_kind k) = 1
-  pattern_nodes (except rs) = 1
-  pattern_nodes (prefix r) = 1
-  pattern_nodes (lit u) = 1
-  pattern_nodes (nt x) = 1
-  pattern_nodes (named x q) = pattern_nodes q + 1
-  pattern_nodes (seq ps) = items_nodes ps + 1
-
-  -- how many the items have together
-  pub items_nodes : Items → ℕ
-  items_nodes nil = 0
-  items_nodes (one p ps) = pattern_nodes p + items_nodes ps
-
--- how many nodes the patterns have together
-abbrev pub patterns_nodes : List Pattern → ℕ
-patterns_nodes [] = 0
-patterns_nodes (p ∷ ps) = pattern_nodes p + patterns_nodes ps
-
--- how many the alternatives of the definitions have together
-abbrev pub definitions_nodes : List Definition → ℕ
-definitions_nodes [] = 0
-definitions_nodes (d ∷ ds) = patterns_nodes d.1 + definitions_nodes ds
 
 -- the rank of the first node, if there is one
 abbrev pub first_rank : List ℕ → ℕ
@@ -84,23 +58,3 @@ FallAmong roots (d ∷ ds) ns = FallInAll roots d.1 ns × FallAmong roots ds (dr
 pub record AreRanks (L : Language) (ns : List ℕ) : Type 0 where
   pub each : length ns ≡ definitions_nodes L.nonterminals
   pub fall : FallAmong (roots_among L.nonterminals ns) L.nonterminals ns
-
--- more than all these
-abbrev pub above : List ℕ → ℕ
-above [] = 0
-above (n ∷ ns) = max (suc n) (above ns)
-
--- a number for each nonterminal, above the ranks of its alternatives' roots
-abbrev pub rank_of : Language → List ℕ → Ref → ℕ
-rank_of L ns x = above (roots_among L.nonterminals ns x)
-
--- a number for each pattern that falls along its left edges, where R gives one for each nonterminal
-abbrev pub left : (Ref → ℕ) → Pattern → ℕ
-left R wild = 0
-left R (of_kind k) = 0
-left R (except rs) = 0
-left R (prefix r) = 0
-left R (lit u) = 0
-left R (nt x) = R x
-left R (named x q) = left R q + 1
-left R (seq ps) = 0

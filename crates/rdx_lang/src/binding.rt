@@ -1,5 +1,6 @@
 // What names stand for.
-ghost use Rattle.rdx_lang.specs.Bindings.{HasAscendingNames, HasAscendingNames-prop};
+ghost use Rattle.rdx_lang.specs.Bindings.{HasAscendingNames};
+ghost use Rattle.rdx_lang.specs.Model.AscendingProps.{HasAscendingNames-prop};
 ghost use Rattle.rdx_lang.specs.BindingView.{pairs_of};
 
 use rdx_term::{Name, NoMemory, Term};
@@ -29,14 +30,12 @@ impl Value {
 #[derive(Drop)]
 pub struct Binding {
     pairs: Vec<(Name, Value)>,
-    pub ghost ascending: { HasAscendingNames (pairs_of pairs.items) } by { HasAscendingNames-prop (pairs_of pairs.items) },
+    pub ghost ascending: { HasAscendingNames (pairs_of pairs.items) } by { HasAscendingNames-prop _ },
 }
 
 impl Binding {
-    ghost use Rattle.std.specs.Prelude.{◌≡◌, ◌↔◌, IfOk, [], length, Some};
-    ghost use Rattle.rdx_lang.specs.Bindings as model;
-    ghost use Rattle.rdx_lang.specs.Bindings.{value_at};
-    ghost use Rattle.rdx_lang.specs.Members.{In};
+    ghost use Rattle.std.specs.Prelude.{◌≡◌, IfOk};
+    ghost use Rattle.rdx_lang.specs.Bindings.{value_at, IsValueAt};
     ghost use Rattle.rdx_lang.specs.BindingView.{found_value};
     ghost use Rattle.rdx_lang.specs.Shown.{binding_of};
 
@@ -59,7 +58,7 @@ impl Binding {
     /// What the name stands for; `None` exactly where it isn't bound.
     pub fn get(&self, name: &Name) -> Option<&Value>
         ensures value { found_value result ≡ value_at (binding_of self.now) name.now }
-        ensures bound { (v : model.Value) → ((found_value result ≡ Some v) ↔ In (name.now, v) (binding_of self.now)) }
+        ensures bound { IsValueAt (binding_of self.now) name.now (found_value result) }
     {
         self.find(name)
     }

@@ -2,7 +2,7 @@
 ghost use Rattle.std.proofs.Props.{props};
 ghost use Rattle.rdx_lang.specs.PatternView.{language_of};
 ghost use Rattle.rdx_lang.specs.Ranks.{AreRanks};
-ghost use Rattle.rdx_lang.specs.RankProps.{AreRanks-prop};
+ghost use Rattle.rdx_lang.specs.Model.RankProps.{AreRanks-prop};
 ghost use Rattle.rdx_lang.specs.WellFormed.{IsWellFormed};
 
 use crate::lookup::alternatives;
@@ -17,17 +17,15 @@ pub struct CheckedLang {
     language: Language,
     ranks: Ranks,
     pub ghost well_formed: { IsWellFormed (language_of language) } by { Prim.hlevel props },
-    pub ghost ranked: { AreRanks (language_of language) ranks.of.items } by { AreRanks-prop (language_of language) ranks.of.items },
+    pub ghost ranked: { AreRanks (language_of language) ranks.of.items } by { AreRanks-prop _ _ },
 }
 
 impl CheckedLang {
-    ghost use Rattle.std.specs.Prelude.{◌≡◌, ◌↔◌};
+    ghost use Rattle.std.specs.Prelude.{◌≡◌};
     ghost use Rattle.rdx_lang.specs.Checked.{language_in, ranks_in};
     ghost use Rattle.rdx_lang.specs.Lookup.{alternatives_of};
-    ghost use Rattle.rdx_lang.specs.Members.{In};
     ghost use Rattle.rdx_lang.specs.PatternView.{patterns_of};
-    ghost use Rattle.rdx_lang.specs.Patterns.{Pattern};
-    ghost use Rattle.rdx_lang.specs.Rules.{IsAlternative};
+    ghost use Rattle.rdx_lang.specs.Rules.{AreAlternatives};
 
     /// The checked language.
     pub fn new(language: Language, ranks: Ranks) -> CheckedLang
@@ -55,10 +53,10 @@ impl CheckedLang {
         &self.ranks
     }
 
-    /// The alternatives of a nonterminal, in their order; none where the language doesn't define it.
+    /// The alternatives of a nonterminal, in their order; none where it isn't defined.
     pub fn alternatives(&self, name: &Ref) -> &[Pat]
         ensures same { patterns_of result.now ≡ alternatives_of (language_in self.now) name.now }
-        ensures all { (p : Pattern) → (In p (patterns_of result.now) ↔ IsAlternative (language_in self.now) name.now p) }
+        ensures all { AreAlternatives (language_in self.now) name.now (patterns_of result.now) }
         ensures well_formed { IsWellFormed (language_in self.now) }
         ensures ranked { AreRanks (language_in self.now) (ranks_in self.now) }
     {
@@ -73,16 +71,18 @@ pub struct CheckedPat {
 }
 
 impl CheckedPat {
-    ghost use Rattle.std.specs.Prelude.{◌≡◌, ◌↔◌, true, false, IfOk, IfSome, IfNone};
+    ghost use Rattle.std.specs.Prelude.{◌≡◌, IsTrue, IsFalse, IfOk, IfSome, IfNone};
     ghost use Rattle.rdx_lang.specs.Checked.{language_in, pattern_in};
     ghost use Rattle.rdx_lang.specs.PatternView.{pattern_of};
-    ghost use Rattle.rdx_lang.specs.WellFormed as tests;
+    ghost use Rattle.rdx_lang.specs.WellFormed.{is_well_formed_in};
 
     /// The pattern, where each nonterminal in it is one of the language's; else `None`.
     pub fn new(language: &CheckedLang, pat: Pat) -> Result<Option<CheckedPat>, NoMemory>
         ensures same { IfOk result (λ r. IfSome r (λ c. pattern_in c ≡ pattern_of pat)) }
-        ensures some { IfOk result (λ r. IfSome r (λ c. tests.is_well_formed (tests.defined (language_in language.now)) (pattern_of pat) ≡ true)) }
-        ensures none { IfOk result (λ r. IfNone r (tests.is_well_formed (tests.defined (language_in language.now)) (pattern_of pat) ≡ false)) }
+        ensures some { IfOk result (λ r. IfSome r
+            (λ c. IsTrue (is_well_formed_in (language_in language.now) (pattern_of pat)))) }
+        ensures none { IfOk result (λ r. IfNone r
+            (IsFalse (is_well_formed_in (language_in language.now) (pattern_of pat)))) }
     {
         if is_well_formed(language.language(), &pat) {
             Ok(Some(CheckedPat { pat }))

@@ -1,7 +1,7 @@
 //! Laws of the definitions: functions that do nothing, whose contracts are the laws.
 ghost use Rattle.std.specs.Cmp.{IsTotalOrder};
 ghost use Rattle.rdx_lang.specs.Order.{value_cmp, binding_cmp};
-ghost use Rattle.rdx_lang.specs.OrderLaws.{TellsApart};
+ghost use Rattle.rdx_lang.specs.Order.{TellsApart};
 ghost use Rattle.rdx_lang.specs.Examples.{TwoEqual, TwoDifferent, TwoMarks, NameAround, NameAroundItself, Forgotten, OnceForTwo, Mentioned, ExceptMentionsNone, NonterminalsAreNotMentioned, PrefixFirst, ItemsDecide, FirstPairDecides, NameKeepsTheTerm, ListTakesOff};
 ghost use Rattle.rdx_lang.specs.Laws.{OneListing, OneJoin, JoinAgrees, JoinExists, NamesAscend, BindsAMap, BindsItsNames, RanksFall, EdgesFall, RankedIsFree};
 
@@ -35,8 +35,8 @@ pub fn join_exists()
     ensures always { JoinExists }
 {}
 
-/// Whatever a pattern matches, its binding is a finite map of the same names, those that are written
-/// in the pattern itself.
+/// Whatever a pattern matches, its binding is a finite map of the same names, those that are
+/// written in the pattern itself.
 pub fn names_of_matches()
     ensures ascending { NamesAscend }
     ensures map { BindsAMap }
@@ -44,7 +44,8 @@ pub fn names_of_matches()
 {}
 
 /// Where ranks fall along every left edge, the number of an alternative is below that of its
-/// nonterminal; so what a left edge leads to has a lesser number, and no nonterminal reaches itself.
+/// nonterminal; so what a left edge leads to has a lesser number, and no nonterminal reaches
+/// itself.
 pub fn ranks_fall()
     ensures fall { RanksFall }
     ensures edges { EdgesFall }

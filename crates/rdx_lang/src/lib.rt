@@ -28,8 +28,8 @@ mod lookup;
 mod matcher;
 mod order;
 mod pattern;
-#[cfg(test)]
-mod tests;
+mod reference;
+mod sharing;
 mod well_formed;
 
 pub use binding::{Binding, Value};

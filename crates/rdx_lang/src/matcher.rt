@@ -18,5 +18,6 @@ pub trait Matcher {
         pat: &CheckedPat,
         t: &Term,
     ) -> Result<Vec<Binding>, NoMemory>
-        ensures { IfOk result (λ found. Matches (language_in language.now) (pattern_in pat.now) (tree_of t.now) (bindings_of found.items)) };
+        ensures { IfOk result (λ found. Matches (language_in language.now) (pattern_in pat.now)
+            (tree_of t.now) (bindings_of found.items)) };
 }

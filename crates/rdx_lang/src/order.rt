@@ -48,7 +48,7 @@ impl PartialEq for Binding {
     ghost use Rattle.std.specs.Ordering.{on, eq_by_cmp};
     ghost use Rattle.std.specs.Cmp.{partial_equiv_from_equiv, on_equiv, eq_by_cmp_equiv};
     ghost use Rattle.rdx_lang.specs.Order.{binding_cmp};
-    ghost use Rattle.rdx_lang.specs.OrderLaws.{binding_cmp-total};
+    ghost use Rattle.rdx_lang.specs.Model.TotalOrders.{binding_cmp-total};
     ghost use Rattle.rdx_lang.specs.Shown.{binding_of};
 
     ghost eq = { on binding_of (eq_by_cmp binding_cmp) };
@@ -62,7 +62,7 @@ impl PartialEq for Binding {
 
 impl Eq for Binding {
     ghost use Rattle.std.specs.Cmp.{on_equiv, eq_by_cmp_equiv};
-    ghost use Rattle.rdx_lang.specs.OrderLaws.{binding_cmp-total};
+    ghost use Rattle.rdx_lang.specs.Model.TotalOrders.{binding_cmp-total};
     ghost use Rattle.rdx_lang.specs.Shown.{binding_of};
 
     ghost laws = { on_equiv binding_of (eq_by_cmp_equiv binding_cmp-total) };
@@ -72,7 +72,7 @@ impl PartialOrd for Binding {
     ghost use Rattle.std.specs.Ordering.{on, as_partial_cmp};
     ghost use Rattle.std.specs.Cmp.{on_po, partial_order_from_total};
     ghost use Rattle.rdx_lang.specs.Order.{binding_cmp};
-    ghost use Rattle.rdx_lang.specs.OrderLaws.{binding_cmp-total};
+    ghost use Rattle.rdx_lang.specs.Model.TotalOrders.{binding_cmp-total};
     ghost use Rattle.rdx_lang.specs.Shown.{binding_of};
 
     ghost partial_cmp = { on binding_of (as_partial_cmp binding_cmp) };
@@ -89,7 +89,7 @@ impl Ord for Binding {
     ghost use Rattle.std.specs.Ordering.{on};
     ghost use Rattle.std.specs.Cmp.{on_total};
     ghost use Rattle.rdx_lang.specs.Order.{binding_cmp};
-    ghost use Rattle.rdx_lang.specs.OrderLaws.{binding_cmp-total};
+    ghost use Rattle.rdx_lang.specs.Model.TotalOrders.{binding_cmp-total};
     ghost use Rattle.rdx_lang.specs.Shown.{binding_of};
 
     ghost cmp = { on binding_of binding_cmp };

@@ -1,32 +1,90 @@
-// The test that each nonterminal of a pattern is defined.
-ghost use Rattle.std.specs.Prelude.{◌≡◌, map};
-ghost use Rattle.rdx_lang.specs.Patterns as model;
-ghost use Rattle.rdx_lang.specs.PatternView.{pattern_of, language_of, slot_of, items_of};
-ghost use Rattle.rdx_lang.specs.WellFormed as tests;
+// The tests that a pattern is well formed in a language, and that a language is.
+ghost use Rattle.std.specs.Prelude.{◌≡◌, ◌↔◌, IsTrue, map};
+ghost use Rattle.rdx_lang.specs.PatternView.{pattern_of, patterns_of, definition_of, language_of, slot_of, items_of};
+ghost use Rattle.rdx_lang.specs.References as references;
+ghost use Rattle.rdx_lang.specs.WellFormed as model;
 
-use crate::lookup::is_defined;
-use crate::{Item, Language, Pat};
+use crate::lookup::{is_among, is_defined};
+use crate::{Item, Language, Pat, Ref};
 
-#[cycle(well_formed)]
-pub(crate) fn is_well_formed(language: &Language, pat: &Pat) -> bool
-    ensures { result ≡ tests.is_well_formed (tests.defined (language_of language.now)) (pattern_of pat.now) }
+// Whether each nonterminal that stands in the pattern is defined.
+#[cycle(known)]
+fn has_known_nonterminals(language: &Language, pat: &Pat) -> bool
+    ensures { result ≡ model.has_known_nonterminals (model.defined (language_of language.now))
+        (pattern_of pat.now) }
 {
     match pat {
         Pat::Wild | Pat::Kind(_) | Pat::Except(_) | Pat::Prefix(_) | Pat::Lit(_) => true,
         Pat::Nt(name) => is_defined(language, name),
-        Pat::Named(_, inner) => is_well_formed(language, inner),
-        Pat::Seq(items) => are_well_formed(language, items),
+        Pat::Named(_, inner) => has_known_nonterminals(language, inner),
+        Pat::Seq(items) => have_known_nonterminals(language, items),
     }
 }
 
-#[cycle(well_formed)]
-fn are_well_formed(language: &Language, items: &[Item]) -> bool
-    ensures { result ≡ tests.are_well_formed (tests.defined (language_of language.now)) (items_of (map slot_of items.now)) }
+// Whether each that stands in the items is.
+#[cycle(known)]
+fn have_known_nonterminals(language: &Language, items: &[Item]) -> bool
+    ensures { result ≡ model.have_known_nonterminals (model.defined (language_of language.now))
+        (items_of (map slot_of items.now)) }
 {
     for Item::One(pat) in items {
+        if !has_known_nonterminals(language, pat) {
+            return false;
+        }
+    }
+    true
+}
+
+// Whether the pattern is well formed in the language.
+pub(crate) fn is_well_formed(language: &Language, pat: &Pat) -> bool
+    ensures { result ≡ model.is_well_formed_in (language_of language.now) (pattern_of pat.now) }
+{
+    has_known_nonterminals(language, pat)
+}
+
+// Whether all of these patterns are.
+fn are_well_formed(language: &Language, pats: &[Pat]) -> bool
+    ensures { result ≡ model.all_patterns (model.is_well_formed_in (language_of language.now))
+        (patterns_of pats.now) }
+{
+    for pat in pats {
         if !is_well_formed(language, pat) {
             return false;
         }
     }
     true
+}
+
+// Whether all alternatives of the language are.
+fn has_well_formed_alternatives(language: &Language) -> bool
+    ensures { result ≡ model.has_well_formed_alternatives (language_of language.now) }
+{
+    for (_, alternatives) in &language.nts {
+        if !are_well_formed(language, alternatives) {
+            return false;
+        }
+    }
+    true
+}
+
+// Whether no nonterminal is defined twice.
+fn are_distinct(definitions: &[(Ref, Vec<Pat>)]) -> bool
+    ensures { result ≡ references.are_distinct
+        (map (λ d. d.0) (map definition_of definitions.now)) }
+{
+    for i in 0..definitions.len() {
+        if is_among(&definitions[i].0, &definitions[i + 1..]) {
+            return false;
+        }
+    }
+    true
+}
+
+impl Language {
+    /// Whether no nonterminal is defined twice, and each that stands in an alternative is defined.
+    pub fn is_well_formed(&self) -> bool
+        ensures { IsTrue result ↔ model.IsWellFormed (language_of self.now) }
+    {
+        are_distinct(&self.nts) && has_well_formed_alternatives(self)
+    }
 }

@@ -3,14 +3,14 @@ use Rattle.std.proofs.Common.{◌≡◌, ℕ, zero, suc, ◌+◌, ◌*◌, ◌<�
 use Rattle.std.proofs.Math.Nat.{mul-le-mul_right}
 use Rattle.rdx_lang.specs.Members.{In, here, there}
 use Rattle.rdx_lang.specs.Patterns.{Pattern, wild, of_kind, except, prefix, lit, nt, named, seq, Definition, Language}
-use Rattle.rdx_lang.specs.Ranks.{left}
+use Rattle.rdx_lang.specs.LeftNumbers.{left_number}
 use Rattle.rdx_lang.specs.Rules.{IsAlternative}
 use Rattle.rdx_lang.specs.WellFormed.{defined, IsWellFormed}
 use Rattle.rdx_lang.specs.declared.pattern.Ref.{Ref}
-use Rattle.rdx_leftrec.specs.Leads.{leads, place, targets_of}
-use Rattle.rdx_leftrec.specs.Marking.{marked}
-use Rattle.rdx_leftrec.specs.Numbers.{IsCount, AreCounts, number_at, scaled, names_around, most_around, most_names}
-use Rattle.rdx_leftrec.specs.Reach.{targets_at, Path, once, IsMarked}
+use Rattle.rdx_leftrec.specs.Inside.Leads.{leads, place, targets_of}
+use Rattle.rdx_leftrec.specs.Inside.Marking.{marked}
+use Rattle.rdx_leftrec.specs.Inside.Numbers.{IsCount, AreCounts, number_at, scaled, names_around, most_around, most_names}
+use Rattle.rdx_leftrec.specs.Inside.Reach.{targets_at, Path, once, IsMarked}
 use Rattle.rdx_leftrec.proofs.Paths.{path-before, alternative-step, targets-inside, place-inside}
 
 -- where all marks of one are marks of the other, it has no more
@@ -61,15 +61,15 @@ names-most (c ∷ ds) d p (here e) i =
 names-most (c ∷ ds) d p (there h) i = let k = names-most ds d p h i in omega arith
 
 -- the number of a pattern is that of a nonterminal to which it leads, with the names around it, or these alone
-left-leads : (R : Ref → ℕ) (p : Pattern) → ((z : Ref) × In z (leads p) × (left R p ≡ R z + names_around p)) ⊎ (left R p ≡ names_around p)
-left-leads R wild = inr refl
-left-leads R (of_kind k) = inr refl
-left-leads R (except rs) = inr refl
-left-leads R (prefix r) = inr refl
-left-leads R (lit u) = inr refl
-left-leads R (nt x) = inl (x, here refl, omega arith)
-left-leads R (named x q) = elim (left-leads R q) [ inl l ↦ inl (l.0, l.1, omega (arith, l.2)) | inr e ↦ inr (omega (arith, e)) ]
-left-leads R (seq ps) = inr refl
+left_number-leads : (R : Ref → ℕ) (p : Pattern) → ((z : Ref) × In z (leads p) × (left_number R p ≡ R z + names_around p)) ⊎ (left_number R p ≡ names_around p)
+left_number-leads R wild = inr refl
+left_number-leads R (of_kind k) = inr refl
+left_number-leads R (except rs) = inr refl
+left_number-leads R (prefix r) = inr refl
+left_number-leads R (lit u) = inr refl
+left_number-leads R (nt x) = inl (x, here refl, omega arith)
+left_number-leads R (named x q) = elim (left_number-leads R q) [ inl l ↦ inl (l.0, l.1, omega (arith, l.2)) | inr e ↦ inr (omega (arith, e)) ]
+left_number-leads R (seq ps) = inr refl
 
 -- the number at a place
 number-scaled : (scale : ℕ) (cs : List ℕ) (i : ℕ) → i < length cs → get_or (scaled scale cs) i 0 ≡ (get_or cs i 0 + 1) * scale
@@ -95,8 +95,8 @@ module _ (L : Language) (w : IsWellFormed L) (cs : List ℕ) (s : length cs ≡ 
   number = number_at (defined L) (scaled scale cs)
 
   -- the number of an alternative is below that of its nonterminal
-  pub number-falls : (x : Ref) (p : Pattern) → IsAlternative L x p → left number p < number x
-  number-falls x p b = of_either (left-leads number p)
+  pub number-falls : (x : Ref) (p : Pattern) → IsAlternative L x p → left_number number p < number x
+  number-falls x p b = of_either (left_number-leads number p)
     where
       i : ℕ
       i = place x (defined L)
@@ -107,7 +107,7 @@ module _ (L : Language) (w : IsWellFormed L) (cs : List ℕ) (s : length cs ≡ 
       most : names_around p < scale
       most = let k = names-most L.nonterminals (x, b.all) p b.defined b.among in omega arith
 
-      of_either : ((z : Ref) × In z (leads p) × (left number p ≡ number z + names_around p)) ⊎ (left number p ≡ names_around p) → left number p < number x
+      of_either : ((z : Ref) × In z (leads p) × (left_number number p ≡ number z + names_around p)) ⊎ (left_number number p ≡ names_around p) → left_number number p < number x
       of_either (inl l) =
           let j : ℕ = place l.0 (defined L) in
           let h : In j (targets_at (targets_of L) i) = alternative-step L w x p l.0 b l.1 in
@@ -116,7 +116,7 @@ module _ (L : Language) (w : IsWellFormed L) (cs : List ℕ) (s : length cs ≡ 
           let g : (get_or cs j 0 + 1) * scale + scale ≤ (get_or cs i 0 + 1) * scale = room scale (get_or cs i 0) (get_or cs j 0) f in
           let u : number x ≡ (get_or cs i 0 + 1) * scale = number-scaled scale cs i inside in
           let v : number l.0 ≡ (get_or cs j 0 + 1) * scale = number-scaled scale cs j k in
-          let y : left number p ≡ number l.0 + names_around p = l.2 in
+          let y : left_number number p ≡ number l.0 + names_around p = l.2 in
           below g u v y most
       of_either (inr l) =
           let g : 1 * scale ≤ (get_or cs i 0 + 1) * scale = mul-le-mul_right scale (omega arith) in

@@ -3,11 +3,12 @@ use Rattle.std.proofs.Common.{◌≡◌, ℕ, ◌<◌, false, get_or, List, [], 
 use Rattle.std.specs.Prelude.{Vec}
 use Rattle.std.specs.declared.alloc.Global.{Global}
 use Rattle.std.proofs.lemmas.List.{length-map, length-replicate}
+use Rattle.rdx_lang.proofs.MemberLaws.{in-append, append-left, append-right}
 use Rattle.rdx_lang.specs.Members.{In, here, there}
-use Rattle.rdx_leftrec.specs.Leads.{lists_of}
-use Rattle.rdx_leftrec.specs.Marking.{Marking, marking, mark_all}
-use Rattle.rdx_leftrec.specs.Reach.{targets_at, Path, once, more, AreTargets, IsMarked, IsReach}
-use Rattle.rdx_leftrec.proofs.Lists.{at_read, at-map, in-append, append-left, append-right}
+use Rattle.rdx_leftrec.specs.Inside.Leads.{lists_of}
+use Rattle.rdx_leftrec.specs.Inside.Marking.{Marking, marking, mark_all}
+use Rattle.rdx_leftrec.specs.Inside.Reach.{targets_at, Path, once, more, AreTargets, IsMarked, IsReach}
+use Rattle.rdx_leftrec.proofs.Lists.{at_read, at-map}
 use Rattle.rdx_leftrec.proofs.Marks.{marked-inside, marked-replicate, waiting, Grows, grows_all}
 
 -- only what is reached is marked, with all targets of the start, and with all targets of each marked place that isn't pending

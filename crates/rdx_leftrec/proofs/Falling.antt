@@ -4,10 +4,12 @@ use Rattle.std.proofs.lemmas.List.{drop_at}
 use Rattle.rdx_lang.specs.Lookup.{alternatives_among, alternatives_of}
 use Rattle.rdx_lang.specs.Members.{In, here, there}
 use Rattle.rdx_lang.specs.Patterns.{Pattern, wild, of_kind, except, prefix, lit, nt, named, seq, Items, nil, one, Definition, Language}
-use Rattle.rdx_lang.specs.Ranks.{pattern_nodes, items_nodes, patterns_nodes, definitions_nodes, first_rank, root_ranks, roots_among, AreBelow, FallIn, FallInItems, FallInAll, FallAmong, AreRanks, left}
-use Rattle.rdx_lang.specs.WellFormed.{is_same}
+use Rattle.rdx_lang.specs.Nodes.{pattern_nodes, items_nodes, patterns_nodes, definitions_nodes}
+use Rattle.rdx_lang.specs.Ranks.{first_rank, root_ranks, roots_among, AreBelow, FallIn, FallInItems, FallInAll, FallAmong, AreRanks}
+use Rattle.rdx_lang.specs.LeftNumbers.{left_number}
+use Rattle.rdx_lang.specs.References.{is_same}
 use Rattle.rdx_lang.specs.declared.pattern.Ref.{Ref}
-use Rattle.rdx_leftrec.specs.Preorder.{pattern_ranks, items_ranks, patterns_ranks, definitions_ranks}
+use Rattle.rdx_leftrec.specs.Inside.Preorder.{pattern_ranks, items_ranks, patterns_ranks, definitions_ranks}
 
 -- ---- how many ranks there are, and which come first
 
@@ -48,7 +50,7 @@ length-definitions_ranks R (d ∷ ds) =
     omega (arith, length-append (patterns_ranks R d.1) (definitions_ranks R ds))
 
 -- the first rank is that of the root
-first-pattern_ranks : (R : Ref → ℕ) (p : Pattern) (rest : List ℕ) → first_rank (pattern_ranks R p ++ rest) ≡ left R p
+first-pattern_ranks : (R : Ref → ℕ) (p : Pattern) (rest : List ℕ) → first_rank (pattern_ranks R p ++ rest) ≡ left_number R p
 first-pattern_ranks R wild rest = refl
 first-pattern_ranks R (of_kind k) rest = refl
 first-pattern_ranks R (except rs) rest = refl
@@ -69,27 +71,27 @@ drop-patterns_ranks R ps rest = drop_at (patterns_ranks R ps) rest (patterns_nod
 -- ---- the ranks of the roots of alternatives
 
 -- the ranks of the roots of patterns are their numbers
-root_ranks-patterns : (R : Ref → ℕ) (ps : List Pattern) (rest : List ℕ) → root_ranks ps (patterns_ranks R ps ++ rest) ≡ map (left R) ps
+root_ranks-patterns : (R : Ref → ℕ) (ps : List Pattern) (rest : List ℕ) → root_ranks ps (patterns_ranks R ps ++ rest) ≡ map (left_number R) ps
 root_ranks-patterns R [] rest = refl
 root_ranks-patterns R (p ∷ ps) rest =
     let a : (pattern_ranks R p ++ patterns_ranks R ps) ++ rest ≡ pattern_ranks R p ++ (patterns_ranks R ps ++ rest) = append_assoc (pattern_ranks R p) (patterns_ranks R ps) rest in
-    let behind : root_ranks ps (drop (pattern_nodes p) (pattern_ranks R p ++ (patterns_ranks R ps ++ rest))) ≡ map (left R) ps =
+    let behind : root_ranks ps (drop (pattern_nodes p) (pattern_ranks R p ++ (patterns_ranks R ps ++ rest))) ≡ map (left_number R) ps =
     ap (λ (ns : List ℕ). root_ranks ps ns) (drop-pattern_ranks R p (patterns_ranks R ps ++ rest)) ∙ root_ranks-patterns R ps rest in
-    subst (λ (ns : List ℕ). root_ranks (p ∷ ps) ns ≡ map (left R) (p ∷ ps)) (sym a) (λ i. first-pattern_ranks R p (patterns_ranks R ps ++ rest) i ∷ behind i)
+    subst (λ (ns : List ℕ). root_ranks (p ∷ ps) ns ≡ map (left_number R) (p ∷ ps)) (sym a) (λ i. first-pattern_ranks R p (patterns_ranks R ps ++ rest) i ∷ behind i)
 
 -- those of the alternatives of a nonterminal are the numbers of what is looked up
-roots_among-definitions : (R : Ref → ℕ) (ds : List Definition) (x : Ref) → roots_among ds (definitions_ranks R ds) x ≡ map (left R) (alternatives_among ds x)
+roots_among-definitions : (R : Ref → ℕ) (ds : List Definition) (x : Ref) → roots_among ds (definitions_ranks R ds) x ≡ map (left_number R) (alternatives_among ds x)
 roots_among-definitions R [] x = refl
 roots_among-definitions R (d ∷ ds) x = by_test (is_same x d.0) (ap (λ (ns : List ℕ). roots_among ds ns x) (drop-patterns_ranks R d.1 (definitions_ranks R ds)) ∙ roots_among-definitions R ds x)
   where
-    by_test : (s : Bool) → roots_among ds (drop (patterns_nodes d.1) (patterns_ranks R d.1 ++ definitions_ranks R ds)) x ≡ map (left R) (alternatives_among ds x)
+    by_test : (s : Bool) → roots_among ds (drop (patterns_nodes d.1) (patterns_ranks R d.1 ++ definitions_ranks R ds)) x ≡ map (left_number R) (alternatives_among ds x)
         → (if s then root_ranks d.1 (patterns_ranks R d.1 ++ definitions_ranks R ds) else roots_among ds (drop (patterns_nodes d.1) (patterns_ranks R d.1 ++ definitions_ranks R ds)) x)
-        ≡ map (left R) (if s then d.1 else alternatives_among ds x)
+        ≡ map (left_number R) (if s then d.1 else alternatives_among ds x)
     by_test true later = root_ranks-patterns R d.1 (definitions_ranks R ds)
     by_test false later = later
 
 -- these numbers are below n where that of each pattern is
-below-each : (R : Ref → ℕ) (ps : List Pattern) (n : ℕ) → ((p : Pattern) → In p ps → left R p < n) → AreBelow (map (left R) ps) n
+below-each : (R : Ref → ℕ) (ps : List Pattern) (n : ℕ) → ((p : Pattern) → In p ps → left_number R p < n) → AreBelow (map (left_number R) ps) n
 below-each R [] n h = tt
 below-each R (p ∷ ps) n h = (h p (here refl), below-each R ps n (λ q i. h q (there i)))
 
@@ -127,7 +129,7 @@ module _ (R : Ref → ℕ) (roots : Ref → List ℕ) (above : (x : Ref) → Are
       (falls-patterns d.1 (definitions_ranks R ds), subst (λ (ns : List ℕ). FallAmong roots ds ns) (sym (drop-patterns_ranks R d.1 (definitions_ranks R ds))) (falls-definitions ds))
 
 -- ranks from a number for each nonterminal that is above the numbers of its alternatives
-pub ranks-fall : (L : Language) (R : Ref → ℕ) → ((x : Ref) (p : Pattern) → In p (alternatives_of L x) → left R p < R x) → AreRanks L (definitions_ranks R L.nonterminals)
+pub ranks-fall : (L : Language) (R : Ref → ℕ) → ((x : Ref) (p : Pattern) → In p (alternatives_of L x) → left_number R p < R x) → AreRanks L (definitions_ranks R L.nonterminals)
 ranks-fall L R h = record {
   each = length-definitions_ranks R L.nonterminals;
   fall = falls-definitions R (roots_among L.nonterminals (definitions_ranks R L.nonterminals)) above L.nonterminals;

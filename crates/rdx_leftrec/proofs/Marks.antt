@@ -1,10 +1,10 @@
 -- What marking places changes.
 use Rattle.std.proofs.Common.{◌≡◌, ℕ, zero, suc, ◌+◌, ◌<◌, Bool, true, false, List, [], ◌∷◌, ◌++◌, length, set, get_or, replicate, drop, refl, sym, ◌∙◌, ap, subst, ◌⊎◌, inl, inr, arith, length-append, if◌then◌else◌}
 use Rattle.std.proofs.lemmas.List.{length-set, at_drop_more}
+use Rattle.rdx_lang.proofs.MemberLaws.{in-append, append-left, append-right}
 use Rattle.rdx_lang.specs.Members.{In, here, there}
-use Rattle.rdx_leftrec.specs.Marking.{Marking, marking, unmarked, mark, mark_all}
-use Rattle.rdx_leftrec.specs.Reach.{IsMarked}
-use Rattle.rdx_leftrec.proofs.Lists.{in-append, append-left, append-right}
+use Rattle.rdx_leftrec.specs.Inside.Marking.{Marking, marking, unmarked, mark, mark_all}
+use Rattle.rdx_leftrec.specs.Inside.Reach.{IsMarked}
 
 -- a marked place is a place
 pub marked-inside : (bs : List Bool) (k : ℕ) → IsMarked bs k → k < length bs

@@ -1,5 +1,5 @@
 -- Paths between places are left edges between nonterminals, and the first place that reaches itself is the first recursive nonterminal.
-use Rattle.std.proofs.Common.{◌≡◌, ℕ, zero, suc, ◌<◌, true, List, [], ◌∷◌, ◌++◌, length, take, drop, refl, sym, ◌∙◌, subst, ◌⊎◌, inl, inr, arith}
+use Rattle.std.proofs.Common.{◌≡◌, ℕ, zero, suc, ◌<◌, true, List, [], ◌∷◌, length, take, drop, refl, sym, subst, ◌⊎◌, inl, inr, arith}
 use Rattle.std.proofs.lemmas.List.{length-map}
 use Rattle.rdx_lang.specs.Edges.{Edge, edge_nt, edge_named, Reaches, at_once, further, IsRecursive, IsFirstRecursive}
 use Rattle.rdx_lang.specs.Members.{In, here, there}
@@ -7,13 +7,15 @@ use Rattle.rdx_lang.specs.Patterns.{Pattern, wild, of_kind, except, prefix, lit,
 use Rattle.rdx_lang.specs.Rules.{IsAlternative}
 use Rattle.rdx_lang.specs.WellFormed.{is_well_formed, defined, IsWellFormed}
 use Rattle.rdx_lang.specs.declared.pattern.Ref.{Ref}
-use Rattle.rdx_leftrec.specs.Answers.{IsRecursionOf, Names}
-use Rattle.rdx_leftrec.specs.Leads.{leads, all_leads, place, places, targets_of}
-use Rattle.rdx_leftrec.specs.Numbers.{IsFirst}
-use Rattle.rdx_leftrec.specs.Reach.{targets_at, Path, once, more, AreTargets}
+use Rattle.rdx_lang.proofs.FirstRecursive.{first_recursive-same}
+use Rattle.rdx_lang.proofs.MemberLaws.{in-map, map-in}
+use Rattle.rdx_leftrec.specs.Recursion.{IsRecursionOf, Names}
+use Rattle.rdx_leftrec.specs.Inside.Leads.{leads, all_leads, place, places, targets_of}
+use Rattle.rdx_leftrec.specs.Inside.Numbers.{IsFirst}
+use Rattle.rdx_leftrec.specs.Inside.Reach.{targets_at, Path, once, more, AreTargets}
 use Rattle.rdx_leftrec.specs.declared.recursion.LeftRec.{LeftRec}
 use Rattle.rdx_leftrec.specs.declared.recursion.LeftRec.TheVariants.{LeftRecursive, NoMemory}
-use Rattle.rdx_leftrec.proofs.Lists.{At, at_inside, at-length, at-in, in-at, at_same, at-map, at-split, in-take, in-map, map-in}
+use Rattle.rdx_leftrec.proofs.Lists.{At, at_inside, at-length, at-in, in-at, at_same, at-map, at-split, in-take}
 use Rattle.rdx_leftrec.proofs.Places.{place-at, at-place, all_alternatives-in, leads-among, all_leads-in, in-all_leads}
 
 -- left edges after left edges
@@ -169,18 +171,7 @@ module _ (L : Language) (w : IsWellFormed L) where
           let p : place e.0 (defined L) ≡ k.0 = place-at L.nonterminals k.0 e w.distinct k.2 in
           f.first k.0 k.1 (subst (λ (j : ℕ). Path (targets_of L) j j) p (recursive-path e.0 r))
 
--- one definition is the first of its kind
-one-first : (P : Ref → Type 0) (before front : List Definition) (d e : Definition) (behind rest : List Definition) → before ++ d ∷ behind ≡ front ++ e ∷ rest
-    → P d.0 → P e.0 → ((c : Definition) → In c before → ¬ P c.0) → ((c : Definition) → In c front → ¬ P c.0) → d.0 ≡ e.0
-one-first P [] [] d e behind rest s p q f g = cc
-one-first P [] (c ∷ front) d e behind rest s p q f g = absurd (g c (here refl) (let n : d.0 ≡ c.0 = cc in subst P n p))
-one-first P (c ∷ before) [] d e behind rest s p q f g = absurd (f c (here refl) (let n : e.0 ≡ c.0 = cc in subst P n q))
-one-first P (b ∷ before) (c ∷ front) d e behind rest s p q f g =
-    let t : before ++ d ∷ behind ≡ front ++ e ∷ rest = cc in
-    one-first P before front d e behind rest t p q (λ a h. f a (there h)) (λ a h. g a (there h))
-
 -- a refusal names the first recursive nonterminal
 pub names-first : (L : Language) (x : Ref) (r : LeftRec) → IsRecursionOf L r → IsFirstRecursive L x → Names x r
-names-first L x (LeftRecursive y) f g =
-    one-first (IsRecursive L) f.before g.before (y, f.alternatives) (x, g.alternatives) f.behind g.behind (sym f.defined ∙ g.defined) f.recursive g.recursive f.first g.first
+names-first L x (LeftRecursive y) f g = first_recursive-same L y x f g
 names-first L x NoMemory f g = tt

@@ -2,49 +2,51 @@
 use Rattle.std.proofs.Common.{◌≡◌, ℕ, zero, suc, Bool, true, false, List, [], ◌∷◌, map, refl, sym, ap, subst, ◌⊎◌, inl, inr, if◌then◌else◌}
 use Rattle.std.specs.Prelude.{not, ◌||◌}
 use Rattle.std.specs.Cmp.{first_so, second_so}
-use Rattle.rdx_lang.specs.LookupLaws.{is_same-equal, equal-is_same, not_true, is_among-defined}
+use Rattle.rdx_lang.proofs.LookupLaws.{is_same-equal, equal-is_same, not_true, is_among-defined}
+use Rattle.rdx_lang.proofs.MemberLaws.{in-append, append-left, append-right}
 use Rattle.rdx_lang.specs.Members.{In, here, there}
 use Rattle.rdx_lang.specs.Patterns.{Pattern, wild, of_kind, except, prefix, lit, nt, named, seq, Definition}
-use Rattle.rdx_lang.specs.WellFormed.{is_same, is_among, are_distinct, is_well_formed, all_patterns, all_alternatives}
+use Rattle.rdx_lang.specs.References.{is_same, is_among, are_distinct}
+use Rattle.rdx_lang.specs.WellFormed.{is_well_formed, all_patterns, all_alternatives}
 use Rattle.rdx_lang.specs.declared.pattern.Ref.{Ref}
-use Rattle.rdx_leftrec.specs.Leads.{leads, all_leads, place}
-use Rattle.rdx_leftrec.proofs.Lists.{At, at-in, in-append, append-left, append-right}
+use Rattle.rdx_leftrec.specs.Inside.Leads.{leads, all_leads, place}
+use Rattle.rdx_leftrec.proofs.Lists.{At, at-in}
 
 -- the nonterminals of definitions
-abbrev pub names_of : List Definition → List Ref
-names_of ds = map (λ d. d.0) ds
+abbrev pub nonterminals_of : List Definition → List Ref
+nonterminals_of ds = map (λ d. d.0) ds
 
 -- a nonterminal with a definition is among those of the definitions
-among-at : (ds : List Definition) (i : ℕ) (d : Definition) → At ds i d → is_among d.0 (names_of ds) ≡ true
+among-at : (ds : List Definition) (i : ℕ) (d : Definition) → At ds i d → is_among d.0 (nonterminals_of ds) ≡ true
 among-at ds i d h = is_among-defined d.0 d.1 ds (at-in ds i d h)
 
 -- the place of a nonterminal is where it is defined
-pub place-at : (ds : List Definition) (i : ℕ) (d : Definition) → are_distinct (names_of ds) ≡ true → At ds i d → place d.0 (names_of ds) ≡ i
+pub place-at : (ds : List Definition) (i : ℕ) (d : Definition) → are_distinct (nonterminals_of ds) ≡ true → At ds i d → place d.0 (nonterminals_of ds) ≡ i
 place-at [] i d w h = absurd h
 place-at (c ∷ ds) zero d w h = by_test (is_same d.0 c.0) (equal-is_same d.0 c.0 (ap (λ (e : Definition). e.0) h))
   where
-    by_test : (s : Bool) → s ≡ true → (if s then 0 else suc (place d.0 (names_of ds))) ≡ 0
+    by_test : (s : Bool) → s ≡ true → (if s then 0 else suc (place d.0 (nonterminals_of ds))) ≡ 0
     by_test true e = refl
     by_test false e = absurd cc
-place-at (c ∷ ds) (suc i) d w h = by_test (is_same d.0 c.0) refl (place-at ds i d (second_so (not (is_among c.0 (names_of ds))) (are_distinct (names_of ds)) w) h)
+place-at (c ∷ ds) (suc i) d w h = by_test (is_same d.0 c.0) refl (place-at ds i d (second_so (not (is_among c.0 (nonterminals_of ds))) (are_distinct (nonterminals_of ds)) w) h)
   where
     alone : d.0 ≡ c.0 → ⊥
     alone e =
-        not_true (is_among c.0 (names_of ds)) (first_so (not (is_among c.0 (names_of ds))) (are_distinct (names_of ds)) w)
-        (subst (λ (x : Ref). is_among x (names_of ds) ≡ true) e (among-at ds i d h))
+        not_true (is_among c.0 (nonterminals_of ds)) (first_so (not (is_among c.0 (nonterminals_of ds))) (are_distinct (nonterminals_of ds)) w)
+        (subst (λ (x : Ref). is_among x (nonterminals_of ds) ≡ true) e (among-at ds i d h))
 
-    by_test : (s : Bool) → is_same d.0 c.0 ≡ s → place d.0 (names_of ds) ≡ i → (if s then 0 else suc (place d.0 (names_of ds))) ≡ suc i
+    by_test : (s : Bool) → is_same d.0 c.0 ≡ s → place d.0 (nonterminals_of ds) ≡ i → (if s then 0 else suc (place d.0 (nonterminals_of ds))) ≡ suc i
     by_test true e k = absurd (alone (is_same-equal d.0 c.0 e))
     by_test false e k = ap suc k
 
 -- a nonterminal among those of the definitions is defined at its place
-pub at-place : (ds : List Definition) (x : Ref) → is_among x (names_of ds) ≡ true → (d : Definition) × At ds (place x (names_of ds)) d × (x ≡ d.0)
+pub at-place : (ds : List Definition) (x : Ref) → is_among x (nonterminals_of ds) ≡ true → (d : Definition) × At ds (place x (nonterminals_of ds)) d × (x ≡ d.0)
 at-place [] x h = absurd cc
 at-place (c ∷ ds) x h = by_test (is_same x c.0) refl h (at-place ds x)
   where
-    by_test : (s : Bool) → is_same x c.0 ≡ s → (s || is_among x (names_of ds)) ≡ true
-        → (is_among x (names_of ds) ≡ true → (d : Definition) × At ds (place x (names_of ds)) d × (x ≡ d.0))
-        → (d : Definition) × At (c ∷ ds) (if s then 0 else suc (place x (names_of ds))) d × (x ≡ d.0)
+    by_test : (s : Bool) → is_same x c.0 ≡ s → (s || is_among x (nonterminals_of ds)) ≡ true
+        → (is_among x (nonterminals_of ds) ≡ true → (d : Definition) × At ds (place x (nonterminals_of ds)) d × (x ≡ d.0))
+        → (d : Definition) × At (c ∷ ds) (if s then 0 else suc (place x (nonterminals_of ds))) d × (x ≡ d.0)
     by_test true e k f = (c, refl, is_same-equal x c.0 e)
     by_test false e k f = f k
 

@@ -1,6 +1,2 @@
-pub mod Answers
-pub mod Leads
-pub mod Reach
-pub mod Marking
-pub mod Numbers
-pub mod Preorder
+pub mod Recursion
+pub mod Inside

@@ -1,28 +1,20 @@
 // To which nonterminals the patterns of a language lead by left edges, by their places.
 ghost use Rattle.std.specs.Prelude.{◌≡◌, ◌++◌, IfOk, OnOk};
 ghost use Rattle.rdx_lang.specs.PatternView.{pattern_of, patterns_of, language_of};
-ghost use Rattle.rdx_lang.specs.WellFormed as tests;
-ghost use Rattle.rdx_leftrec.specs.Leads as model;
+ghost use Rattle.rdx_lang.specs.WellFormed.{defined};
+ghost use Rattle.rdx_leftrec.specs.Inside.Leads as model;
 
 use rdx_lang::{Language, Pat, Ref};
 use rdx_term::NoMemory;
 use std::alloc::Global;
 
-// The same nonterminal.
-pub(crate) fn is_same(a: &Ref, b: &Ref) -> bool
-    ensures { result ≡ tests.is_same a.now b.now }
-{
-    match (a, b) {
-        (Ref::Nt(a), Ref::Nt(b)) => a.text() == b.text(),
-    }
-}
-
-// The place of a nonterminal among those of the language; how many it has where it doesn't define it.
+// The place of a nonterminal among those of the language; how many it has where it doesn't define
+// it.
 pub(crate) fn place(language: &Language, name: &Ref) -> usize
-    ensures { result ≡ model.place name.now (tests.defined (language_of language.now)) }
+    ensures { result ≡ model.place name.now (defined (language_of language.now)) }
 {
     for (i, (other, _)) in language.nts.iter().enumerate() {
-        if is_same(name, other) {
+        if name.same(other) {
             return i;
         }
     }
@@ -31,7 +23,8 @@ pub(crate) fn place(language: &Language, name: &Ref) -> usize
 
 // Adds the places of the nonterminals to which the pattern leads.
 fn add_leads(language: &Language, pat: &Pat, found: &mut Vec<usize>) -> Result<(), NoMemory>
-    ensures { OnOk result (found.new.items ≡ found.old.items ++ model.places (tests.defined (language_of language.now)) (model.leads (pattern_of pat.now))) }
+    ensures { OnOk result (found.new.items ≡ found.old.items ++
+        model.places (defined (language_of language.now)) (model.leads (pattern_of pat.now))) }
 {
     match pat {
         Pat::Wild | Pat::Kind(_) | Pat::Except(_) | Pat::Prefix(_) | Pat::Lit(_) | Pat::Seq(_) =>
@@ -50,7 +43,8 @@ fn all_leads(
     language: &Language,
     alternatives: &[Pat],
 ) -> Result<Vec<usize>, NoMemory>
-    ensures { IfOk result (λ v. v.items ≡ model.places (tests.defined (language_of language.now)) (model.all_leads (patterns_of alternatives.now))) }
+    ensures { IfOk result (λ v. v.items ≡ model.places (defined (language_of language.now))
+        (model.all_leads (patterns_of alternatives.now))) }
 {
     let mut found = Vec::new(alloc);
     for pat in alternatives {
@@ -61,7 +55,8 @@ fn all_leads(
 
 // For each nonterminal, in their order, the places of those to which its alternatives lead.
 pub(crate) fn targets(alloc: Global, language: &Language) -> Result<Vec<Vec<usize>>, NoMemory>
-    ensures { IfOk result (λ v. model.lists_of v.items ≡ model.targets_of (language_of language.now)) }
+    ensures { IfOk result
+        (λ v. model.lists_of v.items ≡ model.targets_of (language_of language.now)) }
 {
     let mut targets = Vec::new(alloc);
     for (_, alternatives) in &language.nts {

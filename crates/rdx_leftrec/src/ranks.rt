@@ -1,11 +1,12 @@
-// Ranks for the nodes of a language's patterns, from how many nonterminals each nonterminal reaches.
+// Ranks for the nodes of a language's patterns, from how many nonterminals each one reaches.
 ghost use Rattle.std.specs.Prelude.{◌≡◌, ◌++◌, IfOk, OnOk, length, map};
 ghost use Rattle.rdx_lang.specs.PatternView.{pattern_of, patterns_of, language_of, slot_of, items_of};
-ghost use Rattle.rdx_lang.specs.Ranks.{AreRanks, left};
-ghost use Rattle.rdx_lang.specs.WellFormed.{IsWellFormed, defined};
-ghost use Rattle.rdx_leftrec.specs.Leads.{targets_of};
-ghost use Rattle.rdx_leftrec.specs.Numbers.{AreCounts, number_at, scaled, names_around, most_around, most_names};
-ghost use Rattle.rdx_leftrec.specs.Preorder.{pattern_ranks, items_ranks, patterns_ranks, definitions_ranks};
+ghost use Rattle.rdx_lang.specs.Ranks.{AreRanks};
+ghost use Rattle.rdx_lang.specs.LeftNumbers.{left_number};
+ghost use Rattle.rdx_lang.specs.WellFormed.{IsWellFormed};
+ghost use Rattle.rdx_leftrec.specs.Inside.Leads.{targets_of};
+ghost use Rattle.rdx_leftrec.specs.Inside.Numbers.{AreCounts, number_in, scaled, names_around, most_around, most_names};
+ghost use Rattle.rdx_leftrec.specs.Inside.Preorder.{pattern_ranks, items_ranks, patterns_ranks, definitions_ranks};
 
 use crate::edges::place;
 use rdx_lang::{Item, Language, Pat, Ranks};
@@ -18,7 +19,13 @@ fn names_around(pat: &Pat) -> Result<usize, NoMemory>
 {
     match pat {
         Pat::Named(_, inner) => names_around(inner)?.checked_add(1).ok_or(NoMemory),
-        _ => Ok(0),
+        Pat::Wild
+        | Pat::Kind(_)
+        | Pat::Except(_)
+        | Pat::Prefix(_)
+        | Pat::Lit(_)
+        | Pat::Nt(_)
+        | Pat::Seq(_) => Ok(0),
     }
 }
 
@@ -44,8 +51,8 @@ fn most_names(language: &Language) -> Result<usize, NoMemory>
     Ok(most)
 }
 
-// A number for each nonterminal. Where one is too large for the machine, the language has more than 2^32 nonterminals or names around a
-// pattern, which memory doesn't hold.
+// A number for each nonterminal. Where one is too large for the machine, the language has more than
+// 2^32 nonterminals or names around a pattern, which memory doesn't hold.
 fn numbers(alloc: Global, counts: &[usize], scale: usize) -> Result<Vec<usize>, NoMemory>
     ensures { IfOk result (λ v. v.items ≡ scaled scale counts.now) }
 {
@@ -59,7 +66,8 @@ fn numbers(alloc: Global, counts: &[usize], scale: usize) -> Result<Vec<usize>, 
 
 // The rank of the root of a pattern.
 fn root_rank(language: &Language, numbers: &[usize], pat: &Pat) -> Result<usize, NoMemory>
-    ensures { IfOk result (λ n. n ≡ left (number_at (defined (language_of language.now)) numbers.now) (pattern_of pat.now)) }
+    ensures { IfOk result (λ n. n ≡
+        left_number (number_in (language_of language.now) numbers.now) (pattern_of pat.now)) }
 {
     match pat {
         Pat::Nt(name) => Ok(numbers.get(place(language, name)).copied().unwrap_or(0)),
@@ -67,7 +75,8 @@ fn root_rank(language: &Language, numbers: &[usize], pat: &Pat) -> Result<usize,
             let part = root_rank(language, numbers, inner)?;
             part.checked_add(1).ok_or(NoMemory)
         }
-        _ => Ok(0),
+        Pat::Wild | Pat::Kind(_) | Pat::Except(_) | Pat::Prefix(_) | Pat::Lit(_) | Pat::Seq(_) =>
+            Ok(0),
     }
 }
 
@@ -80,15 +89,18 @@ fn rank_nodes(
     root: usize,
     ranks: &mut Vec<usize>,
 ) -> Result<(), NoMemory>
-    requires { root ≡ left (number_at (defined (language_of language.now)) numbers.now) (pattern_of pat.now) }
-    ensures { OnOk result (ranks.new.items ≡ ranks.old.items ++ pattern_ranks (number_at (defined (language_of language.now)) numbers.now) (pattern_of pat.now)) }
+    requires { root ≡
+        left_number (number_in (language_of language.now) numbers.now) (pattern_of pat.now) }
+    ensures { OnOk result (ranks.new.items ≡ ranks.old.items ++
+        pattern_ranks (number_in (language_of language.now) numbers.now) (pattern_of pat.now)) }
 {
     ranks.push(root)?;
     match pat {
-        Pat::Named(_, inner) => rank_nodes(language, numbers, inner, root - 1, ranks),
-        Pat::Seq(items) => rank_items(language, numbers, items, ranks),
-        _ => Ok(()),
+        Pat::Wild | Pat::Kind(_) | Pat::Except(_) | Pat::Prefix(_) | Pat::Lit(_) | Pat::Nt(_) => {}
+        Pat::Named(_, inner) => rank_nodes(language, numbers, inner, root - 1, ranks)?,
+        Pat::Seq(items) => rank_items(language, numbers, items, ranks)?,
     }
+    Ok(())
 }
 
 // Adds the ranks of the nodes of items.
@@ -99,7 +111,9 @@ fn rank_items(
     items: &[Item],
     ranks: &mut Vec<usize>,
 ) -> Result<(), NoMemory>
-    ensures { OnOk result (ranks.new.items ≡ ranks.old.items ++ items_ranks (number_at (defined (language_of language.now)) numbers.now) (items_of (map slot_of items.now))) }
+    ensures { OnOk result (ranks.new.items ≡ ranks.old.items ++
+        items_ranks (number_in (language_of language.now) numbers.now)
+        (items_of (map slot_of items.now))) }
 {
     for Item::One(pat) in items {
         let root = root_rank(language, numbers, pat)?;
@@ -115,7 +129,9 @@ fn rank_patterns(
     alternatives: &[Pat],
     ranks: &mut Vec<usize>,
 ) -> Result<(), NoMemory>
-    ensures { OnOk result (ranks.new.items ≡ ranks.old.items ++ patterns_ranks (number_at (defined (language_of language.now)) numbers.now) (patterns_of alternatives.now)) }
+    ensures { OnOk result (ranks.new.items ≡ ranks.old.items ++
+        patterns_ranks (number_in (language_of language.now) numbers.now)
+        (patterns_of alternatives.now)) }
 {
     for pat in alternatives {
         let root = root_rank(language, numbers, pat)?;
@@ -130,7 +146,9 @@ fn rank_language(
     language: &Language,
     numbers: &[usize],
 ) -> Result<Vec<usize>, NoMemory>
-    ensures { IfOk result (λ v. v.items ≡ definitions_ranks (number_at (defined (language_of language.now)) numbers.now) (language_of language.now).nonterminals) }
+    ensures { IfOk result (λ v. v.items ≡
+        definitions_ranks (number_in (language_of language.now) numbers.now)
+        (language_of language.now).nonterminals) }
 {
     let mut ranks = Vec::new(alloc);
     for (_, alternatives) in &language.nts {
@@ -139,7 +157,8 @@ fn rank_language(
     Ok(ranks)
 }
 
-// Ranks that fall along every left edge, where it is known how many nonterminals each reaches, and that none reaches itself.
+// Ranks that fall along every left edge, where it is known how many nonterminals each reaches, and
+// that none reaches itself.
 pub(crate) fn ranks(alloc: Global, language: &Language, counts: &[usize]) -> Result<Ranks, NoMemory>
     requires well_formed { IsWellFormed (language_of language.now) }
     requires size { length counts.now ≡ length (targets_of (language_of language.now)) }

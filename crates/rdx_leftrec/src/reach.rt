@@ -1,10 +1,10 @@
 // Which places are reached from each place.
 ghost use Rattle.std.specs.Prelude.{◌≡◌, ◌<◌, ℕ, false, length, replicate, IfOk, OnOk};
 ghost use Rattle.rdx_lang.specs.Members.{In};
-ghost use Rattle.rdx_leftrec.specs.Leads.{lists_of};
-ghost use Rattle.rdx_leftrec.specs.Marking as model;
-ghost use Rattle.rdx_leftrec.specs.Numbers.{IsWalked};
-ghost use Rattle.rdx_leftrec.specs.Reach.{AreTargets, IsReach};
+ghost use Rattle.rdx_leftrec.specs.Inside.Leads.{lists_of};
+ghost use Rattle.rdx_leftrec.specs.Inside.Marking as model;
+ghost use Rattle.rdx_leftrec.specs.Inside.Numbers.{IsWalked};
+ghost use Rattle.rdx_leftrec.specs.Inside.Reach.{AreTargets, IsReach};
 
 use rdx_term::NoMemory;
 use std::alloc::Global;
@@ -32,7 +32,8 @@ fn mark_all(
     pending: &mut Vec<usize>,
 ) -> Result<(), NoMemory>
     requires { (j : ℕ) → In j found.now → j < length marks.old.items }
-    ensures { OnOk result (model.marking marks.new.items pending.new.items ≡ model.mark_all (model.marking marks.old.items pending.old.items) found.now) }
+    ensures { OnOk result (model.marking marks.new.items pending.new.items ≡
+        model.mark_all (model.marking marks.old.items pending.old.items) found.now) }
 {
     for place in found {
         if !marks[*place] {

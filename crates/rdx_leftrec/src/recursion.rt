@@ -1,13 +1,12 @@
 // The check for left recursion.
 ghost use Rattle.std.specs.Prelude.{◌≡◌, ◌<◌, IfOk, IfErr, length};
-ghost use Rattle.rdx_lang.specs.Edges.{IsFree, IsFirstRecursive};
+ghost use Rattle.rdx_lang.specs.Edges.{IsFree};
 ghost use Rattle.rdx_lang.specs.PatternView.{language_of};
 ghost use Rattle.rdx_lang.specs.Ranks.{AreRanks};
 ghost use Rattle.rdx_lang.specs.WellFormed.{IsWellFormed};
-ghost use Rattle.rdx_lang.specs.declared.pattern.Ref.{Ref};
-ghost use Rattle.rdx_leftrec.specs.Answers.{IsRecursionOf, HasRecursion};
-ghost use Rattle.rdx_leftrec.specs.Leads.{targets_of};
-ghost use Rattle.rdx_leftrec.specs.Numbers.{IsFirst};
+ghost use Rattle.rdx_leftrec.specs.Recursion.{IsRecursionOf, IsNamed};
+ghost use Rattle.rdx_leftrec.specs.Inside.Leads.{targets_of};
+ghost use Rattle.rdx_leftrec.specs.Inside.Numbers.{IsFirst};
 
 use crate::edges::targets;
 use crate::ranks::ranks;
@@ -37,35 +36,26 @@ impl From<NoMemory> for LeftRec {
     }
 }
 
-// The same nonterminal.
-fn share(name: &Ref) -> Result<Ref, NoMemory>
-    ensures { IfOk result (λ x. x ≡ name.now) }
-{
-    match name {
-        Ref::Nt(name) => Ok(Ref::Nt(name.share()?)),
-    }
-}
-
 // The refusal that names the nonterminal at this place, the first that reaches itself.
 fn refusal(language: &Language, place: usize) -> LeftRec
     requires well_formed { IsWellFormed (language_of language.now) }
     requires first { IsFirst (targets_of (language_of language.now)) place }
     ensures { IsRecursionOf (language_of language.now) result }
 {
-    match share(&language.nts[place].0) {
+    match language.nts[place].0.share() {
         Ok(name) => LeftRec::LeftRecursive(name),
         Err(_) => LeftRec::NoMemory,
     }
 }
 
-/// Ranks that fall along every left edge of a well-formed language, or the first nonterminal, in the order of definition, that reaches
-/// itself.
+/// Ranks that fall along every left edge of a well-formed language, or the first nonterminal, in
+/// the order of definition, that reaches itself.
 pub fn check(alloc: Global, language: &Language) -> Result<Ranks, LeftRec>
     requires { IsWellFormed (language_of language.now) }
     ensures ranks { IfOk result (λ r. AreRanks (language_of language.now) r.of.items) }
     ensures free { IfOk result (λ r. IsFree (language_of language.now)) }
     ensures recursive { IfErr result (IsRecursionOf (language_of language.now)) }
-    ensures exact { (x : Ref) → IsFirstRecursive (language_of language.now) x → HasRecursion x result }
+    ensures exact { IsNamed (language_of language.now) result }
 {
     ranks_fall();
     let targets = targets(alloc, language)?;

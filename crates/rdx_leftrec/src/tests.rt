@@ -1,16 +1,13 @@
 // The check on small languages.
-mod passing;
-
 use crate::{LeftRec, check};
 use Shape::{Any, Inside, Named, To};
-use passing::passes;
 use rdx_lang::{Item, Kind, Language, Pat, Ranks, Ref};
 use rdx_term::Name;
 use std::process::Abort;
 use std::rc::RcStr;
 use std::test::Fail;
 
-// An alternative: `any`, a nonterminal, a nonterminal with a name, or a list of a nonterminal alone.
+// An alternative: `any`, a nonterminal, one with a name, or a list of a nonterminal alone.
 #[derive(Clone, Copy)]
 enum Shape {
     Any,
@@ -100,7 +97,7 @@ fn is_named(found: &Result<Ranks, LeftRec>, expected: Option<&str>) -> bool {
 fn first_recursive_nonterminals(rt: HostRuntime) -> Result<(), Fail> {
     for (rules, expected) in ROWS {
         let language = language(&rt, rules)?;
-        assert!(rt; passes(&language));
+        assert!(rt; language.is_well_formed());
         let found = check(rt.alloc(), &language);
         assert!(rt; is_named(&found, expected));
     }

@@ -10,7 +10,7 @@ use Rattle.rdx_lang.specs.PatternView.{Slot, just, slot_of, items_of}
 use Rattle.rdx_lang.specs.declared.pattern.Item as code_item
 use Rattle.rdx_match.specs.Searching.{item_pattern}
 use Rattle.rdx_match.proofs.Collecting.{no_member}
-use Rattle.rdx_lang.specs.Ranks.{pattern_nodes, items_nodes}
+use Rattle.rdx_lang.specs.Nodes.{pattern_nodes, items_nodes}
 
 -- an item of a list has at most the nodes of all
 pub nodes-item : (ts : List Term) (i : ℕ) (t : Term) → i < length ts → t ≡ get_or ts i t → tree_nodes (tree_of t) ≤ trees_nodes (trees_of ts)

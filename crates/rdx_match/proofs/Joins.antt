@@ -7,11 +7,12 @@ use Rattle.std.proofs.lemmas.Cmp.{tied_itself}
 use Rattle.rdx_lang.specs.Ascending.{IsBelow}
 use Rattle.rdx_lang.specs.Bindings.{Pair, Binding, name_cmp, bound_names, HasAscendingNames}
 use Rattle.rdx_lang.specs.Join.{IsJoin}
-use Rattle.rdx_lang.specs.JoinLaws.{one_value}
+use Rattle.rdx_lang.proofs.JoinLaws.{one_value}
 use Rattle.rdx_lang.specs.Members.{In, here, there}
-use Rattle.rdx_lang.specs.NameLaws.{above_first, below_all}
+use Rattle.rdx_lang.proofs.NameLaws.{above_first, below_all}
 use Rattle.rdx_lang.specs.Order.{value_cmp}
-use Rattle.rdx_lang.specs.OrderLaws.{name_cmp-tells, value_cmp-tells, value_cmp-total}
+use Rattle.rdx_lang.proofs.OrderLaws.{name_cmp-tells, value_cmp-tells}
+use Rattle.rdx_lang.specs.Model.TotalOrders.{value_cmp-total}
 use Rattle.rdx_match.specs.Inserting.{insert_pair, insert_pairs, behind, by_order}
 
 -- c has the pair p, and else what b has

@@ -8,7 +8,7 @@ use Rattle.std.specs.declared.cmp.Ordering.TheVariants.{Less, Equal, Greater}
 use Rattle.std.specs.Ordering.{match_ordering, ordering_reverse, on}
 use Rattle.rdx_lang.specs.Ascending.{IsBelow, IsAscending}
 use Rattle.rdx_lang.specs.Members.{In, here, there}
-use Rattle.rdx_lang.specs.OrderLaws.{TellsApart}
+use Rattle.rdx_lang.specs.Order.{TellsApart}
 use Rattle.rdx_match.proofs.Collecting.{In_along, In-before, In-behind, In-either, no_member}
 
 module _ {A : Type 0} (cmp : A → A → Ordering) (o : IsTotalOrder cmp) where

@@ -5,9 +5,11 @@ use Rattle.std.proofs.Math.Nat.{mul-le-mul}
 use Rattle.rdx_term.specs.Tree.{Tree, Trees, tree_nodes, trees_nodes}
 use Rattle.rdx_lang.specs.Members.{In, here, there}
 use Rattle.rdx_lang.specs.Patterns.{Pattern, wild, of_kind, except, prefix, lit, nt, named, seq, Definition, Language}
-use Rattle.rdx_lang.specs.Ranks.{pattern_nodes, patterns_nodes, root_ranks, roots_among, above, rank_of, left}
+use Rattle.rdx_lang.specs.Nodes.{pattern_nodes, patterns_nodes}
+use Rattle.rdx_lang.specs.Ranks.{root_ranks, roots_among}
+use Rattle.rdx_lang.specs.LeftNumbers.{above, rank_of, left_number as left}
 use Rattle.rdx_lang.specs.Rules.{IsAlternative}
-use Rattle.rdx_lang.specs.WellFormed.{is_same}
+use Rattle.rdx_lang.specs.References.{is_same}
 use Rattle.rdx_lang.specs.declared.pattern.Ref.{Ref}
 
 -- the greatest size of these patterns

@@ -12,7 +12,7 @@ use Rattle.rdx_lang.specs.Members.{here}
 use Rattle.rdx_lang.specs.Order.{binding_cmp}
 use Rattle.rdx_lang.specs.Patterns.{Pattern, nt, named, seq, Items, nil, one, Language}
 use Rattle.rdx_lang.specs.PatternView.{Slot, just, slot_of, items_of}
-use Rattle.rdx_lang.specs.Rest.{rest_at, rest_none}
+use Rattle.rdx_lang.proofs.Rest.{rest_at, rest_none}
 use Rattle.rdx_lang.specs.Rules.{Match, MatchItems, match_nt, match_named, match_seq, match_none, match_one}
 use Rattle.rdx_lang.specs.Shown.{bindings_of, binding_of}
 use Rattle.rdx_lang.specs.declared.binding.Binding as code

@@ -8,7 +8,7 @@ use Rattle.rdx_lang.specs.Bindings.{Pair, Binding}
 use Rattle.rdx_lang.specs.Bindings.{one as one_term}
 use Rattle.rdx_lang.specs.Edges.{Reaches, at_once, further, edge_nt, IsFree}
 use Rattle.rdx_lang.specs.Join.{IsJoin}
-use Rattle.rdx_lang.specs.JoinLaws.{one_join}
+use Rattle.rdx_lang.proofs.JoinLaws.{one_join}
 use Rattle.rdx_lang.specs.Listing.{IsListing, Matches}
 use Rattle.rdx_lang.specs.Members.{In, here, there}
 use Rattle.rdx_lang.specs.Order.{binding_cmp}

@@ -12,7 +12,7 @@ use Rattle.rdx_query.specs.FormParts.{form_kind}
 use Rattle.rdx_query.specs.FormReadings.{Query, form_language, form_query, language_by_kind, query_by_kind}
 use Rattle.rdx_query.specs.declared.kind.FormKind.{FormKind}
 use Rattle.rdx_query.specs.declared.kind.FormKind.TheVariants as kind
-use Rattle.rdx_lang.specs.FirstRecursive.{first_recursive-one, first_recursive-free}
+use Rattle.rdx_lang.proofs.FirstRecursive.{first_recursive-one, first_recursive-free}
 
 -- ---- forms
 

@@ -1,7 +1,7 @@
 -- Queries answered one by one.
 use Rattle.std.proofs.Common.{◌≡◌, ◌++◌, ℕ, ◌+◌, ◌<◌, ◌≤◌, length, drop, get_or, List, [], map, sym, subst, append_assoc, append-nil}
 use Rattle.rdx_lang.specs.Patterns.{Language}
-use Rattle.rdx_lang.specs.Rest.{rest_at, rest_none}
+use Rattle.rdx_lang.proofs.Rest.{rest_at, rest_none}
 use Rattle.rdx_query.specs.Answering.{AreAnswers, no_answers, more_answers}
 use Rattle.rdx_query.specs.Appending.{AppendsAnswer}
 use Rattle.rdx_query.specs.Views.{AreNamed, query_of}

@@ -1,6 +1,6 @@
 use Rattle.std.proofs.Common.{◌≡◌, subst, arith, IfOk}
 use Rattle.std.proofs.lemmas.Grind.{common_steps}
-use Rattle.rdx_lang.specs.PatternEquations.{slot_one, pattern_seq, pattern_named}
+use Rattle.rdx_lang.proofs.PatternEquations.{slot_one, pattern_seq, pattern_named}
 use Rattle.rdx_lang.specs.Patterns.{Pattern}
 use Rattle.rdx_lang.specs.PatternView.{pattern_of}
 use Rattle.rdx_grammar.specs.Headed.{avoiding_of}

@@ -1,4 +1,5 @@
-use Rattle.rdx_lang.specs.OrderLaws.{binding_cmp-total, binding_cmp-tells}
+use Rattle.rdx_lang.specs.Model.TotalOrders.{binding_cmp-total}
+use Rattle.rdx_lang.proofs.OrderLaws.{binding_cmp-tells}
 use Rattle.rdx_lang.proofs.laws.bindings_are_ordered.Goals as goal
 
 pub returns-clause-total : goal.returns-clause-total

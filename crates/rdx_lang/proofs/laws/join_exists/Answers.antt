@@ -1,4 +1,4 @@
-use Rattle.rdx_lang.specs.JoinLaws.{join_agrees}
+use Rattle.rdx_lang.proofs.JoinLaws.{join_agrees}
 use Rattle.rdx_lang.proofs.Joins.{join_exists}
 use Rattle.rdx_lang.proofs.laws.join_exists.Goals as goal
 

@@ -1,4 +1,4 @@
-use Rattle.rdx_lang.specs.NameLaws.{names-ascend, match-ascends, match-names}
+use Rattle.rdx_lang.proofs.NameLaws.{names-ascend, match-ascends, match-names}
 use Rattle.rdx_lang.proofs.laws.names_of_matches.Goals as goal
 
 pub returns-clause-ascending : goal.returns-clause-ascending

@@ -1,4 +1,4 @@
-use Rattle.rdx_lang.specs.JoinLaws.{one_join}
+use Rattle.rdx_lang.proofs.JoinLaws.{one_join}
 use Rattle.rdx_lang.proofs.laws.one_join.Goals as goal
 
 pub returns : goal.returns

@@ -1,5 +1,6 @@
 use Rattle.rdx_lang.specs.Order.{binding_cmp}
-use Rattle.rdx_lang.specs.OrderLaws.{binding_cmp-total, one_listing}
+use Rattle.rdx_lang.specs.Model.TotalOrders.{binding_cmp-total}
+use Rattle.rdx_lang.proofs.OrderLaws.{one_listing}
 use Rattle.rdx_lang.specs.Rules.{Match}
 use Rattle.rdx_lang.proofs.laws.one_listing.Goals as goal
 

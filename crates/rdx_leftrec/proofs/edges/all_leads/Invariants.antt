@@ -1,7 +1,7 @@
 use Rattle.std.proofs.Common.{◌≡◌, ◌++◌, drop}
 use Rattle.rdx_lang.specs.PatternView.{patterns_of, language_of}
 use Rattle.rdx_lang.specs.WellFormed.{defined}
-use Rattle.rdx_leftrec.specs.Leads.{places, all_leads}
+use Rattle.rdx_leftrec.specs.Inside.Leads.{places, all_leads}
 use Rattle.rdx_leftrec.proofs.edges.all_leads.Given as goal
 
 abbrev pub invariant-loop-pat : goal.invariant-loop-pat

@@ -1,7 +1,7 @@
 use Rattle.std.proofs.Common.{◌≡◌, ◌+◌, drop, map}
 use Rattle.rdx_lang.specs.PatternView.{definition_of, language_of}
 use Rattle.rdx_lang.specs.WellFormed.{defined}
-use Rattle.rdx_leftrec.specs.Leads.{place}
+use Rattle.rdx_leftrec.specs.Inside.Leads.{place}
 use Rattle.rdx_leftrec.proofs.edges.place.Given as goal
 
 abbrev pub invariant-loop-i : goal.invariant-loop-i

@@ -1,7 +1,7 @@
 use Rattle.std.proofs.Common.{◌≡◌, ◌++◌, drop, map}
 use Rattle.rdx_lang.specs.PatternView.{definition_of, language_of}
 use Rattle.rdx_lang.specs.WellFormed.{defined}
-use Rattle.rdx_leftrec.specs.Leads.{places, all_leads, targets_of, lists_of}
+use Rattle.rdx_leftrec.specs.Inside.Leads.{places, all_leads, targets_of, lists_of}
 use Rattle.rdx_leftrec.proofs.edges.targets.Given as goal
 
 abbrev pub invariant-loop-alternatives : goal.invariant-loop-alternatives

@@ -1,6 +1,6 @@
 use Rattle.std.proofs.Common.{◌≡◌, max, drop}
 use Rattle.rdx_lang.specs.PatternView.{patterns_of}
-use Rattle.rdx_leftrec.specs.Numbers.{most_around}
+use Rattle.rdx_leftrec.specs.Inside.Numbers.{most_around}
 use Rattle.rdx_leftrec.proofs.ranks.most_around.Given as goal
 
 abbrev pub invariant-loop-pat : goal.invariant-loop-pat

@@ -1,6 +1,6 @@
 use Rattle.std.proofs.Common.{◌≡◌, max, drop, map}
 use Rattle.rdx_lang.specs.PatternView.{definition_of}
-use Rattle.rdx_leftrec.specs.Numbers.{most_names}
+use Rattle.rdx_leftrec.specs.Inside.Numbers.{most_names}
 use Rattle.rdx_leftrec.proofs.ranks.most_names.Given as goal
 
 abbrev pub invariant-loop-alternatives : goal.invariant-loop-alternatives

@@ -1,5 +1,5 @@
 use Rattle.std.proofs.Common.{◌≡◌, ◌++◌, drop}
-use Rattle.rdx_leftrec.specs.Numbers.{scaled}
+use Rattle.rdx_leftrec.specs.Inside.Numbers.{scaled}
 use Rattle.rdx_leftrec.proofs.ranks.numbers.Given as goal
 
 abbrev pub invariant-loop-count : goal.invariant-loop-count

@@ -1,12 +1,12 @@
 use Rattle.std.proofs.Common.{arith, ◌≡◌, ◌+◌, List, ℕ, sym, subst, ◌∙◌, ap}
 use Rattle.std.proofs.lemmas.Grind.{common_steps}
-use Rattle.rdx_lang.specs.LookupLaws.{alternatives_of-all}
+use Rattle.rdx_lang.proofs.LookupLaws.{alternatives_of-all}
 use Rattle.rdx_lang.specs.PatternView.{language_of}
 use Rattle.rdx_lang.specs.Patterns.{Language}
 use Rattle.rdx_lang.specs.Ranks.{AreRanks}
 use Rattle.rdx_lang.specs.WellFormed.{defined}
-use Rattle.rdx_leftrec.specs.Numbers.{most_names, number_at, scaled}
-use Rattle.rdx_leftrec.specs.Preorder.{definitions_ranks}
+use Rattle.rdx_leftrec.specs.Inside.Numbers.{most_names, number_at, scaled}
+use Rattle.rdx_leftrec.specs.Inside.Preorder.{definitions_ranks}
 use Rattle.rdx_leftrec.proofs.Counting.{number-falls}
 use Rattle.rdx_leftrec.proofs.Falling.{ranks-fall}
 use Rattle.rdx_leftrec.proofs.ranks.ranks.Goals as goal

@@ -1,5 +1,5 @@
 use Rattle.std.proofs.Common.{◌≡◌, ◌+◌, ◌≤◌, drop}
-use Rattle.rdx_leftrec.specs.Marking.{marked}
+use Rattle.rdx_leftrec.specs.Inside.Marking.{marked}
 use Rattle.rdx_leftrec.proofs.reach.count.Given as goal
 
 abbrev pub invariant-loop-mark : goal.invariant-loop-mark

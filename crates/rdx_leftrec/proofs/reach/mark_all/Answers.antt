@@ -1,7 +1,7 @@
 use Rattle.std.proofs.Common.{arith, ◌≡◌, ◌<◌, ◌++◌, ℕ, Bool, true, List, [], ◌∷◌, length, get_or, set, ap, sym, ◌∙◌}
 use Rattle.std.proofs.lemmas.Grind.{common_steps}
 use Rattle.std.proofs.lemmas.List.{length-set}
-use Rattle.rdx_leftrec.specs.Marking.{Marking, marking, mark, mark_all}
+use Rattle.rdx_leftrec.specs.Inside.Marking.{Marking, marking, mark, mark_all}
 use Rattle.rdx_leftrec.proofs.Lists.{read-in}
 use Rattle.rdx_leftrec.proofs.Marks.{mark-new, mark-old, marked-read, unmarked-read, mark_all-next}
 use Rattle.rdx_leftrec.proofs.reach.mark_all.Goals as goal

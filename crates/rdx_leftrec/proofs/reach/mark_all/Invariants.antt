@@ -1,5 +1,5 @@
 use Rattle.std.proofs.Common.{◌≡◌, drop, length}
-use Rattle.rdx_leftrec.specs.Marking.{marking, mark_all}
+use Rattle.rdx_leftrec.specs.Inside.Marking.{marking, mark_all}
 use Rattle.rdx_leftrec.proofs.reach.mark_all.Given as goal
 
 abbrev pub invariant-loop-place : goal.invariant-loop-place

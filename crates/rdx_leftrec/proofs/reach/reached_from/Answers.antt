@@ -1,9 +1,9 @@
 use Rattle.std.proofs.Common.{arith, rules, ◌≡◌, ◌<◌, ℕ, List, [], length, subst, sym, ◌∙◌}
 use Rattle.std.proofs.lemmas.Grind.{common_steps}
 use Rattle.rdx_lang.specs.Members.{In}
-use Rattle.rdx_leftrec.specs.Leads.{lists_of}
-use Rattle.rdx_leftrec.specs.Marking.{marking}
-use Rattle.rdx_leftrec.specs.Reach.{targets_at}
+use Rattle.rdx_leftrec.specs.Inside.Leads.{lists_of}
+use Rattle.rdx_leftrec.specs.Inside.Marking.{marking}
+use Rattle.rdx_leftrec.specs.Inside.Reach.{targets_at}
 use Rattle.rdx_leftrec.proofs.Exploring.{targets_at-read, explores_first, left-read, waiting-less, explores_next, explores_last}
 use Rattle.rdx_leftrec.proofs.reach.reached_from.Goals as goal
 

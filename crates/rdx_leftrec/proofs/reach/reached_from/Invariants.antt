@@ -1,6 +1,6 @@
 use Rattle.std.proofs.Common.{◌+◌, length}
-use Rattle.rdx_leftrec.specs.Leads.{lists_of}
-use Rattle.rdx_leftrec.specs.Marking.{marking, unmarked}
+use Rattle.rdx_leftrec.specs.Inside.Leads.{lists_of}
+use Rattle.rdx_leftrec.specs.Inside.Marking.{marking, unmarked}
 use Rattle.rdx_leftrec.proofs.Exploring.{Explores}
 use Rattle.rdx_leftrec.proofs.reach.reached_from.Given as goal
 

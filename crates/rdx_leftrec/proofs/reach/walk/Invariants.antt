@@ -1,6 +1,6 @@
 use Rattle.std.proofs.Common.{◌≡◌, length}
-use Rattle.rdx_leftrec.specs.Leads.{lists_of}
-use Rattle.rdx_leftrec.specs.Numbers.{AreCounts}
+use Rattle.rdx_leftrec.specs.Inside.Leads.{lists_of}
+use Rattle.rdx_leftrec.specs.Inside.Numbers.{AreCounts}
 use Rattle.rdx_leftrec.proofs.reach.walk.Given as goal
 
 abbrev pub invariant-loop-start : goal.invariant-loop-start

@@ -1,7 +1,7 @@
 use Rattle.std.proofs.Common.{◌≡◌, ◌∙◌, ap, sym, subst, List, ℕ}
 use Rattle.rdx_lang.specs.PatternView.{language_of}
-use Rattle.rdx_leftrec.specs.Leads.{lists_of, targets_of}
-use Rattle.rdx_leftrec.specs.Reach.{AreTargets}
+use Rattle.rdx_leftrec.specs.Inside.Leads.{lists_of, targets_of}
+use Rattle.rdx_leftrec.specs.Inside.Reach.{AreTargets}
 use Rattle.rdx_leftrec.proofs.Paths.{targets-inside, names-first}
 use Rattle.rdx_leftrec.proofs.recursion.check.Goals as goal
 

@@ -1,7 +1,7 @@
 use Rattle.std.proofs.Common.{◌≡◌, ◌++◌, [], ◌∷◌, arith}
 use Rattle.std.proofs.lemmas.Grind.{common_steps}
 use Rattle.rdx_lang.specs.Join.{IsJoin}
-use Rattle.rdx_lang.specs.JoinLaws.{one_join}
+use Rattle.rdx_lang.proofs.JoinLaws.{one_join}
 use Rattle.rdx_lang.specs.Shown.{binding_of, bindings_of}
 use Rattle.rdx_match.proofs.Collecting.{adds_one}
 use Rattle.rdx_match.proofs.combining.add_join.Goals as goal

@@ -6,7 +6,8 @@ use Rattle.rdx_lang.specs.Ascending.{IsAscending}
 use Rattle.rdx_lang.specs.Bindings.{Binding}
 use Rattle.rdx_lang.specs.Members.{In}
 use Rattle.rdx_lang.specs.Order.{binding_cmp}
-use Rattle.rdx_lang.specs.OrderLaws.{binding_cmp-total, binding_cmp-tells}
+use Rattle.rdx_lang.specs.Model.TotalOrders.{binding_cmp-total}
+use Rattle.rdx_lang.proofs.OrderLaws.{binding_cmp-tells}
 use Rattle.rdx_lang.specs.Shown.{binding_of, bindings_of}
 use Rattle.rdx_match.proofs.Keys.{ascends-inserted, moved_members, map-inserted}
 use Rattle.rdx_match.proofs.listing.listing.Goals as goal

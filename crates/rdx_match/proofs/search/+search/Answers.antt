@@ -7,17 +7,17 @@ use Rattle.rdx_lang.specs.Bindings.{Binding}
 use Rattle.rdx_lang.specs.Checked.{language_in, ranks_in}
 use Rattle.rdx_lang.specs.Listing.{IsListing, Matches}
 use Rattle.rdx_lang.specs.Order.{binding_cmp}
-use Rattle.rdx_lang.specs.PatternEquations.{pattern_wild, pattern_kind, pattern_except, pattern_prefix, pattern_lit, pattern_nt, pattern_named, pattern_seq}
+use Rattle.rdx_lang.proofs.PatternEquations.{pattern_wild, pattern_kind, pattern_except, pattern_prefix, pattern_lit, pattern_nt, pattern_named, pattern_seq}
 use Rattle.rdx_lang.specs.Patterns.{Items, Language, wild, of_kind, except, prefix, lit, nt, named, seq}
 use Rattle.rdx_lang.specs.PatternView.{pattern_of, patterns_of, slot_of, items_of}
-use Rattle.rdx_lang.specs.Rest.{rest_at, rest_none}
+use Rattle.rdx_lang.proofs.Rest.{rest_at, rest_none}
 use Rattle.rdx_lang.specs.Rules.{Match, MatchItems, IsAlternative}
 use Rattle.rdx_lang.specs.Shown.{bindings_of}
 use Rattle.rdx_match.specs.Atoms.{is_other_symbol}
 use Rattle.rdx_match.specs.Combining.{Joined}
 use Rattle.rdx_match.specs.Searching.{item_pattern}
 use Rattle.rdx_match.proofs.AnyOf.{untried_first, untried_next, untried_none}
-use Rattle.rdx_lang.specs.Ranks.{pattern_nodes, items_nodes}
+use Rattle.rdx_lang.specs.Nodes.{pattern_nodes, items_nodes}
 use Rattle.rdx_match.proofs.Measures.{weight-alternative, weight-item}
 use Rattle.rdx_match.proofs.AtomListings.{listing_wild, listing_kind, listing_except, listing_prefix, listing_lit}
 use Rattle.rdx_match.proofs.ItemSizes.{nodes-item, pattern_nodes-item}

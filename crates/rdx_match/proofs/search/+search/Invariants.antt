@@ -8,7 +8,7 @@ use Rattle.rdx_lang.specs.PatternView.{pattern_of, patterns_of, slot_of, items_o
 use Rattle.rdx_lang.specs.Rules.{MatchItems}
 use Rattle.rdx_lang.specs.Shown.{bindings_of}
 use Rattle.rdx_match.proofs.AnyOf.{Untried}
-use Rattle.rdx_lang.specs.Ranks.{items_nodes}
+use Rattle.rdx_lang.specs.Nodes.{items_nodes}
 use Rattle.rdx_match.proofs.Measures.{weight, items_weight}
 use Rattle.rdx_match.proofs.search.+search.Given as goal
 

@@ -4,7 +4,7 @@ use Rattle.rdx_lang.specs.Checked.{language_in}
 use Rattle.rdx_lang.specs.Members.{In}
 use Rattle.rdx_lang.specs.Patterns.{Pattern}
 use Rattle.rdx_lang.specs.Rules.{IsAlternative}
-use Rattle.rdx_lang.specs.LookupLaws.{alternatives_of-all}
+use Rattle.rdx_lang.proofs.LookupLaws.{alternatives_of-all}
 use Rattle.rdx_lang.proofs.checked.CheckedLang.alternatives.Goals as goal
 
 pub returns-clause-all : goal.returns-clause-all

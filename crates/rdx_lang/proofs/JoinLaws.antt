@@ -1,0 +1,57 @@
+-- Two bindings have one join at most, and none unless the names that both bind have equal values.
+use Rattle.std.proofs.Common.{◌≡◌, ℕ, List, [], ◌∷◌, sym, ◌∙◌, ap, subst, inl, inr}
+use Rattle.std.specs.declared.cmp.Ordering.TheVariants.{Less}
+use Rattle.std.specs.Ordering.{ordering_then}
+use Rattle.rdx_lang.specs.Ascending.{IsBelow, IsAscending}
+use Rattle.rdx_lang.specs.Bindings.{Value, Pair, Binding, name_cmp, bound_names, HasAscendingNames}
+use Rattle.rdx_lang.specs.Join.{IsJoin, Agree}
+use Rattle.rdx_lang.specs.Members.{In, here, there}
+use Rattle.rdx_lang.specs.Order.{pair_cmp, value_cmp}
+use Rattle.rdx_lang.specs.Model.TotalOrders.{name_cmp-total, pair_cmp-total}
+use Rattle.rdx_lang.proofs.MemberLaws.{map-in}
+use Rattle.rdx_lang.proofs.OrderLaws.{not_a_member, fixed_by_members}
+
+-- where the names decide, the values don't
+by_name : (p q : Pair) → name_cmp p.0 q.0 ≡ Less → pair_cmp p q ≡ Less
+by_name p q h = ap (λ o. ordering_then o (value_cmp p.1 q.1)) h
+
+-- a pair is below those whose names its name is below
+names_below : (p : Pair) (b : Binding) → IsBelow name_cmp p.0 (bound_names b) → IsBelow pair_cmp p b
+names_below p [] h = tt
+names_below p (q ∷ b) h = (by_name p q h.0, names_below p b h.1)
+
+-- pairs whose names ascend ascend
+pairs_ascend : (b : Binding) → IsAscending name_cmp (bound_names b) → IsAscending pair_cmp b
+pairs_ascend [] h = tt
+pairs_ascend (p ∷ b) h = (names_below p b h.0, pairs_ascend b h.1)
+
+-- what one join has another has
+within : (a b c d : Binding) → IsJoin a b c → IsJoin a b d → (p : Pair) → In p c → In p d
+within a b c d j k p h = elim (j.sound p h) [ inl l ↦ k.left p l | inr r ↦ k.right p r ]
+
+-- joins of the same bindings are equal
+pub one_join : (a b c d : Binding) → IsJoin a b c → IsJoin a b d → c ≡ d
+one_join a b c d j k = fixed_by_members pair_cmp pair_cmp-total c d (pairs_ascend c j.map) (pairs_ascend d k.map) (within a b c d j k) (within a b d c k j)
+
+-- ---- a map gives a name one value
+
+-- the name of a pair is bound
+pub bound_names-member : (p : Pair) (b : Binding) → In p b → In p.0 (bound_names b)
+bound_names-member p b h = map-in (λ (q : Pair). q.0) b p h
+
+-- the name of the first pair has no other value behind it
+first_alone : (x : List ℕ) (v w : Value) (p : Pair) (b : Binding) → IsBelow name_cmp p.0 (bound_names b) → (x, v) ≡ p → In (x, w) b → ⊥
+first_alone x v w p b h e i =
+    not_a_member name_cmp name_cmp-total p.0 (bound_names b) h (subst (λ (y : List ℕ). In y (bound_names b)) (ap (λ (r : Pair). r.0) e) (bound_names-member (x, w) b i))
+
+-- a name has one value
+pub one_value : (x : List ℕ) (v w : Value) (b : Binding) → HasAscendingNames b → In (x, v) b → In (x, w) b → v ≡ w
+one_value x v w [] a h k = elim h [ ]
+one_value x v w (p ∷ b) a (here e) (here f) = ap (λ (r : Pair). r.1) (e ∙ sym f)
+one_value x v w (p ∷ b) a (here e) (there k) = absurd (first_alone x v w p b a.0 e k)
+one_value x v w (p ∷ b) a (there h) (here f) = absurd (first_alone x w v p b a.0 f h)
+one_value x v w (p ∷ b) a (there h) (there k) = one_value x v w b a.1 h k
+
+-- bindings that have a join agree
+pub join_agrees : (a b c : Binding) → IsJoin a b c → Agree a b
+join_agrees a b c j x v w h k = one_value x v w c j.map (j.left (x, v) h) (j.right (x, w) k)

@@ -1,0 +1,3 @@
+pub mod AscendingProps
+pub mod RankProps
+pub mod TotalOrders

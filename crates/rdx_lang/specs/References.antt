@@ -1,0 +1,18 @@
+-- What nonterminals go by: when two are the same, and lists of them.
+use Rattle.std.specs.Prelude.{Bool, true, false, not, ◌&&◌, ◌||◌, List, [], ◌∷◌, bytes_eq}
+use Rattle.rdx_lang.specs.declared.pattern.Ref.{Ref}
+use Rattle.rdx_lang.specs.declared.pattern.Ref.TheVariants.{Nt}
+
+-- the same nonterminal
+abbrev pub is_same : Ref → Ref → Bool
+is_same (Nt x) (Nt y) = bytes_eq x y
+
+-- x is one of these nonterminals
+abbrev pub is_among : Ref → List Ref → Bool
+is_among x [] = false
+is_among x (y ∷ ys) = is_same x y || is_among x ys
+
+-- no nonterminal comes twice
+abbrev pub are_distinct : List Ref → Bool
+are_distinct [] = true
+are_distinct (x ∷ xs) = not (is_among x xs) && are_distinct xs

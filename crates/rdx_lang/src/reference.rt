@@ -1,0 +1,26 @@
+// What nonterminals go by, compared and shared.
+ghost use Rattle.std.specs.Prelude.{◌≡◌, IfOk};
+ghost use Rattle.rdx_lang.specs.References.{is_same};
+
+use crate::Ref;
+use rdx_term::NoMemory;
+
+impl Ref {
+    /// Whether both are the same nonterminal.
+    pub fn same(&self, other: &Ref) -> bool
+        ensures { result ≡ is_same self.now other.now }
+    {
+        match (self, other) {
+            (Ref::Nt(a), Ref::Nt(b)) => a.text() == b.text(),
+        }
+    }
+
+    /// The same nonterminal once more; its name is shared.
+    pub fn share(&self) -> Result<Ref, NoMemory>
+        ensures { IfOk result (λ x. x ≡ self.now) }
+    {
+        match self {
+            Ref::Nt(name) => Ok(Ref::Nt(name.share()?)),
+        }
+    }
+}

@@ -1,0 +1,5 @@
+pub mod Leads
+pub mod Reach
+pub mod Marking
+pub mod Numbers
+pub mod Preorder
