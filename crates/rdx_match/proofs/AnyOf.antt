@@ -5,7 +5,7 @@ use Rattle.rdx_lang.specs.Bindings.{Binding}
 use Rattle.rdx_lang.specs.Members.{In, here, there}
 use Rattle.rdx_lang.specs.Patterns.{Pattern, Language}
 use Rattle.rdx_lang.specs.Rules.{Match}
-use Rattle.rdx_match.proofs.Collecting.{In_along, no_member}
+use Rattle.rdx_lang.proofs.Collecting.{In_along, no_member}
 
 -- of all patterns only those of rest may match t
 pub record Untried (L : Language) (all rest : List Pattern) (t : Tree) : Type 0 where

@@ -1,8 +1,11 @@
 -- Listings of at most the empty binding, and the patterns that match by the term alone.
-use Rattle.std.proofs.Common.{◌≡◌, ℕ, Bool as Truth, true, false, if◌then◌else◌, IsTrue, List, [], ◌∷◌, refl, sym, ◌∙◌, ap, subst}
+use Rattle.std.proofs.Common.{◌≡◌, ℕ, eqb, Bool as Truth, true, false, if◌then◌else◌, IsTrue, List, [], ◌∷◌, refl, sym, ◌∙◌, ap, subst}
+use Rattle.std.specs.List.{starts_with}
 use Rattle.std.specs.Prelude.{◌↔◌, not}
 use Rattle.rdx_term.specs.Bare.{bare}
 use Rattle.rdx_term.specs.Tree.{Tree, hole, integer, truth, text, symbol, list}
+use Rattle.rdx_lang.proofs.Collecting.{no_member, only}
+use Rattle.rdx_lang.proofs.RuleSteps.{IsSymbol, wild_inside, kind_inside, except_inside, prefix_inside, lit_inside}
 use Rattle.rdx_lang.specs.Bindings.{Binding}
 use Rattle.rdx_lang.specs.Listing.{IsListing, Matches}
 use Rattle.rdx_lang.specs.Members.{here}
@@ -10,8 +13,7 @@ use Rattle.rdx_lang.specs.Order.{binding_cmp}
 use Rattle.rdx_lang.specs.Patterns.{wild, of_kind, except, prefix, lit, Language}
 use Rattle.rdx_lang.specs.Rules.{Match, match_wild, match_kind, match_except, match_prefix, match_lit, is_of_kind, is_one_of}
 use Rattle.rdx_lang.specs.declared.pattern.Kind.{Kind}
-use Rattle.rdx_match.specs.Atoms.{is_other_symbol, has_prefix}
-use Rattle.rdx_match.proofs.Collecting.{no_member, only}
+use Rattle.rdx_match.specs.Inside.Atoms.{is_other_symbol, has_prefix}
 
 -- the empty binding alone
 abbrev pub empty_alone : List Binding
@@ -39,18 +41,18 @@ not-true : (a : Truth) → IsTrue (not a) → a ≡ false
 not-true true h = absurd cc
 not-true false h = refl
 
-module _ {L : Language} where
-  -- what `_` binds
-  wild_inside : {t : Tree} {b : Binding} → Match L wild t b → b ≡ []
-  wild_inside match_wild = refl
+-- a symbol that passes the test of `variable-except`
+except_passes : (rs : List (List ℕ)) (t : Tree) → IsSymbol (λ s. is_one_of rs s ≡ false) t → IsTrue (is_other_symbol rs t)
+except_passes rs t i = ap (is_other_symbol rs) i.same ∙ ap not i.passes
 
+-- a symbol that passes the test of `variable-prefix`
+prefix_passes : (r : List ℕ) (t : Tree) → IsSymbol (λ s. starts_with eqb s r ≡ true) t → IsTrue (has_prefix r t)
+prefix_passes r t i = ap (has_prefix r) i.same ∙ i.passes
+
+module _ {L : Language} where
   -- `_` matches each term
   pub listing_wild : {t : Tree} {bs : List Binding} → bs ≡ empty_alone → Matches L wild t bs
   listing_wild e = listing_where true e (λ h. match_wild) (λ b m. (refl, wild_inside m))
-
-  -- what `variable-except` matches and binds
-  except_inside : {rs : List (List ℕ)} {t : Tree} {b : Binding} → Match L (except rs) t b → IsTrue (is_other_symbol rs t) × (b ≡ [])
-  except_inside (match_except h) = (ap not h, refl)
 
   -- a symbol other than these is matched
   except_outside : {rs : List (List ℕ)} (t : Tree) → IsTrue (is_other_symbol rs t) → Match L (except rs) t []
@@ -63,11 +65,7 @@ module _ {L : Language} where
 
   -- `variable-except` matches by the test of symbols
   pub listing_except : {rs : List (List ℕ)} {t : Tree} {bs : List Binding} (holds : Truth) → bs ≡ (if holds then empty_alone else []) → holds ≡ is_other_symbol rs t → Matches L (except rs) t bs
-  listing_except {t = t} holds e f = listing_where holds e (λ h. except_outside t (sym f ∙ h)) (λ b m. let i = except_inside m in (f ∙ i.0, i.1))
-
-  -- what `variable-prefix` matches and binds
-  prefix_inside : {r : List ℕ} {t : Tree} {b : Binding} → Match L (prefix r) t b → IsTrue (has_prefix r t) × (b ≡ [])
-  prefix_inside (match_prefix h) = (h, refl)
+  listing_except {rs} {t = t} holds e f = listing_where holds e (λ h. except_outside t (sym f ∙ h)) (λ b m. let i = except_inside m in (f ∙ except_passes rs t i.0, i.1))
 
   -- a symbol that begins so is matched
   prefix_outside : {r : List ℕ} (t : Tree) → IsTrue (has_prefix r t) → Match L (prefix r) t []
@@ -80,19 +78,11 @@ module _ {L : Language} where
 
   -- `variable-prefix` matches by the test of symbols
   pub listing_prefix : {r : List ℕ} {t : Tree} {bs : List Binding} (holds : Truth) → bs ≡ (if holds then empty_alone else []) → holds ≡ has_prefix r t → Matches L (prefix r) t bs
-  listing_prefix {t = t} holds e f = listing_where holds e (λ h. prefix_outside t (sym f ∙ h)) (λ b m. let i = prefix_inside m in (f ∙ i.0, i.1))
-
-  -- what a built-in name matches and binds
-  kind_inside : {k : Kind} {t : Tree} {b : Binding} → Match L (of_kind k) t b → IsTrue (is_of_kind L k t) × (b ≡ [])
-  kind_inside (match_kind h) = (h, refl)
+  listing_prefix {r} {t = t} holds e f = listing_where holds e (λ h. prefix_outside t (sym f ∙ h)) (λ b m. let i = prefix_inside m in (f ∙ prefix_passes r t i.0, i.1))
 
   -- a built-in name matches by its test
   pub listing_kind : {k : Kind} {t : Tree} {bs : List Binding} (holds : Truth) → bs ≡ (if holds then empty_alone else []) → holds ≡ is_of_kind L k t → Matches L (of_kind k) t bs
   listing_kind holds e f = listing_where holds e (λ h. match_kind (sym f ∙ h)) (λ b m. let i = kind_inside m in (f ∙ i.0, i.1))
-
-  -- what a literal matches and binds
-  lit_inside : {u t : Tree} {b : Binding} → Match L (lit u) t b → (bare t ≡ bare u) × (b ≡ [])
-  lit_inside (match_lit h) = (h, refl)
 
   -- a literal matches what is equal without marks
   pub listing_lit : {u t : Tree} {bs : List Binding} (holds : Truth) → bs ≡ (if holds then empty_alone else []) → (IsTrue holds ↔ (bare t ≡ bare u)) → Matches L (lit u) t bs

@@ -1,9 +1,5 @@
-pub mod Inserting
-pub mod Joins
-pub mod Collecting
-pub mod Keys
-pub mod Measures
-pub mod ItemSizes
+pub mod Merging
+pub mod ItemRows
 pub mod AnyOf
 pub mod AtomListings
-pub mod RuleSteps
+pub mod PartListings

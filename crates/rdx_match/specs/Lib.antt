@@ -1,4 +1,1 @@
-pub mod Atoms
-pub mod Inserting
-pub mod Combining
-pub mod Searching
+pub mod Inside

@@ -4,13 +4,14 @@ ghost use Rattle.std.specs.List.{starts_with};
 ghost use Rattle.rdx_lang.specs.Checked.{language_in};
 ghost use Rattle.rdx_lang.specs.Rules as rules;
 ghost use Rattle.rdx_term.specs.View.{tree_of};
-ghost use Rattle.rdx_match.specs.Atoms as atoms;
+ghost use Rattle.rdx_match.specs.Inside.Atoms as atoms;
 
 use crate::literals::is_mentioned;
 use rdx_lang::{CheckedLang, Kind};
 use rdx_term::{Name, Term};
 
 /// Whether the built-in name stands for the term.
+#[inline(never)]
 pub(crate) fn is_of_kind(language: &CheckedLang, kind: Kind, t: &Term) -> bool
     ensures { result ≡ rules.is_of_kind (language_in language.now) kind (tree_of t.now) }
 {
@@ -41,6 +42,7 @@ fn is_one_of(names: &[Name], name: &Name) -> bool
 }
 
 /// Whether the term is a symbol other than these.
+#[inline(never)]
 pub(crate) fn is_other_symbol(names: &[Name], t: &Term) -> bool
     ensures { result ≡ atoms.is_other_symbol names.now (tree_of t.now) }
 {
@@ -51,6 +53,7 @@ pub(crate) fn is_other_symbol(names: &[Name], t: &Term) -> bool
 }
 
 /// Whether the term is a symbol that begins so.
+#[inline(never)]
 pub(crate) fn has_prefix(prefix: &Name, t: &Term) -> bool
     ensures { result ≡ atoms.has_prefix prefix.now (tree_of t.now) }
 {

@@ -1,12 +1,10 @@
 // Joins of whole lists of bindings.
 ghost use Rattle.std.specs.Prelude.{◌≡◌, ◌∷◌, [], IfOk, OnOk};
-ghost use Rattle.rdx_lang.specs.Bindings.{one};
+ghost use Rattle.rdx_lang.specs.Bindings.{one, one_name};
 ghost use Rattle.rdx_lang.specs.Join.{IsJoin};
-ghost use Rattle.rdx_lang.specs.Listing.{IsListing};
-ghost use Rattle.rdx_lang.specs.Order.{binding_cmp};
 ghost use Rattle.rdx_lang.specs.Shown.{binding_of, bindings_of};
 ghost use Rattle.rdx_term.specs.View.{tree_of};
-ghost use Rattle.rdx_match.specs.Combining.{Adds, JoinsWith, Joined, Named};
+ghost use Rattle.rdx_match.specs.Inside.Combining.{AddsBindings, JoinsWith, Joined, Lists, Named};
 
 use crate::joining::join;
 use crate::listing::listing;
@@ -21,7 +19,7 @@ fn add_join(
     b: &Binding,
     found: &mut Vec<Binding>,
 ) -> Result<(), NoMemory>
-    ensures { OnOk result (Adds (IsJoin (binding_of a.now) (binding_of b.now)) (bindings_of found.old.items) (bindings_of found.new.items)) }
+    ensures { OnOk result (AddsBindings (IsJoin (binding_of a.now) (binding_of b.now)) found.old found.new) }
 {
     if let Some(joined) = join(alloc, a, b)? {
         found.push(joined)?;
@@ -36,7 +34,7 @@ fn add_joins(
     others: &[Binding],
     found: &mut Vec<Binding>,
 ) -> Result<(), NoMemory>
-    ensures { OnOk result (Adds (JoinsWith (bindings_of others.now) (binding_of first.now)) (bindings_of found.old.items) (bindings_of found.new.items)) }
+    ensures { OnOk result (AddsBindings (JoinsWith (bindings_of others.now) (binding_of first.now)) found.old found.new) }
 {
     for other in others {
         add_join(alloc, first, other, found)?;
@@ -50,7 +48,7 @@ pub(crate) fn joins(
     firsts: &[Binding],
     others: &[Binding],
 ) -> Result<Vec<Binding>, NoMemory>
-    ensures { IfOk result (λ v. IsListing binding_cmp (bindings_of v.items) (Joined (bindings_of firsts.now) (bindings_of others.now))) }
+    ensures { Lists result (Joined (bindings_of firsts.now) (bindings_of others.now)) }
 {
     let mut found = Vec::new(alloc);
     for first in firsts {
@@ -61,7 +59,7 @@ pub(crate) fn joins(
 
 // The binding with this one pair.
 fn one_pair(alloc: Global, name: &Name, t: &Term) -> Result<Binding, NoMemory>
-    ensures { IfOk result (λ b. binding_of b ≡ (name.now, one (tree_of t.now)) ∷ []) }
+    ensures { IfOk result (λ b. binding_of b ≡ one_name name.now (one (tree_of t.now))) }
 {
     let mut pairs = Vec::with_capacity(alloc, 1)?;
     pairs.push((name.share()?, Value::One(t.share()?)))?;
@@ -69,13 +67,14 @@ fn one_pair(alloc: Global, name: &Name, t: &Term) -> Result<Binding, NoMemory>
 }
 
 /// Each of `firsts` joined with the binding of the name to the term.
+#[inline(never)]
 pub(crate) fn with_name(
     alloc: Global,
     firsts: &[Binding],
     name: &Name,
     t: &Term,
 ) -> Result<Vec<Binding>, NoMemory>
-    ensures { IfOk result (λ v. IsListing binding_cmp (bindings_of v.items) (Named (bindings_of firsts.now) name.now (tree_of t.now))) }
+    ensures { Lists result (Named (bindings_of firsts.now) name.now (tree_of t.now)) }
 {
     let named = one_pair(alloc, name, t)?;
     let mut found = Vec::new(alloc);

@@ -5,8 +5,9 @@
 //! exactly the bindings that the rules of matching derive, each once, however many derivations it has. A nonterminal that the
 //! language lacks has no alternatives and matches nothing.
 //!
-//! The search ends since with each call the term loses nodes, or it stays and a number of the pattern falls, which the ranks of the
-//! language give. Each part of a term is searched anew each time that it is met, so the time may grow fast with the term.
+//! The search goes to a limited depth, since the machine's stack is limited, and answers want of memory where it would go deeper; so
+//! it ends. The items of a list pattern are matched from the first on, and where one has no binding the others are left out. Each
+//! part of a term is searched anew each time that it is met, so the time may grow fast with the term.
 #![tactic(auto)]
 
 mod atoms;
@@ -15,6 +16,8 @@ mod joining;
 mod listing;
 mod literals;
 mod plain;
+mod room;
+mod rows;
 mod search;
 
 pub use plain::Plain;

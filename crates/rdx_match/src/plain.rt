@@ -1,5 +1,6 @@
 // The matcher by plain recursion on the term and the pattern.
-use crate::search;
+use crate::room::Room;
+use crate::search::Search;
 use rdx_lang::{Binding, CheckedLang, CheckedPat, Matcher};
 use rdx_term::{NoMemory, Term};
 use std::alloc::Global;
@@ -24,6 +25,6 @@ impl Matcher for Plain {
         pat: &CheckedPat,
         t: &Term,
     ) -> Result<Vec<Binding>, NoMemory> {
-        search::matches(self.alloc, language, pat.pat(), t)
+        Search::new(self.alloc, language).matches(pat.pat(), t, Room::whole())
     }
 }

@@ -2,7 +2,7 @@ use Rattle.std.proofs.Common.{◌≡◌, eqb, sym, ◌∙◌, ap}
 use Rattle.std.proofs.lemmas.Str.Pattern.{starts_text}
 use Rattle.std.specs.List.{starts_with}
 use Rattle.rdx_term.specs.View.{tree_of}
-use Rattle.rdx_match.specs.Atoms as atoms
+use Rattle.rdx_match.specs.Inside.Atoms as atoms
 use Rattle.rdx_match.proofs.atoms.has_prefix.Goals as goal
 
 pub returns-in-Sym : goal.returns-in-Sym

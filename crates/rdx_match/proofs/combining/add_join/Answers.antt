@@ -3,7 +3,7 @@ use Rattle.std.proofs.lemmas.Grind.{common_steps}
 use Rattle.rdx_lang.specs.Join.{IsJoin}
 use Rattle.rdx_lang.proofs.JoinLaws.{one_join}
 use Rattle.rdx_lang.specs.Shown.{binding_of, bindings_of}
-use Rattle.rdx_match.proofs.Collecting.{adds_one}
+use Rattle.rdx_lang.proofs.Collecting.{adds_one}
 use Rattle.rdx_match.proofs.combining.add_join.Goals as goal
 
 pub returns-in_ok-push : goal.returns-in_ok-push

@@ -2,7 +2,7 @@ use Rattle.std.proofs.Common.{◌≡◌, ◌+◌, ◌∷◌, drop, arith}
 use Rattle.rdx_lang.specs.Join.{IsJoin}
 use Rattle.rdx_lang.specs.Shown.{binding_of, bindings_of}
 use Rattle.rdx_lang.proofs.Rest.{rest_at, rest_none}
-use Rattle.rdx_match.proofs.Collecting.{collects-next, collects-end}
+use Rattle.rdx_lang.proofs.Collecting.{collects-next, collects-end}
 use Rattle.rdx_match.proofs.combining.add_joins.Goals as goal
 
 pub loop-other-preserved : goal.loop-other-preserved

@@ -1,7 +1,7 @@
 use Rattle.std.proofs.Common.{drop}
 use Rattle.rdx_lang.specs.Join.{IsJoin}
 use Rattle.rdx_lang.specs.Shown.{binding_of, bindings_of}
-use Rattle.rdx_match.proofs.Collecting.{Collects}
+use Rattle.rdx_lang.proofs.Collecting.{Collects}
 use Rattle.rdx_match.proofs.combining.add_joins.Given as goal
 
 abbrev pub invariant-loop-other : goal.invariant-loop-other

@@ -3,9 +3,10 @@ use Rattle.std.proofs.lemmas.Grind.{common_steps}
 use Rattle.std.proofs.lemmas.Result.{IfOk-weaker}
 use Rattle.rdx_lang.specs.Bindings.{Binding}
 use Rattle.rdx_lang.specs.Shown.{binding_of, bindings_of}
-use Rattle.rdx_match.specs.Combining.{JoinsWith, Joined, Adds}
+use Rattle.rdx_lang.specs.Inside.Collecting.{Adds}
+use Rattle.rdx_match.specs.Inside.Combining.{JoinsWith, Joined}
 use Rattle.rdx_lang.proofs.Rest.{rest_at, rest_none}
-use Rattle.rdx_match.proofs.Collecting.{Collects, collects-start, collects-next, collects-end, listing_of_all}
+use Rattle.rdx_lang.proofs.Collecting.{Collects, collects-start, collects-next, collects-end, listing_of_all}
 use Rattle.rdx_match.proofs.combining.joins.Goals as goal
 
 pub loop-first-init : goal.loop-first-init

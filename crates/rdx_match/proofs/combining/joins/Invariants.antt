@@ -1,8 +1,8 @@
 use Rattle.std.proofs.Common.{drop, [], List}
 use Rattle.rdx_lang.specs.Bindings.{Binding}
 use Rattle.rdx_lang.specs.Shown.{bindings_of}
-use Rattle.rdx_match.specs.Combining.{JoinsWith}
-use Rattle.rdx_match.proofs.Collecting.{Collects}
+use Rattle.rdx_match.specs.Inside.Combining.{JoinsWith}
+use Rattle.rdx_lang.proofs.Collecting.{Collects}
 use Rattle.rdx_match.proofs.combining.joins.Given as goal
 
 abbrev pub invariant-loop-first : goal.invariant-loop-first

@@ -5,9 +5,10 @@ use Rattle.rdx_term.specs.View.{tree_of}
 use Rattle.rdx_lang.specs.Bindings.{Binding, one}
 use Rattle.rdx_lang.specs.Join.{IsJoin}
 use Rattle.rdx_lang.specs.Shown.{binding_of, bindings_of}
-use Rattle.rdx_match.specs.Combining.{Named, Adds}
+use Rattle.rdx_lang.specs.Inside.Collecting.{Adds}
+use Rattle.rdx_match.specs.Inside.Combining.{Named}
 use Rattle.rdx_lang.proofs.Rest.{rest_at, rest_none}
-use Rattle.rdx_match.proofs.Collecting.{Collects, collects-start, collects-next, collects-end, listing_of_all}
+use Rattle.rdx_lang.proofs.Collecting.{Collects, collects-start, collects-next, collects-end, listing_of_all}
 use Rattle.rdx_match.proofs.combining.with_name.Goals as goal
 
 pub loop-first-init : goal.loop-first-init

@@ -3,7 +3,7 @@ use Rattle.rdx_lang.specs.Bindings.{Binding, one}
 use Rattle.rdx_lang.specs.Join.{IsJoin}
 use Rattle.rdx_lang.specs.Shown.{bindings_of}
 use Rattle.rdx_term.specs.View.{tree_of}
-use Rattle.rdx_match.proofs.Collecting.{Collects}
+use Rattle.rdx_lang.proofs.Collecting.{Collects}
 use Rattle.rdx_match.proofs.combining.with_name.Given as goal
 
 abbrev pub invariant-loop-first : goal.invariant-loop-first

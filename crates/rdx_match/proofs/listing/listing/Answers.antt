@@ -9,7 +9,8 @@ use Rattle.rdx_lang.specs.Order.{binding_cmp}
 use Rattle.rdx_lang.specs.Model.TotalOrders.{binding_cmp-total}
 use Rattle.rdx_lang.proofs.OrderLaws.{binding_cmp-tells}
 use Rattle.rdx_lang.specs.Shown.{binding_of, bindings_of}
-use Rattle.rdx_match.proofs.Keys.{ascends-inserted, moved_members, map-inserted}
+use Rattle.rdx_lang.proofs.Collecting.{listing_itself}
+use Rattle.rdx_lang.proofs.Keys.{ascends-inserted, moved_members, map-inserted}
 use Rattle.rdx_match.proofs.listing.listing.Goals as goal
 
 pub loop-binding-preserved : goal.loop-binding-preserved
@@ -24,3 +25,6 @@ loop-binding-preserved c =
       members = subst (λ (ks : List Binding). (z : Binding) → ((In z ks ⊎ In z (bindings_of c.pop.new.self.items)) ↔ In z (bindings_of c.args.found.items))) e
           (moved_members binding_cmp binding_cmp-total binding_cmp-tells keys (bindings_of c.loop-binding.rest.items) (bindings_of c.pop.new.self.items) (bindings_of c.args.found.items) b f c.loop-binding.invariant.members);
     }
+
+pub returns-then-is_listed : goal.returns-then-is_listed
+returns-then-is_listed c = listing_itself binding_cmp binding_of c.args.found.items (omega arith)

@@ -1,0 +1,3 @@
+pub mod Atoms
+pub mod Combining
+pub mod Searching
