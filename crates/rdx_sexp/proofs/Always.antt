@@ -1,5 +1,5 @@
 -- Each list of bytes is data, or has a first fault.
-use Rattle.std.proofs.Common.{◌≡◌, ◌<◌, ℕ, zero, suc, Bool, true, false, List, [], length, take, Ok, Err, inl, inr, refl, ap, ◌∙◌, subst, arith}
+use Rattle.std.proofs.Common.{◌≡◌, ◌<◌, ℕ, zero, suc, Bool, true, false, List, [], length, take, Ok, Err, inl, inr, refl, subst, arith}
 use Rattle.std.specs.Prelude.{◌⊎◌}
 use Rattle.std.specs.Str.{chars, is_utf8, IsUtf8}
 use Rattle.std.proofs.lemmas.Bool.{cases_lt}
@@ -9,14 +9,13 @@ use Rattle.rdx_sexp.specs.declared.fault.ReadKind.TheVariants.{NotUtf8}
 use Rattle.rdx_sexp.specs.declared.fault.ReadRefusal.{ReadRefusal}
 use Rattle.rdx_sexp.specs.Begin.{body}
 use Rattle.rdx_sexp.specs.Lexeme.{Lexeme}
-use Rattle.rdx_sexp.specs.Machine.{Outcome, run}
+use Rattle.rdx_sexp.specs.Inside.Machine.{Outcome, run}
 use Rattle.rdx_sexp.specs.Reads.{Lexes, Reads, FirstFault, not_utf8, in_text}
 use Rattle.rdx_sexp.specs.Refusal.{refusal}
 use Rattle.rdx_sexp.specs.Sexp.{Sexp}
 use Rattle.rdx_sexp.specs.Text.{start, after_all}
-use Rattle.rdx_sexp.proofs.Faults.{refused, fault-run}
 use Rattle.rdx_sexp.proofs.Lexing.{lexed}
-use Rattle.rdx_sexp.proofs.Reading.{many_from_run}
+use Rattle.rdx_sexp.proofs.ReadSoFar.{many_from_run, fault_from_run}
 
 -- ---- the longest front in UTF-8
 
@@ -61,7 +60,7 @@ no_text bs never =
 -- a text is data or has a fault, by what the machine makes of its lexemes
 text_is : (bs : List ℕ) (ls : List Lexeme) (o : Outcome) → IsUtf8 bs → Lexes (body (chars bs)) ls → run [] [] ls ≡ o → IsOne bs
 text_is bs ls (Ok ds) u l e = inl (ds, record { utf8 = u; lexemes = ls; lexed = l; data_are = many_from_run ls ds e })
-text_is bs ls (Err r) u l e = inr (r, in_text ls u l (fault-run ls [] [] ∙ ap refused e))
+text_is bs ls (Err r) u l e = inr (r, in_text ls u l (fault_from_run ls r e))
 
 by_utf8 : (bs : List ℕ) (b : Bool) → is_utf8 bs ≡ b → IsOne bs
 by_utf8 bs true e =

@@ -1,13 +1,16 @@
 -- What follows a lexeme is an end of the text, and shorter.
-use Rattle.std.proofs.Common.{◌≡◌, ◌<◌, ◌≤◌, ◌==◌, ◌&&◌, ℕ, List, [], ◌∷◌, length, Bool, true, false, cond, Option, Some, None, Result, Ok, Err, refl, sym, subst, arith}
+use Rattle.std.proofs.Common.{◌≡◌, ◌<◌, ◌≤◌, ◌==◌, ◌&&◌, ◌||◌, ℕ, List, [], ◌∷◌, length, Bool, true, false, cond, Option, Some, None, Result, Ok, Err, refl, sym, subst, arith}
 use Rattle.std.specs.Char.{is_whitespace}
+use Rattle.std.specs.Str.{byte}
 use Rattle.rdx_base.specs.declared.place.Place.{Place}
 use Rattle.rdx_term.specs.Spelling.{ends_token}
 use Rattle.rdx_sexp.specs.Begin.{has_lang_line, past_line, body}
-use Rattle.rdx_sexp.specs.Blanks.{Blank, inside, second, line, unclosed, past_blanks}
+use Rattle.rdx_sexp.specs.Blanks.{begins_block, ends_block, past_blanks, past_comment}
 use Rattle.rdx_sexp.specs.Lex.{Step, string_step, token_step, lexeme_from, lexeme_at, first_from, first_lexeme}
 use Rattle.rdx_sexp.specs.Lexeme.{Lexeme}
-use Rattle.rdx_sexp.specs.Strings.{Body, string_body, with_char, escaped, escape_of}
+use Rattle.rdx_sexp.specs.Refusal.{refusal}
+use Rattle.rdx_sexp.specs.declared.fault.ReadKind.TheVariants.{BadString}
+use Rattle.rdx_sexp.specs.Strings.{Body, string_body, with_char, with_escape, escape_of}
 use Rattle.rdx_sexp.specs.Text.{Text, at, start, after, next_is, skip_one}
 use Rattle.rdx_sexp.specs.Token.{past_token}
 
@@ -49,30 +52,31 @@ either f cs false x y h k = k
 -- ---- white space and comments
 
 -- the characters that are left
-abbrev pub left : Result Text Place → List ℕ
-left (Ok t) = t.chars
-left (Err o) = []
-
-left-unclosed : (p : Place) (os : List Place) → left (unclosed p os) ≡ []
-left-unclosed p [] = refl
-left-unclosed p (o ∷ os) = refl
+abbrev pub remaining : Result Text Place → List ℕ
+remaining (Ok t) = t.chars
+remaining (Err o) = []
 
 -- white space and comments leave an end
-pub past_blanks_is_end : (b : Blank) (p : Place) (cs : List ℕ) → IsEnd (left (past_blanks b p cs)) cs
-past_blanks_is_end (inside os) p [] = subst (λ (es : List ℕ). IsEnd es []) (sym (left-unclosed p os)) whole
-past_blanks_is_end (second os) p [] = subst (λ (es : List ℕ). IsEnd es []) (sym (left-unclosed p os)) whole
-past_blanks_is_end line p [] = whole
-past_blanks_is_end (inside []) p (c ∷ cs) =
-    either left (c ∷ cs) (c == 59) _ _ (behind (past_blanks_is_end line (after p c) cs))
-    (either left (c ∷ cs) (c == 35 && next_is 124 cs) _ _ (behind (past_blanks_is_end (second (p ∷ [])) (after p c) cs))
-    (either left (c ∷ cs) (is_whitespace c) _ (Ok (at p (c ∷ cs))) (behind (past_blanks_is_end (inside []) (after p c) cs)) whole))
-past_blanks_is_end (inside (o ∷ os)) p (c ∷ cs) =
-    either left (c ∷ cs) (c == 35 && next_is 124 cs) _ _ (behind (past_blanks_is_end (second (p ∷ o ∷ os)) (after p c) cs))
-    (either left (c ∷ cs) (c == 124 && next_is 35 cs) _ _ (behind (past_blanks_is_end (second os) (after p c) cs))
-    (behind (past_blanks_is_end (inside (o ∷ os)) (after p c) cs)))
-past_blanks_is_end (second os) p (c ∷ cs) = behind (past_blanks_is_end (inside os) (after p c) cs)
-past_blanks_is_end line p (c ∷ cs) =
-    either left (c ∷ cs) (c == 10) _ _ (behind (past_blanks_is_end (inside []) (after p c) cs)) (behind (past_blanks_is_end line (after p c) cs))
+mutual
+  pub past_blanks_is_end : (os : List Place) (p : Place) (cs : List ℕ) → IsEnd (remaining (past_blanks os p cs)) cs
+  past_blanks_is_end [] p [] = whole
+  past_blanks_is_end [] p (c ∷ []) =
+      either remaining (c ∷ []) (c == byte ";" || is_whitespace c) (Ok (at (after p c) [])) (Ok (at p (c ∷ []))) (behind whole) whole
+  past_blanks_is_end [] p (c ∷ d ∷ cs) =
+      either remaining (c ∷ d ∷ cs) (c == byte ";") _ _ (behind (past_comment_is_end (after p c) (d ∷ cs)))
+      (either remaining (c ∷ d ∷ cs) (begins_block c d) _ _ (behind (behind (past_blanks_is_end (p ∷ []) (after (after p c) d) cs)))
+      (either remaining (c ∷ d ∷ cs) (is_whitespace c) _ (Ok (at p (c ∷ d ∷ cs))) (behind (past_blanks_is_end [] (after p c) (d ∷ cs))) whole))
+  past_blanks_is_end (o ∷ os) p [] = whole
+  past_blanks_is_end (o ∷ os) p (c ∷ []) = behind whole
+  past_blanks_is_end (o ∷ os) p (c ∷ d ∷ cs) =
+      either remaining (c ∷ d ∷ cs) (begins_block c d) _ _ (behind (behind (past_blanks_is_end (p ∷ o ∷ os) (after (after p c) d) cs)))
+      (either remaining (c ∷ d ∷ cs) (ends_block c d) _ _ (behind (behind (past_blanks_is_end os (after (after p c) d) cs)))
+      (behind (past_blanks_is_end (o ∷ os) (after p c) (d ∷ cs))))
+
+  past_comment_is_end : (p : Place) (cs : List ℕ) → IsEnd (remaining (past_comment p cs)) cs
+  past_comment_is_end p [] = whole
+  past_comment_is_end p (c ∷ cs) =
+      either remaining (c ∷ cs) (c == byte "\n") _ _ (behind (past_blanks_is_end [] (after p c) cs)) (behind (past_comment_is_end (after p c) cs))
 
 -- ---- tokens and strings
 
@@ -90,31 +94,32 @@ skip_one_is_end p [] = whole
 skip_one_is_end p (c ∷ cs) = behind whole
 
 -- the characters that a string leaves
-abbrev left_by : Body → List ℕ
-left_by (Ok x) = x.1.chars
-left_by (Err r) = []
+abbrev remaining_in : Body → List ℕ
+remaining_in (Ok x) = x.1.chars
+remaining_in (Err r) = []
 
-left_by-with_char : (c : ℕ) (b : Body) → left_by (with_char c b) ≡ left_by b
-left_by-with_char c (Ok x) = refl
-left_by-with_char c (Err r) = refl
+remaining_in-with_char : (c : ℕ) (b : Body) → remaining_in (with_char c b) ≡ remaining_in b
+remaining_in-with_char c (Ok x) = refl
+remaining_in-with_char c (Err r) = refl
 
 -- one more character in front leaves the same
-with_char_is_end : (c : ℕ) (b : Body) (cs : List ℕ) → IsEnd (left_by b) cs → IsEnd (left_by (with_char c b)) cs
-with_char_is_end c b cs h = subst (λ (es : List ℕ). IsEnd es cs) (sym (left_by-with_char c b)) h
+with_char_is_end : (c : ℕ) (b : Body) (cs : List ℕ) → IsEnd (remaining_in b) cs → IsEnd (remaining_in (with_char c b)) cs
+with_char_is_end c b cs h = subst (λ (es : List ℕ). IsEnd es cs) (sym (remaining_in-with_char c b)) h
 
-escaped_is_end : (e : Option ℕ) (p : Place) (b : Body) (cs : List ℕ) → IsEnd (left_by b) cs → IsEnd (left_by (escaped e p b)) cs
-escaped_is_end (Some c) p b cs h = with_char_is_end c b cs h
-escaped_is_end None p b cs h = IsEnd-nil cs
+with_escape_is_end : (e : Option ℕ) (p : Place) (b : Body) (cs : List ℕ) → IsEnd (remaining_in b) cs → IsEnd (remaining_in (with_escape e p b)) cs
+with_escape_is_end (Some c) p b cs h = with_char_is_end c b cs h
+with_escape_is_end None p b cs h = IsEnd-nil cs
 
 -- a string leaves an end
-string_body_is_end : (o : Place) (b : Option Place) (p : Place) (cs : List ℕ) → IsEnd (left_by (string_body o b p cs)) cs
-string_body_is_end o b p [] = whole
-string_body_is_end o None p (c ∷ cs) =
-    either left_by (c ∷ cs) (c == 34) (Ok ([], at (after p c) cs)) _ (behind whole)
-    (either left_by (c ∷ cs) (c == 92) _ _ (behind (string_body_is_end o (Some p) (after p c) cs))
-    (with_char_is_end c (string_body o None (after p c) cs) (c ∷ cs) (behind (string_body_is_end o None (after p c) cs))))
-string_body_is_end o (Some b) p (c ∷ cs) =
-    escaped_is_end (escape_of c) b (string_body o None (after p c) cs) (c ∷ cs) (behind (string_body_is_end o None (after p c) cs))
+string_body_is_end : (o p : Place) (cs : List ℕ) → IsEnd (remaining_in (string_body o p cs)) cs
+string_body_is_end o p [] = whole
+string_body_is_end o p (c ∷ []) =
+    either remaining_in (c ∷ []) (c == byte "\"") (Ok ([], at (after p c) [])) (Err (refusal BadString o)) (behind whole) (behind whole)
+string_body_is_end o p (c ∷ d ∷ cs) =
+    either remaining_in (c ∷ d ∷ cs) (c == byte "\"") (Ok ([], at (after p c) (d ∷ cs))) _ (behind whole)
+    (either remaining_in (c ∷ d ∷ cs) (c == byte "\\") _ _
+    (with_escape_is_end (escape_of d) p (string_body o (after (after p c) d) cs) (c ∷ d ∷ cs) (behind (behind (string_body_is_end o (after (after p c) d) cs))))
+    (with_char_is_end c (string_body o (after p c) (d ∷ cs)) (c ∷ d ∷ cs) (behind (string_body_is_end o (after p c) (d ∷ cs)))))
 
 -- ---- lexemes
 
@@ -122,7 +127,7 @@ string_body_is_end o (Some b) p (c ∷ cs) =
 abbrev pub rest_of : Step → List ℕ
 rest_of s = s.1.chars
 
-string_step_is_end : (p : Place) (b : Body) (t : Text) (cs : List ℕ) → IsEnd (left_by b) cs → IsEnd t.chars cs → IsEnd (rest_of (string_step p b t)) cs
+string_step_is_end : (p : Place) (b : Body) (t : Text) (cs : List ℕ) → IsEnd (remaining_in b) cs → IsEnd t.chars cs → IsEnd (rest_of (string_step p b t)) cs
 string_step_is_end p (Ok x) t cs h k = h
 string_step_is_end p (Err r) t cs h k = k
 
@@ -130,13 +135,13 @@ string_step_is_end p (Err r) t cs h k = k
 lexeme_from_is_end : (p : Place) (c : ℕ) (r : Text) → IsEnd (rest_of (lexeme_from p c r)) r.chars
 lexeme_from_is_end p c r =
     let one : IsEnd (skip_one r.place r.chars).chars r.chars = skip_one_is_end r.place r.chars in
-    either rest_of _ (c == 40) _ _ whole (either rest_of _ (c == 41) _ _ whole
-    (either rest_of _ (c == 91) _ _ whole (either rest_of _ (c == 93) _ _ whole
-    (either rest_of _ (c == 123) _ _ whole (either rest_of _ (c == 125) _ _ whole
-    (either rest_of _ (c == 39) _ _ whole (either rest_of _ (c == 96) _ _ whole
-    (either rest_of _ (c == 44) _ _ (either rest_of _ (next_is 64 r.chars) _ _ one whole)
-    (either rest_of _ (c == 34) _ _ (string_step_is_end p (string_body p None r.place r.chars) r r.chars (string_body_is_end p None r.place r.chars) whole)
-    (either rest_of _ (c == 35 && next_is 59 r.chars) _ (token_step p c r) one
+    either rest_of _ (c == byte "(") _ _ whole (either rest_of _ (c == byte ")") _ _ whole
+    (either rest_of _ (c == byte "[") _ _ whole (either rest_of _ (c == byte "]") _ _ whole
+    (either rest_of _ (c == byte "{") _ _ whole (either rest_of _ (c == byte "}") _ _ whole
+    (either rest_of _ (c == byte "'") _ _ whole (either rest_of _ (c == byte "`") _ _ whole
+    (either rest_of _ (c == byte ",") _ _ (either rest_of _ (next_is (byte "@") r.chars) _ _ one whole)
+    (either rest_of _ (c == byte "\"") _ _ (string_step_is_end p (string_body p r.place r.chars) r r.chars (string_body_is_end p r.place r.chars) whole)
+    (either rest_of _ (c == byte "#" && next_is (byte ";") r.chars) _ (token_step p c r) one
     (past_token_is_end r.place r.chars)))))))))))
 
 lexeme_at_is_behind : (p : Place) (cs : List ℕ) (s : Step) → lexeme_at p cs ≡ Some s → IsBehind (rest_of s) cs
@@ -151,14 +156,14 @@ of_none l o c cs s e =
     let same : (let a : Step = (l, at o []) in a) ≡ s = cc in
     subst (λ (x : Step). IsEnd (rest_of x) cs) same (IsEnd-nil cs)
 
-first_from_is_behind : (r : Result Text Place) (c : ℕ) (cs : List ℕ) (s : Step) → IsEnd (left r) (c ∷ cs) → first_from r ≡ Some s → IsEnd (rest_of s) cs
+first_from_is_behind : (r : Result Text Place) (c : ℕ) (cs : List ℕ) (s : Step) → IsEnd (remaining r) (c ∷ cs) → first_from r ≡ Some s → IsEnd (rest_of s) cs
 first_from_is_behind (Ok t) c cs s h e = behind_end (rest_of s) t.chars (c ∷ cs) (lexeme_at_is_behind t.place t.chars s e) h
 first_from_is_behind (Err o) c cs s h e = of_none _ o c cs s e
 
 first_at_is_behind : (p : Place) (cs : List ℕ) (s : Step) → first_lexeme (at p cs) ≡ Some s → IsBehind (rest_of s) cs
 unfolding first_lexeme
 first_at_is_behind p [] s e = cc
-first_at_is_behind p (c ∷ cs) s e = first_from_is_behind (past_blanks (inside []) p (c ∷ cs)) c cs s (past_blanks_is_end (inside []) p (c ∷ cs)) e
+first_at_is_behind p (c ∷ cs) s e = first_from_is_behind (past_blanks [] p (c ∷ cs)) c cs s (past_blanks_is_end [] p (c ∷ cs)) e
 
 -- what follows the first lexeme is an end of the text behind its first character
 pub first_lexeme_is_behind : (t : Text) (s : Step) → first_lexeme t ≡ Some s → IsBehind (rest_of s) t.chars
@@ -176,7 +181,7 @@ first_lexeme_is_shorter t s e = behind_is_shorter (rest_of s) t.chars (first_lex
 
 past_line_is_end : (p : Place) (cs : List ℕ) → IsEnd (past_line p cs).chars cs
 past_line_is_end p [] = whole
-past_line_is_end p (c ∷ cs) = either chars_of (c ∷ cs) (c == 10) (at (after p c) cs) (past_line (after p c) cs) (behind whole) (behind (past_line_is_end (after p c) cs))
+past_line_is_end p (c ∷ cs) = either chars_of (c ∷ cs) (c == byte "\n") (at (after p c) cs) (past_line (after p c) cs) (behind whole) (behind (past_line_is_end (after p c) cs))
 
 -- the text with the data is an end of the file
 pub body_is_end : (cs : List ℕ) → IsEnd (body cs).chars cs

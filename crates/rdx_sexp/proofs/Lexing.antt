@@ -7,7 +7,7 @@ use Rattle.rdx_sexp.specs.Lexeme.{Lexeme, bad}
 use Rattle.rdx_sexp.specs.Text.{Text}
 use Rattle.rdx_sexp.specs.Lex.{Step, first_lexeme}
 use Rattle.rdx_sexp.specs.Reads.{Lexes, lexes_end, lexes_more}
-use Rattle.rdx_sexp.specs.Machine.{Frame, Outcome, run, ended}
+use Rattle.rdx_sexp.specs.Inside.Machine.{Frame, Outcome, run, ended}
 use Rattle.rdx_sexp.proofs.Behind.{first_lexeme_is_shorter}
 
 -- a text with its lexemes

@@ -1,9 +1,13 @@
 pub mod Numbers
+pub mod Steps
 pub mod Behind
 pub mod Lexing
 pub mod Stacks
+pub mod DataBehind
+pub mod ReadSoFar
 pub mod Reading
 pub mod Faults
+pub mod Fronts
 pub mod Once
 pub mod Always
 pub mod Spelled
@@ -16,4 +20,5 @@ pub mod PrintedTokens
 pub mod PrintedAtoms
 pub mod PrintedFirstLine
 pub mod PrintedTrees
+pub mod SymbolsRead
 pub mod WorkedExamples

@@ -1,20 +1,20 @@
 -- A text has its lexemes once, and lexemes spell their data once.
-use Rattle.std.proofs.Common.{◌≡◌, ℕ, List, [], ◌∷◌, length, take, Option, Some, None, Ok, refl, ap, sym, ◌∙◌, subst, arith}
+use Rattle.std.proofs.Common.{◌≡◌, ℕ, List, [], ◌∷◌, length, take, Ok, Err, refl, ap, sym, ◌∙◌, subst, arith}
 use Rattle.std.proofs.lemmas.List.{take_all}
 use Rattle.std.proofs.lemmas.Str.{utf8_valid_len-IsValidUpTo}
 use Rattle.std.specs.Str.{chars, IsUtf8, IsValidUpTo}
 use Rattle.rdx_sexp.specs.declared.fault.ReadKind.TheVariants.{NotUtf8}
 use Rattle.rdx_sexp.specs.declared.fault.ReadRefusal.{ReadRefusal}
 use Rattle.rdx_sexp.specs.Begin.{body}
-use Rattle.rdx_sexp.specs.Fault.{fault}
+use Rattle.rdx_sexp.specs.Fault.{FaultOf}
 use Rattle.rdx_sexp.specs.Lex.{Step}
 use Rattle.rdx_sexp.specs.Lexeme.{Lexeme}
-use Rattle.rdx_sexp.specs.Machine.{Outcome, run}
+use Rattle.rdx_sexp.specs.Inside.Machine.{Outcome, run}
 use Rattle.rdx_sexp.specs.Reads.{Lexes, lexes_end, lexes_more, Reads, FirstFault, not_utf8, in_text}
 use Rattle.rdx_sexp.specs.Refusal.{refusal}
 use Rattle.rdx_sexp.specs.Sexp.{Sexp}
 use Rattle.rdx_sexp.specs.Text.{Text, start, after_all}
-use Rattle.rdx_sexp.proofs.Faults.{refused, fault-run}
+use Rattle.rdx_sexp.proofs.Faults.{run-fault, no_fault}
 use Rattle.rdx_sexp.proofs.Reading.{run-many_all}
 
 lexemes_once : (ls ms : List Lexeme) (t : Text) → Lexes t ls → Lexes t ms → ls ≡ ms
@@ -44,7 +44,7 @@ length_once bytes n m v w = sym (utf8_valid_len-IsValidUpTo bytes n v) ∙ utf8_
 pub not_longer : (bytes : List ℕ) (n : ℕ) → IsUtf8 bytes → IsValidUpTo bytes n → ⊥
 not_longer bytes n u v = v.longest (length bytes) v.short (subst IsUtf8 (sym (take_all (length bytes) bytes (omega arith))) u)
 
-same_refusal : (r q : ReadRefusal) → (let a : Option ReadRefusal = Some r in a) ≡ Some q → r ≡ q
+same_refusal : (r q : ReadRefusal) → (let a : Outcome = Err r in a) ≡ Err q → r ≡ q
 same_refusal r q e = cc
 
 -- bytes have one first fault at most
@@ -55,18 +55,11 @@ fault_once bytes r q (not_utf8 n v is) (in_text ms u cut be) = absurd (not_longe
 fault_once bytes r q (in_text ls u cut is) (not_utf8 m w be) = absurd (not_longer bytes m u w)
 fault_once bytes r q (in_text ls u cut is) (in_text ms t others be) =
     let k : ls ≡ ms = lexemes_once ls ms (body (chars bytes)) cut others in
-    same_refusal r q (sym is ∙ ap (fault []) k ∙ be)
-
--- what is read has no fault
-read_or_refused : (ls : List Lexeme) (ds : List Sexp) (r : ReadRefusal) → run [] [] ls ≡ Ok ds → fault [] ls ≡ Some r → ⊥
-read_or_refused ls ds r e f =
-    let a = fault-run ls [] [] in
-    let b : refused (run [] [] ls) ≡ None = ap refused e in
-    cc
+    same_refusal r q (sym (run-fault ls r is) ∙ ap (run [] []) k ∙ run-fault ms q be)
 
 -- bytes that are data have no fault
 pub data_or_fault : (bytes : List ℕ) (ds : List Sexp) (r : ReadRefusal) → Reads bytes ds → FirstFault bytes r → ⊥
 data_or_fault bytes ds r reads (not_utf8 n v is) = not_longer bytes n reads.utf8 v
 data_or_fault bytes ds r reads (in_text ls u cut is) =
     let k : ls ≡ reads.lexemes = lexemes_once ls reads.lexemes (body (chars bytes)) cut reads.lexed in
-    read_or_refused reads.lexemes ds r (run-many_all reads.lexemes ds reads.data_are) (ap (fault []) (sym k) ∙ is)
+    no_fault reads.lexemes ds r (run-many_all reads.lexemes ds reads.data_are) (subst (λ (ms : List Lexeme). FaultOf ms r) k is)

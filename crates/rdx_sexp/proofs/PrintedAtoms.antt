@@ -11,14 +11,16 @@ use Rattle.rdx_term.specs.Spelling.{ends_token, is_symbol_quote, begins_with_has
 use Rattle.rdx_term.specs.Tree.{Tree, hole}
 use Rattle.rdx_term.specs.Terms.{IsSpelled}
 use Rattle.rdx_term.specs.Tree as tree
+use Rattle.rdx_sexp.specs.Lex.{span, first_lexeme}
 use Rattle.rdx_sexp.specs.Lexeme.{word}
+use Rattle.rdx_sexp.specs.Text.{at, after_all}
 use Rattle.rdx_sexp.specs.Meaning.{atom_tree}
 use Rattle.rdx_sexp.specs.Sexp.{Atom, integer, truth, text, symbol}
 use Rattle.rdx_sexp.specs.Token.{fits, is_integer, integer_lexeme, token_lexeme}
 use Rattle.rdx_sexp.proofs.PrintedTests.{if-false, if-true, false_from_not, or_false, or_left, bytes_unlike, list_any-excluded}
 use Rattle.rdx_sexp.proofs.PrintedIntegers.{in_integer, in_integer-excluded, IsInteger, IsInteger-signed_decimal, IsInteger-ascii, fits-FitsSigned, without_leading_sign-unsigned}
 use Rattle.rdx_sexp.proofs.PrintedChars.{tree_chars, encode_utf8_all-ascii}
-use Rattle.rdx_sexp.proofs.PrintedTokens.{Word, Word-token, Word-text, is_delimited}
+use Rattle.rdx_sexp.proofs.PrintedTokens.{Word, first_lexeme-token, Word-token, Word-text, is_delimited}
 
 -- the term t is printed, from p on, as an atom that stands for it
 pub record IsAtom (p : Place) (t : Tree) (rest : List ℕ) : Type 0 where
@@ -85,21 +87,18 @@ begins_number-integer (b ∷ bs) e = elim (cases_eq b 45) [
   ]
 ]
 
--- what is known of a name
-pub record Named (bs : List ℕ) : Type 0 where
+-- what is known of the spelling of a symbol
+pub record IsSymbol (bs : List ℕ) : Type 0 where
   pub filled : (length bs == 0) ≡ false
   pub token : list_any ends_token (chars bs) ≡ false
   pub quotes : list_any is_symbol_quote bs ≡ false
   pub hash : begins_with_hash bs ≡ false
   pub number : begins_number bs ≡ false
   pub reserved : is_reserved bs ≡ false
-  pub hole : bytes_eq bs (codes "hole") ≡ false
 
--- each name is named so
-pub Named-is_name : (bs : List ℕ) → is_name bs ≡ true → Named bs
-Named-is_name bs e =
-    let a = and_parts (is_symbol_spelling bs) (not (bytes_eq bs (codes "hole"))) e in
-    let b = and_parts (is_token bs) (is_symbol_token bs) a.0 in
+pub IsSymbol-is_symbol_spelling : (bs : List ℕ) → is_symbol_spelling bs ≡ true → IsSymbol bs
+IsSymbol-is_symbol_spelling bs e =
+    let b = and_parts (is_token bs) (is_symbol_token bs) e in
     let t = and_parts (not (length bs == 0)) (not (list_any ends_token (chars bs))) b.0 in
     let q = and_parts (not (list_any is_symbol_quote bs)) _ b.1 in
     let h = and_parts (not (begins_with_hash bs)) _ q.1 in
@@ -111,12 +110,19 @@ Named-is_name bs e =
       hash = not-true _ h.0;
       number = not-true _ n.0;
       reserved = not-true _ n.1;
-      hole = not-true _ a.1;
     }
 
--- a name's token is that symbol
-token_lexeme-name : (bs : List ℕ) (s : Span) → Named bs → token_lexeme bs s ≡ word (symbol bs) s
-token_lexeme-name bs s n =
+-- each name is one
+pub IsSymbol-is_name : (bs : List ℕ) → is_name bs ≡ true → IsSymbol bs
+IsSymbol-is_name bs e = IsSymbol-is_symbol_spelling bs (and_parts (is_symbol_spelling bs) (not (bytes_eq bs (codes "hole"))) e).0
+
+-- other than `hole`
+not_hole : (bs : List ℕ) → is_name bs ≡ true → bytes_eq bs (codes "hole") ≡ false
+not_hole bs e = not-true _ (and_parts (is_symbol_spelling bs) (not (bytes_eq bs (codes "hole"))) e).1
+
+-- its token is that symbol
+token_lexeme-symbol : (bs : List ℕ) (s : Span) → IsSymbol bs → token_lexeme bs s ≡ word (symbol bs) s
+token_lexeme-symbol bs s n =
     let point : bytes_eq bs (codes ".") ≡ false = bytes_unlike is_reserved bs (codes ".") n.reserved refl in
     let integral : is_integer bs ≡ false = false_from_not (is_integer bs) (λ t. true≢false (sym (begins_number-integer bs t) ∙ n.number)) in
     if-false (list_any is_symbol_quote bs || bytes_eq bs (codes ".")) _ _ (or_false _ _ n.quotes point) ∙ if-false (begins_with_hash bs) _ _ n.hash
@@ -131,12 +137,13 @@ begins_with_hash-encodes (c ∷ cs) h = false_from_not (c == 35) (λ t.
     true≢false (subst (λ (l : List ℕ). begins_with_hash l ≡ false) e h))
 
 -- so is its text
-Word-name : (p : Place) (bs cs rest : List ℕ) → encode_utf8_all cs ≡ bs → list_any ends_token cs ≡ false → Named bs → is_delimited rest ≡ true → Word p (cs ++ rest) (symbol bs) rest
-Word-name p bs [] rest e t n d = absurd (true≢false (subst (λ (l : List ℕ). (length l == 0) ≡ false) (sym e) n.filled))
-Word-name p bs (c ∷ cs) rest e t n d =
+pub first_lexeme-symbol : (p : Place) (bs cs rest : List ℕ) → encode_utf8_all cs ≡ bs → list_any ends_token cs ≡ false → IsSymbol bs → is_delimited rest ≡ true
+    → first_lexeme (at p (cs ++ rest)) ≡ Some (word (symbol bs) (span p (after_all p cs)), at (after_all p cs) rest)
+first_lexeme-symbol p bs [] rest e t n d = absurd (true≢false (subst (λ (l : List ℕ). (length l == 0) ≡ false) (sym e) n.filled))
+first_lexeme-symbol p bs (c ∷ cs) rest e t n d =
     let hash : (c == 35) ≡ false = begins_with_hash-encodes (c ∷ cs) (subst (λ (l : List ℕ). begins_with_hash l ≡ false) (sym e) n.hash) in
-    Word-token p c cs rest (symbol bs) t d (and_left _ _ hash) (and_left _ _ hash)
-    (λ s. ap (λ (l : List ℕ). token_lexeme l s) e ∙ token_lexeme-name bs s n)
+    first_lexeme-token p c cs rest (symbol bs) t d (and_left _ _ hash) (and_left _ _ hash)
+    (λ s. ap (λ (l : List ℕ). token_lexeme l s) e ∙ token_lexeme-symbol bs s n)
 
 -- ---- all of them
 
@@ -181,9 +188,9 @@ IsAtom-text p t rest u = record {
 -- symbols
 pub IsAtom-symbol : (p : Place) (t rest : List ℕ) → IsSpelled (tree.symbol t) → is_delimited rest ≡ true → IsAtom p (tree.symbol t) rest
 IsAtom-symbol p t rest s d =
-    let n = Named-is_name t s.1 in
+    let n = IsSymbol-is_name t s.1 in
     record {
       atom = symbol t;
-      read = Word-name p t (chars t) rest (encodes-chars t s.0) n.token n d;
-      stands = if-false (bytes_eq t (codes "hole")) _ _ n.hole;
+      read = record { end = after_all p (chars t); first = first_lexeme-symbol p t (chars t) rest (encodes-chars t s.0) n.token n d };
+      stands = if-false (bytes_eq t (codes "hole")) _ _ (not_hole t s.1);
     }

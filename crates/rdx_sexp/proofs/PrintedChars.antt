@@ -45,7 +45,7 @@ Encodes-chars : (bs : List ℕ) → IsUtf8 bs → Encodes (chars bs) bs
 Encodes-chars bs u = record { valid = scalars-chars bs u; same = encodes-chars bs u }
 
 -- one ASCII character in front
-Encodes-ascii : (c : ℕ) (cs bs : List ℕ) → c < 128 → Encodes cs bs → Encodes (c ∷ cs) (c ∷ bs)
+pub Encodes-ascii : (c : ℕ) (cs bs : List ℕ) → c < 128 → Encodes cs bs → Encodes (c ∷ cs) (c ∷ bs)
 Encodes-ascii c cs bs h e = record {
   valid = and_from (scalar c) (scalars cs) (low_scalar c (omega arith)) e.valid;
   same = ap₂ (λ (a b : List ℕ). a ++ b) (encode_ascii c h) e.same;

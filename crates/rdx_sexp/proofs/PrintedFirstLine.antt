@@ -10,10 +10,10 @@ use Rattle.rdx_sexp.specs.Text.{at, start}
 use Rattle.rdx_sexp.proofs.PrintedTests.{if-false, false_from_not, or_false}
 use Rattle.rdx_sexp.proofs.PrintedIntegers.{IsInteger-signed_decimal}
 use Rattle.rdx_sexp.proofs.PrintedChars.{tree_chars}
-use Rattle.rdx_sexp.proofs.PrintedAtoms.{begins_with_hash-integer, begins_with_hash-encodes, Named-is_name}
+use Rattle.rdx_sexp.proofs.PrintedAtoms.{begins_with_hash-integer, begins_with_hash-encodes, IsSymbol-is_name}
 
 -- what does not begin with `#` begins with no such line
-has_lang_line-no_hash : (cs : List ℕ) → begins_with_hash cs ≡ false → has_lang_line cs ≡ false
+pub has_lang_line-no_hash : (cs : List ℕ) → begins_with_hash cs ≡ false → has_lang_line cs ≡ false
 has_lang_line-no_hash [] h = refl
 has_lang_line-no_hash (c ∷ cs) h =
     let hash : (35 == c) ≡ false = false_from_not (35 == c) (λ t. true≢false (sym (eq-eqb c 35 (sym (eqb-true 35 c t))) ∙ h)) in
@@ -35,7 +35,7 @@ has_lang_line-tree (truth true) s = refl
 has_lang_line-tree (truth false) s = refl
 has_lang_line-tree (text t) s = refl
 has_lang_line-tree (symbol t) s =
-    let hash = subst (λ (l : List ℕ). begins_with_hash l ≡ false) (sym (encodes-chars t s.0)) (Named-is_name t s.1).hash in
+    let hash = subst (λ (l : List ℕ). begins_with_hash l ≡ false) (sym (encodes-chars t s.0)) (IsSymbol-is_name t s.1).hash in
     has_lang_line-no_hash (chars t ++ []) (begins_with_hash-alone (chars t) (begins_with_hash-encodes (chars t) hash))
 has_lang_line-tree (list m ts) s = refl
 

@@ -7,12 +7,11 @@ use Rattle.rdx_term.specs.Text.{tree_text}
 use Rattle.rdx_term.specs.Tree.{Tree, Trees, hole, integer, truth, text, symbol, list, nil, cons, tree_depth, trees_depth}
 use Rattle.rdx_term.specs.Terms.{IsTerm, IsSpelled, AreSpelled}
 use Rattle.rdx_term.specs.Building.{list_of}
-use Rattle.rdx_sexp.specs.declared.token.Bracket.TheVariants.{Round}
 use Rattle.rdx_sexp.specs.Begin.{body}
 use Rattle.rdx_sexp.specs.Grammar.{One, one_leaf, one_list, Many, many_none, many_more, listed}
 use Rattle.rdx_sexp.specs.Laws.{ReadsBack}
 use Rattle.rdx_sexp.specs.Lex.{span}
-use Rattle.rdx_sexp.specs.Lexeme.{Lexeme, opening, closing, word}
+use Rattle.rdx_sexp.specs.Lexeme.{round, Lexeme, opening, closing, word}
 use Rattle.rdx_sexp.specs.Meaning.{meaning, meanings, one_more}
 use Rattle.rdx_sexp.specs.Reads.{Lexes, lexes_end, lexes_more}
 use Rattle.rdx_sexp.specs.Sexp.{Sexp, sexps}
@@ -68,9 +67,9 @@ IsDatum-list n p m ts rest h b = record {
   stands = ap (option_map list_of) b.stands;
   same = ap (list None) b.same;
   end = after b.end 41;
-  before = λ ls. opening Round (span p (after p 40)) ∷ b.before (closing Round (span b.end (after b.end 41)) ∷ ls);
-  lexed = λ ls l. lexes_more (first_lexeme-open p (trees_chars ts (41 ∷ rest))) (b.lexed (closing Round (span b.end (after b.end 41)) ∷ ls) (lexes_more (first_lexeme-close b.end rest) l));
-  one = λ ls. one_list h (b.many (closing Round (span b.end (after b.end 41)) ∷ ls)) refl;
+  before = λ ls. opening round (span p (after p 40)) ∷ b.before (closing round (span b.end (after b.end 41)) ∷ ls);
+  lexed = λ ls l. lexes_more (first_lexeme-open p (trees_chars ts (41 ∷ rest))) (b.lexed (closing round (span b.end (after b.end 41)) ∷ ls) (lexes_more (first_lexeme-close b.end rest) l));
+  one = λ ls. one_list h (b.many (closing round (span b.end (after b.end 41)) ∷ ls)) refl;
 }
 
 -- no items

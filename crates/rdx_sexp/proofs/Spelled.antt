@@ -6,20 +6,18 @@ use Rattle.std.proofs.lemmas.Str.{chars-encodes, chars-nil, scalars-chars}
 use Rattle.std.specs.Char.{is_whitespace}
 use Rattle.std.specs.List.{list_any}
 use Rattle.std.specs.Prelude.{ℤ, codes, bytes_eq}
-use Rattle.std.specs.Str.{chars, encode_utf8_all, IsUtf8}
+use Rattle.std.specs.Str.{byte, chars, encode_utf8_all, IsUtf8}
 use Rattle.std.specs.Str.Parse.{signed_digits_value}
 use Rattle.rdx_base.specs.declared.place.Place.{Place}
 use Rattle.rdx_base.specs.declared.place.Span.{Span}
 use Rattle.rdx_term.specs.Spelling.{ends_token, is_symbol_quote, begins_with_hash, begins_number, is_reserved, is_symbol_spelling}
 use Rattle.rdx_sexp.specs.declared.fault.ReadKind.TheVariants.{BadToken, NumberRange, NumberForm, Unclosed}
-use Rattle.rdx_sexp.specs.declared.token.Bracket.TheVariants.{Round, Square, Curly}
-use Rattle.rdx_sexp.specs.declared.token.Mark.{Mark}
-use Rattle.rdx_sexp.specs.declared.token.Mark.TheVariants.{Quote, Quasiquote, Unquote, UnquoteSplicing}
-use Rattle.rdx_sexp.specs.Blanks.{Blank, inside, second, line, unclosed, past_blanks}
+use Rattle.rdx_sexp.specs.Blanks.{begins_block, ends_block, past_blanks, past_comment}
 use Rattle.rdx_sexp.specs.Begin.{body}
-use Rattle.rdx_sexp.specs.Grammar.{mark_name, One, one_leaf, one_list, one_quoted, one_skipped, Many, many_none, many_more, many_skipped}
+use Rattle.rdx_sexp.specs.Grammar.{quote_name, One, one_leaf, one_list, one_quoted, one_skipped, Many, many_none, many_more, many_skipped}
 use Rattle.rdx_sexp.specs.Lex.{Step, span, until, string_step, token_step, lexeme_from, lexeme_at, first_from, first_lexeme}
-use Rattle.rdx_sexp.specs.Lexeme.{Lexeme, opening, closing, mark, skip, word, bad}
+use Rattle.rdx_sexp.specs.Lexeme.{round, square, curly, QuoteMark, quote, quasiquote, unquote, unquote_splicing}
+use Rattle.rdx_sexp.specs.Lexeme.{Lexeme, opening, closing, quote_mark, skip, word, bad}
 use Rattle.rdx_sexp.specs.Reads.{Lexes, lexes_end, lexes_more}
 use Rattle.rdx_sexp.specs.Refusal.{refusal}
 use Rattle.rdx_sexp.specs.Sexp.{integer, truth, symbol, Sexp, sexps}
@@ -27,7 +25,7 @@ use Rattle.rdx_sexp.specs.Size.{IsSpelled, IsSpelledSexp, AreSpelled}
 use Rattle.rdx_sexp.specs.Strings.{Body, string_body}
 use Rattle.rdx_sexp.specs.Text.{Text, at, after, next_is, skip_one}
 use Rattle.rdx_sexp.specs.Token.{token_chars, past_token, is_integer, fits, integer_lexeme, keyword_name, keyword_lexeme, hash_lexeme, token_lexeme}
-use Rattle.rdx_sexp.proofs.Behind.{IsEnd, whole, behind, IsBehind, left, past_blanks_is_end, first_lexeme_is_behind, body_is_end}
+use Rattle.rdx_sexp.proofs.Behind.{IsEnd, whole, behind, IsBehind, remaining, past_blanks_is_end, first_lexeme_is_behind, body_is_end}
 
 -- ---- the tests of a token
 
@@ -83,18 +81,18 @@ spelled bs cs c e f g h k l =
 -- ---- lexemes
 
 -- so are the symbols of quote marks
-mark_name_is_spelled : (m : Mark) → is_symbol_spelling (mark_name m) ≡ true
+quote_name_is_spelled : (m : QuoteMark) → is_symbol_spelling (quote_name m) ≡ true
 unfolding chars
-mark_name_is_spelled Quote = refl
-mark_name_is_spelled Quasiquote = refl
-mark_name_is_spelled Unquote = refl
-mark_name_is_spelled UnquoteSplicing = refl
+quote_name_is_spelled quote = refl
+quote_name_is_spelled quasiquote = refl
+quote_name_is_spelled unquote = refl
+quote_name_is_spelled unquote_splicing = refl
 
 -- a symbol that is a lexeme is spelled so
 abbrev IsSpelledLexeme : Lexeme → Type 0
 IsSpelledLexeme (opening b s) = Unit {0}
 IsSpelledLexeme (closing b s) = Unit {0}
-IsSpelledLexeme (mark m s) = Unit {0}
+IsSpelledLexeme (quote_mark m s) = Unit {0}
 IsSpelledLexeme (skip s) = Unit {0}
 IsSpelledLexeme (word a s) = IsSpelled a
 IsSpelledLexeme (bad r) = Unit {0}
@@ -139,7 +137,9 @@ string_is_spelled p (Ok x) t = record { is = tt }
 string_is_spelled p (Err r) t = record { is = tt }
 
 -- a character that is none of those with which other lexemes begin ends no token
-ends_no_token : (c : ℕ) → is_whitespace c ≡ false → (c == 59) ≡ false → (c == 40) ≡ false → (c == 41) ≡ false → (c == 91) ≡ false → (c == 93) ≡ false → (c == 123) ≡ false → (c == 125) ≡ false → (c == 39) ≡ false → (c == 96) ≡ false → (c == 44) ≡ false → (c == 34) ≡ false → ends_token c ≡ false
+ends_no_token : (c : ℕ) → is_whitespace c ≡ false → (c == byte ";") ≡ false → (c == byte "(") ≡ false → (c == byte ")") ≡ false
+    → (c == byte "[") ≡ false → (c == byte "]") ≡ false → (c == byte "{") ≡ false → (c == byte "}") ≡ false
+    → (c == byte "'") ≡ false → (c == byte "`") ≡ false → (c == byte ",") ≡ false → (c == byte "\"") ≡ false → ends_token c ≡ false
 ends_no_token c a b d e f g h i j k l m = simp (a, b, d, e, f, g, h, i, j, k, l, m)
 
 -- the token that begins with such a character
@@ -150,20 +150,20 @@ token_step_is_spelled p c r u e =
     token_is_spelled (encode_utf8_all (c ∷ token_chars r.chars)) (token_chars r.chars) c (span p (past_token r.place r.chars).place)
     (chars-encodes (c ∷ token_chars r.chars) all) (ap (λ x. x || list_any ends_token (token_chars r.chars)) e ∙ list_any-token_chars r.chars)
 
-lexeme_from_is_spelled : (p : Place) (c : ℕ) (r : Text) → scalars (c ∷ r.chars) ≡ true → is_whitespace c ≡ false → (c == 59) ≡ false → Spelled (lexeme_from p c r).0
+lexeme_from_is_spelled : (p : Place) (c : ℕ) (r : Text) → scalars (c ∷ r.chars) ≡ true → is_whitespace c ≡ false → (c == byte ";") ≡ false → Spelled (lexeme_from p c r).0
 lexeme_from_is_spelled p c r u v w =
     let one : Text = skip_one r.place r.chars in
-    chosen_step (c == 40) (until (opening Round) p r) _ (record { is = tt }) (λ d.
-    chosen_step (c == 41) (until (closing Round) p r) _ (record { is = tt }) (λ e.
-    chosen_step (c == 91) (until (opening Square) p r) _ (record { is = tt }) (λ f.
-    chosen_step (c == 93) (until (closing Square) p r) _ (record { is = tt }) (λ g.
-    chosen_step (c == 123) (until (opening Curly) p r) _ (record { is = tt }) (λ h.
-    chosen_step (c == 125) (until (closing Curly) p r) _ (record { is = tt }) (λ i.
-    chosen_step (c == 39) (until (mark Quote) p r) _ (record { is = tt }) (λ j.
-    chosen_step (c == 96) (until (mark Quasiquote) p r) _ (record { is = tt }) (λ k.
-    chosen_step (c == 44) _ _ (chosen_step (next_is 64 r.chars) (until (mark UnquoteSplicing) p one) (until (mark Unquote) p r) (record { is = tt }) (λ x. record { is = tt })) (λ l.
-    chosen_step (c == 34) _ _ (string_is_spelled p (string_body p None r.place r.chars) r) (λ m.
-    chosen_step (c == 35 && next_is 59 r.chars) (until skip p one) (token_step p c r) (record { is = tt }) (λ x.
+    chosen_step (c == byte "(") (until (opening round) p r) _ (record { is = tt }) (λ d.
+    chosen_step (c == byte ")") (until (closing round) p r) _ (record { is = tt }) (λ e.
+    chosen_step (c == byte "[") (until (opening square) p r) _ (record { is = tt }) (λ f.
+    chosen_step (c == byte "]") (until (closing square) p r) _ (record { is = tt }) (λ g.
+    chosen_step (c == byte "{") (until (opening curly) p r) _ (record { is = tt }) (λ h.
+    chosen_step (c == byte "}") (until (closing curly) p r) _ (record { is = tt }) (λ i.
+    chosen_step (c == byte "'") (until (quote_mark quote) p r) _ (record { is = tt }) (λ j.
+    chosen_step (c == byte "`") (until (quote_mark quasiquote) p r) _ (record { is = tt }) (λ k.
+    chosen_step (c == byte ",") _ _ (chosen_step (next_is (byte "@") r.chars) (until (quote_mark unquote_splicing) p one) (until (quote_mark unquote) p r) (record { is = tt }) (λ x. record { is = tt })) (λ l.
+    chosen_step (c == byte "\"") _ _ (string_is_spelled p (string_body p r.place r.chars) r) (λ m.
+    chosen_step (c == byte "#" && next_is (byte ";") r.chars) (until skip p one) (token_step p c r) (record { is = tt }) (λ x.
     token_step_is_spelled p c r u (ends_no_token c v w d e f g h i j k l m))))))))))))
 
 -- ---- the first lexeme of a text
@@ -171,7 +171,7 @@ lexeme_from_is_spelled p c r u v w =
 -- a text of characters whose first, if there is one, is neither white space nor `;`
 abbrev IsLead : List ℕ → Type 0
 IsLead [] = Unit {0}
-IsLead (c ∷ cs) = (is_whitespace c ≡ false) × ((c == 59) ≡ false)
+IsLead (c ∷ cs) = (is_whitespace c ≡ false) × ((c == byte ";") ≡ false)
 
 abbrev LeadsTo : Result Text Place → Type 0
 LeadsTo (Ok t) = IsLead t.chars
@@ -180,30 +180,32 @@ LeadsTo (Err o) = Unit {0}
 record Leads (r : Result Text Place) : Type 0 where
   is : LeadsTo r
 
-leads-unclosed : (p : Place) (os : List Place) → Leads (unclosed p os)
-leads-unclosed p [] = record { is = tt }
-leads-unclosed p (o ∷ os) = record { is = tt }
-
 chosen_lead : (b : Bool) (x y : Result Text Place) → Leads x → (b ≡ false → Leads y) → Leads (cond b x y)
 chosen_lead true x y h k = h
 chosen_lead false x y h k = k refl
 
 -- white space and comments end before such a text
-past_blanks_leads : (b : Blank) (p : Place) (cs : List ℕ) → Leads (past_blanks b p cs)
-past_blanks_leads (inside os) p [] = leads-unclosed p os
-past_blanks_leads (second os) p [] = leads-unclosed p os
-past_blanks_leads line p [] = record { is = tt }
-past_blanks_leads (inside []) p (c ∷ cs) =
-    chosen_lead (c == 59) _ _ (past_blanks_leads line (after p c) cs) (λ e.
-    chosen_lead (c == 35 && next_is 124 cs) _ _ (past_blanks_leads (second (p ∷ [])) (after p c) cs) (λ f.
-    chosen_lead (is_whitespace c) _ (Ok (at p (c ∷ cs))) (past_blanks_leads (inside []) (after p c) cs) (λ g. record { is = (g, e) })))
-past_blanks_leads (inside (o ∷ os)) p (c ∷ cs) =
-    chosen_lead (c == 35 && next_is 124 cs) _ _ (past_blanks_leads (second (p ∷ o ∷ os)) (after p c) cs) (λ e.
-    chosen_lead (c == 124 && next_is 35 cs) _ _ (past_blanks_leads (second os) (after p c) cs) (λ f.
-    past_blanks_leads (inside (o ∷ os)) (after p c) cs))
-past_blanks_leads (second os) p (c ∷ cs) = past_blanks_leads (inside os) (after p c) cs
-past_blanks_leads line p (c ∷ cs) =
-    chosen_lead (c == 10) _ _ (past_blanks_leads (inside []) (after p c) cs) (λ e. past_blanks_leads line (after p c) cs)
+mutual
+  past_blanks_leads : (os : List Place) (p : Place) (cs : List ℕ) → Leads (past_blanks os p cs)
+  past_blanks_leads [] p [] = record { is = tt }
+  past_blanks_leads [] p (c ∷ []) =
+      chosen_lead (c == byte ";" || is_whitespace c) (Ok (at (after p c) [])) (Ok (at p (c ∷ []))) (record { is = tt }) (λ e.
+      let no = neither (c == byte ";") (is_whitespace c) e in record { is = (no.1, no.0) })
+  past_blanks_leads [] p (c ∷ d ∷ cs) =
+      chosen_lead (c == byte ";") _ _ (past_comment_leads (after p c) (d ∷ cs)) (λ e.
+      chosen_lead (begins_block c d) _ _ (past_blanks_leads (p ∷ []) (after (after p c) d) cs) (λ f.
+      chosen_lead (is_whitespace c) _ (Ok (at p (c ∷ d ∷ cs))) (past_blanks_leads [] (after p c) (d ∷ cs)) (λ g. record { is = (g, e) })))
+  past_blanks_leads (o ∷ os) p [] = record { is = tt }
+  past_blanks_leads (o ∷ os) p (c ∷ []) = record { is = tt }
+  past_blanks_leads (o ∷ os) p (c ∷ d ∷ cs) =
+      chosen_lead (begins_block c d) _ _ (past_blanks_leads (p ∷ o ∷ os) (after (after p c) d) cs) (λ e.
+      chosen_lead (ends_block c d) _ _ (past_blanks_leads os (after (after p c) d) cs) (λ f.
+      past_blanks_leads (o ∷ os) (after p c) (d ∷ cs)))
+
+  past_comment_leads : (p : Place) (cs : List ℕ) → Leads (past_comment p cs)
+  past_comment_leads p [] = record { is = tt }
+  past_comment_leads p (c ∷ cs) =
+      chosen_lead (c == byte "\n") _ _ (past_blanks_leads [] (after p c) cs) (λ e. past_comment_leads (after p c) cs)
 
 -- an end of characters is characters
 scalars-end : (es cs : List ℕ) → IsEnd es cs → scalars cs ≡ true → scalars es ≡ true
@@ -225,15 +227,15 @@ bad_is_spelled o s e =
     let same : (let a : Step = (bad (refusal Unclosed o), at o []) in a) ≡ s = cc in
     subst (λ (x : Step). Spelled x.0) same (record { is = tt })
 
-first_from_is_spelled : (r : Result Text Place) (s : Step) → scalars (left r) ≡ true → Leads r → first_from r ≡ Some s → Spelled s.0
+first_from_is_spelled : (r : Result Text Place) (s : Step) → scalars (remaining r) ≡ true → Leads r → first_from r ≡ Some s → Spelled s.0
 first_from_is_spelled (Ok t) s u h e = lexeme_at_is_spelled t.place t.chars s u h.is e
 first_from_is_spelled (Err o) s u h e = bad_is_spelled o s e
 
 first_lexeme_is_spelled : (t : Text) (s : Step) → scalars t.chars ≡ true → first_lexeme t ≡ Some s → Spelled s.0
 unfolding first_lexeme
 first_lexeme_is_spelled t s u e =
-    let found = past_blanks (inside []) t.place t.chars in
-    first_from_is_spelled found s (scalars-end (left found) t.chars (past_blanks_is_end (inside []) t.place t.chars) u) (past_blanks_leads (inside []) t.place t.chars) e
+    let found = past_blanks [] t.place t.chars in
+    first_from_is_spelled found s (scalars-end (remaining found) t.chars (past_blanks_is_end [] t.place t.chars) u) (past_blanks_leads [] t.place t.chars) e
 
 -- ---- data
 
@@ -256,7 +258,7 @@ mutual
       (subst IsSpelledSexp is f.0, f.1.1)
   one_is_spelled n ls rest d a (one_quoted {m} {s} {e} {ls = inner} lt one is) =
       let f = one_is_spelled (suc n) inner rest e a.1 one in
-      (subst IsSpelledSexp is (mark_name_is_spelled m, (f.0, tt)), f.1)
+      (subst IsSpelledSexp is (quote_name_is_spelled m, (f.0, tt)), f.1)
   one_is_spelled n ls rest d a (one_skipped {d = x} {ls = inner} {mid} lt one then) =
       one_is_spelled n mid rest d (one_is_spelled (suc n) inner mid x a.1 one).1 then
 

@@ -2,7 +2,7 @@
 use Rattle.std.proofs.Common.{◌≡◌, List, [], ◌∷◌, ◌++◌, map, reverse, length, ap, ◌∙◌}
 use Rattle.std.proofs.lemmas.List.{reverse-append, length-reverse, length-map, map-append}
 use Rattle.rdx_sexp.specs.declared.reader.Level.{Level}
-use Rattle.rdx_sexp.specs.Stack.{frame_of, frames}
+use Rattle.rdx_sexp.specs.Inside.Stack.{frame_of, frames}
 
 -- the new level is the innermost
 pub frames-push : (ls : List Level) (l : Level) → frames (ls ++ l ∷ []) ≡ frame_of l ∷ frames ls

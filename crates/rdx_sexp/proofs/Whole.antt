@@ -1,5 +1,5 @@
 -- From the outcome of the machine to what the bytes are.
-use Rattle.std.proofs.Common.{◌≡◌, ◌≤◌, ℕ, List, [], length, take, Some, None, Result, Ok, Err, refl, sym, ap, ◌∙◌, subst}
+use Rattle.std.proofs.Common.{◌≡◌, ◌≤◌, ℕ, List, [], length, take, Result, Ok, Err, refl, sym, ap, ◌∙◌, subst}
 use Rattle.std.specs.Prelude.{IfOk, IfErr}
 use Rattle.std.specs.Str.{chars, IsUtf8, IsValidUpTo}
 use Rattle.std.specs.declared.vec.Vec.{Vec}
@@ -11,17 +11,18 @@ use Rattle.rdx_sexp.specs.declared.fault.ReadRefusal.{ReadRefusal}
 use Rattle.rdx_sexp.specs.Answers.{HasData, HasRefusal, IsRefusal, IsFaultOf}
 use Rattle.rdx_sexp.specs.Begin.{body}
 use Rattle.rdx_sexp.specs.Lexeme.{Lexeme}
-use Rattle.rdx_sexp.specs.Machine.{run}
+use Rattle.rdx_sexp.specs.Inside.Machine.{run}
 use Rattle.rdx_sexp.specs.Reads.{Lexes, Reads, FirstFault, not_utf8, in_text}
 use Rattle.rdx_sexp.specs.Refusal.{refusal}
 use Rattle.rdx_sexp.specs.Sexp.{Sexp}
 use Rattle.rdx_sexp.specs.Size.{IsOfFileSize}
-use Rattle.rdx_sexp.specs.Stack.{Gives}
+use Rattle.rdx_sexp.specs.Inside.Stack.{Gives}
 use Rattle.rdx_sexp.specs.Text.{start, after_all}
-use Rattle.rdx_sexp.proofs.Faults.{refused, fault-run}
+use Rattle.rdx_sexp.proofs.Faults.{run-fault}
 use Rattle.rdx_sexp.proofs.Lexing.{lexed}
 use Rattle.rdx_sexp.proofs.Once.{length_once, not_longer}
-use Rattle.rdx_sexp.proofs.Reading.{many_from_run, run-many_all}
+use Rattle.rdx_sexp.proofs.Reading.{run-many_all}
+use Rattle.rdx_sexp.proofs.ReadSoFar.{many_from_run, fault_from_run}
 use Rattle.rdx_sexp.proofs.Sizes.{data_are_of_file_size}
 
 -- the result is what the machine makes of the lexemes of the bytes' characters
@@ -57,19 +58,17 @@ pub refused_holds : {Z : Type 0} (bytes : List ℕ) (r : Result (Vec Datum Z) Re
 refused_holds bytes (Ok v) u g = tt
 refused_holds bytes (Err (Refused q)) u g =
     let x = lexed (body (chars bytes)) in
-    in_text x.0 u x.1 (fault-run x.0 [] [] ∙ ap refused (g x.0 x.1))
+    in_text x.0 u x.1 (fault_from_run x.0 q (g x.0 x.1))
 refused_holds bytes (Err NoMemory) u g = tt
 
 -- and the first fault is what is refused
 pub fault_holds : {Z : Type 0} (bytes : List ℕ) (r : Result (Vec Datum Z) ReadFault) (q : ReadRefusal) → IsUtf8 bytes → GivesAll bytes r → FirstFault bytes q → HasRefusal q r
 fault_holds bytes r q u g (not_utf8 n v is) = absurd (not_longer bytes n u v)
 fault_holds bytes (Ok v) q u g (in_text ls h cut is) =
-    let a = fault-run ls [] [] in
-    let b : refused (run [] [] ls) ≡ None = ap refused (g ls cut) in
-    cc
+    absurd (let a = run-fault ls q is in let b : run [] [] ls ≡ Ok v.items = g ls cut in cc)
 fault_holds bytes (Err (Refused p)) q u g (in_text ls h cut is) =
-    let a = fault-run ls [] [] in
-    let b : refused (run [] [] ls) ≡ Some p = ap refused (g ls cut) in
+    let a = run-fault ls q is in
+    let b : run [] [] ls ≡ Err p = g ls cut in
     cc
 fault_holds bytes (Err NoMemory) q u g (in_text ls h cut is) = tt
 

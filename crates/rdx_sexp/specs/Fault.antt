@@ -1,64 +1,53 @@
--- The first fault of lexemes, from the left, with the things that are open, the innermost first.
-use Rattle.std.specs.Prelude.{List, [], ◌∷◌, length, Bool, true, false, nat_lt, Option, Some, None, if◌then◌else◌}
+-- The first fault of lexemes.
+use Rattle.std.specs.Prelude.{◌≡◌, ◌<◌, suc, List, [], ◌∷◌, ◌++◌, length, Option, Some, None}
 use Rattle.rdx_base.specs.declared.place.Place.{Place}
 use Rattle.rdx_base.specs.declared.place.Span.{Span}
 use Rattle.rdx_sexp.specs.declared.fault.ReadKind.TheVariants.{Unclosed, WrongClose, TooDeep}
 use Rattle.rdx_sexp.specs.declared.fault.ReadRefusal.{ReadRefusal}
-use Rattle.rdx_sexp.specs.declared.opener.Opener.{Opener}
-use Rattle.rdx_sexp.specs.declared.opener.Opener.TheVariants.{Nest, Quoting, Skipping}
-use Rattle.rdx_sexp.specs.declared.token.Bracket.{Bracket}
-use Rattle.rdx_sexp.specs.declared.token.Bracket.TheVariants.{Round, Square, Curly}
-use Rattle.rdx_sexp.specs.Grammar.{max_open}
-use Rattle.rdx_sexp.specs.Lexeme.{Lexeme, opening, closing, mark, skip, word, bad}
+use Rattle.rdx_sexp.specs.Grammar.{max_open, Many}
+use Rattle.rdx_sexp.specs.Lexeme.{Bracket, QuoteMark, Lexeme, opening, closing, quote_mark, skip, word, bad}
 use Rattle.rdx_sexp.specs.Refusal.{refusal}
+use Rattle.rdx_sexp.specs.Sexp.{Sexp}
 
--- where an open list, quote mark or `#;` begins
-abbrev pub opener_place : Opener → Place
-opener_place (Nest b s) = s.start
-opener_place (Quoting m s) = s.start
-opener_place (Skipping s) = s.start
+-- What is open at the end of lexemes. `Open ls os` says that the lexemes ls are data, but for the lists, quote marks and `#;` that begin
+-- with the lexemes os, the innermost first, and have no end in ls. Behind the opening bracket of such a list there stand whole data, and
+-- behind such a quote mark or `#;` only data that are dropped.
+pub data Open : List Lexeme → List Lexeme → Type 0 where
+  none_open : {ls : List Lexeme} {ds : List Sexp} → Many 0 ls ds [] → Open ls []
+  list_open : {outer inner ls os : List Lexeme} {b : Bracket} {s : Span} {ds : List Sexp}
+      → Open outer os → length os < max_open → Many (suc (length os)) inner ds [] → outer ++ opening b s ∷ inner ≡ ls
+      → Open ls (opening b s ∷ os)
+  quote_open : {outer inner ls os : List Lexeme} {m : QuoteMark} {s : Span}
+      → Open outer os → length os < max_open → Many (suc (length os)) inner [] [] → outer ++ quote_mark m s ∷ inner ≡ ls
+      → Open ls (quote_mark m s ∷ os)
+  skip_open : {outer inner ls os : List Lexeme} {s : Span}
+      → Open outer os → length os < max_open → Many (suc (length os)) inner [] [] → outer ++ skip s ∷ inner ≡ ls
+      → Open ls (skip s ∷ os)
 
--- both are round, or square, or curly
-abbrev pub same_bracket : Bracket → Bracket → Bool
-same_bracket Round Round = true
-same_bracket Square Square = true
-same_bracket Curly Curly = true
-same_bracket Round Square = false
-same_bracket Round Curly = false
-same_bracket Square Round = false
-same_bracket Square Curly = false
-same_bracket Curly Round = false
-same_bracket Curly Square = false
+-- a closing bracket of this kind ends the innermost of these, which is a list
+abbrev pub Closes : Bracket → List Lexeme → Type 0
+Closes b os = (s : Span) × (outer : List Lexeme) × (os ≡ opening b s ∷ outer)
 
--- what is still open after a datum: the quote marks right before it are done, and so is the `#;` before these
-abbrev pub after_datum : List Opener → List Opener
-after_datum [] = []
-after_datum (Nest b s ∷ os) = Nest b s ∷ os
-after_datum (Quoting m s ∷ os) = after_datum os
-after_datum (Skipping s ∷ os) = os
+-- where a list, a quote mark or `#;` begins, if one begins with this lexeme
+abbrev pub begins_at : Lexeme → Option Place
+begins_at (opening b s) = Some s.start
+begins_at (closing b s) = None
+begins_at (quote_mark m s) = Some s.start
+begins_at (skip s) = Some s.start
+begins_at (word a s) = None
+begins_at (bad r) = None
 
--- at the end of the text nothing may be open
-abbrev pub at_end : List Opener → Option ReadRefusal
-at_end [] = None
-at_end (o ∷ os) = Some (refusal Unclosed (opener_place o))
-
--- the fault of the rest, unless what opens at s is one too many
-abbrev pub unless_deep : List Opener → Span → Option ReadRefusal → Option ReadRefusal
-unless_deep os s rest = if nat_lt (length os) max_open then rest else Some (refusal TooDeep s.start)
-
--- a closing bracket at t, with the fault of the rest where it closes the innermost list
-abbrev pub if_closes : Bracket → Span → List Opener → (List Opener → Option ReadRefusal) → Option ReadRefusal
-if_closes b t [] rest = Some (refusal WrongClose t.start)
-if_closes b t (Nest a s ∷ os) rest = if same_bracket a b then rest (after_datum os) else Some (refusal WrongClose t.start)
-if_closes b t (Quoting m s ∷ os) rest = Some (refusal WrongClose t.start)
-if_closes b t (Skipping s ∷ os) rest = Some (refusal WrongClose t.start)
-
--- the first fault of these lexemes behind what is open, if there is one
-abbrev pub fault : List Opener → List Lexeme → Option ReadRefusal
-fault os [] = at_end os
-fault os (opening b s ∷ ls) = unless_deep os s (fault (Nest b s ∷ os) ls)
-fault os (closing b t ∷ ls) = if_closes b t os (λ left. fault left ls)
-fault os (mark m s ∷ ls) = unless_deep os s (fault (Quoting m s ∷ os) ls)
-fault os (skip s ∷ ls) = unless_deep os s (fault (Skipping s ∷ os) ls)
-fault os (word a s ∷ ls) = fault (after_datum os) ls
-fault os (bad r ∷ ls) = Some r
+-- The lexemes ls are refused for r, at the first of them that doesn't fit those before it, or at their end. A closing bracket has to close
+-- the innermost thing that is open (F3); no more than `max_open` of them may be open (F8); what is refused by itself may stand nowhere; and
+-- at the end nothing may be open (F2).
+pub data FaultOf (ls : List Lexeme) (r : ReadRefusal) : Type 0 where
+  wrong_close : (before behind : List Lexeme) {os : List Lexeme} (b : Bracket) (s : Span)
+      → Open before os → ¬ (Closes b os) → ls ≡ before ++ closing b s ∷ behind
+      → r ≡ refusal WrongClose s.start → FaultOf ls r
+  too_deep : (before behind : List Lexeme) {os : List Lexeme} (l : Lexeme) (p : Place)
+      → Open before os → length os ≡ max_open → begins_at l ≡ Some p → ls ≡ before ++ l ∷ behind
+      → r ≡ refusal TooDeep p → FaultOf ls r
+  bad_lexeme : (before behind : List Lexeme) {os : List Lexeme}
+      → Open before os → ls ≡ before ++ bad r ∷ behind → FaultOf ls r
+  unclosed : {o : Lexeme} {os : List Lexeme} (p : Place)
+      → Open ls (o ∷ os) → begins_at o ≡ Some p → r ≡ refusal Unclosed p → FaultOf ls r

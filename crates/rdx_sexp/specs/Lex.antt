@@ -1,13 +1,12 @@
 -- The first lexeme of a text.
 use Rattle.std.specs.Prelude.{ℕ, ◌==◌, ◌&&◌, List, [], ◌∷◌, Option, Some, None, Result, Ok, Err, if◌then◌else◌}
-use Rattle.std.specs.Str.{encode_utf8_all}
+use Rattle.std.specs.Str.{byte, encode_utf8_all}
 use Rattle.rdx_base.specs.declared.place.Place.{Place}
 use Rattle.rdx_base.specs.declared.place.Span.{Span}
 use Rattle.rdx_sexp.specs.declared.fault.ReadKind.TheVariants.{Unclosed}
-use Rattle.rdx_sexp.specs.declared.token.Bracket.TheVariants.{Round, Square, Curly}
-use Rattle.rdx_sexp.specs.declared.token.Mark.TheVariants.{Quote, Quasiquote, Unquote, UnquoteSplicing}
-use Rattle.rdx_sexp.specs.Blanks.{inside, past_blanks}
-use Rattle.rdx_sexp.specs.Lexeme.{Lexeme, opening, closing, mark, skip, word, bad}
+use Rattle.rdx_sexp.specs.Blanks.{past_blanks}
+use Rattle.rdx_sexp.specs.Lexeme.{round, square, curly, quote, quasiquote, unquote, unquote_splicing}
+use Rattle.rdx_sexp.specs.Lexeme.{Lexeme, opening, closing, quote_mark, skip, word, bad}
 use Rattle.rdx_sexp.specs.Refusal.{refusal}
 use Rattle.rdx_sexp.specs.Sexp.{text}
 use Rattle.rdx_sexp.specs.Strings.{Body, string_body}
@@ -36,17 +35,25 @@ abbrev pub token_step : Place → ℕ → Text → Step
 token_step p c r =
     (token_lexeme (encode_utf8_all (c ∷ token_chars r.chars)) (span p (past_token r.place r.chars).place), past_token r.place r.chars)
 
--- The lexeme that begins with the character c at p, before r. The characters are the brackets `(`, `)`, `[`, `]`, `{`, `}`, the marks `'`,
--- `` ` ``, `,` and `,@`, the quotation mark of a string, and `#;`; with all others a token begins.
+-- a quote mark at p that begins with a comma, before r
+abbrev pub comma_step : Place → Text → Step
+comma_step p r =
+    if next_is (byte "@") r.chars then until (quote_mark unquote_splicing) p (skip_one r.place r.chars) else until (quote_mark unquote) p r
+
+-- The lexeme that begins with the character c at p, before r: a bracket, a quote mark, a string, `#;`, or else a token.
 abbrev pub lexeme_from : Place → ℕ → Text → Step
 lexeme_from p c r =
-    if c == 40 then until (opening Round) p r else if c == 41 then until (closing Round) p r
-    else if c == 91 then until (opening Square) p r else if c == 93 then until (closing Square) p r
-    else if c == 123 then until (opening Curly) p r else if c == 125 then until (closing Curly) p r
-    else if c == 39 then until (mark Quote) p r else if c == 96 then until (mark Quasiquote) p r
-    else if c == 44 then (if next_is 64 r.chars then until (mark UnquoteSplicing) p (skip_one r.place r.chars) else until (mark Unquote) p r)
-    else if c == 34 then string_step p (string_body p None r.place r.chars) r
-    else if c == 35 && next_is 59 r.chars then until skip p (skip_one r.place r.chars)
+    if c == byte "(" then until (opening round) p r
+    else if c == byte ")" then until (closing round) p r
+    else if c == byte "[" then until (opening square) p r
+    else if c == byte "]" then until (closing square) p r
+    else if c == byte "{" then until (opening curly) p r
+    else if c == byte "}" then until (closing curly) p r
+    else if c == byte "'" then until (quote_mark quote) p r
+    else if c == byte "`" then until (quote_mark quasiquote) p r
+    else if c == byte "," then comma_step p r
+    else if c == byte "\"" then string_step p (string_body p r.place r.chars) r
+    else if c == byte "#" && next_is (byte ";") r.chars then until skip p (skip_one r.place r.chars)
     else token_step p c r
 
 -- the lexeme that begins with the first character, if there is one
@@ -61,4 +68,4 @@ first_from (Err o) = Some (bad (refusal Unclosed o), at o [])
 
 -- the first lexeme and the text behind it; none where white space and comments fill the text
 unfoldable pub first_lexeme : Text → Option Step
-first_lexeme t = first_from (past_blanks (inside []) t.place t.chars)
+first_lexeme t = first_from (past_blanks [] t.place t.chars)

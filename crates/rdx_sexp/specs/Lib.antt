@@ -1,7 +1,5 @@
 pub mod Sexp
-pub mod SexpCode
 pub mod View
-pub mod Falls
 pub mod Size
 pub mod Refusal
 pub mod Text
@@ -15,10 +13,9 @@ pub mod Grammar
 pub mod Fault
 pub mod Reads
 pub mod Answers
-pub mod Machine
-pub mod Stack
-pub mod Cursor
 pub mod Print
 pub mod Meaning
 pub mod Laws
 pub mod Examples
+pub mod Model
+pub mod Inside

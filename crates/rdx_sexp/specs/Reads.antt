@@ -4,7 +4,7 @@ use Rattle.std.specs.Str.{chars, IsUtf8, IsValidUpTo}
 use Rattle.rdx_sexp.specs.declared.fault.ReadKind.TheVariants.{NotUtf8}
 use Rattle.rdx_sexp.specs.declared.fault.ReadRefusal.{ReadRefusal}
 use Rattle.rdx_sexp.specs.Begin.{body}
-use Rattle.rdx_sexp.specs.Fault.{fault}
+use Rattle.rdx_sexp.specs.Fault.{FaultOf}
 use Rattle.rdx_sexp.specs.Grammar.{Many}
 use Rattle.rdx_sexp.specs.Lex.{first_lexeme}
 use Rattle.rdx_sexp.specs.Lexeme.{Lexeme}
@@ -24,8 +24,8 @@ pub record Reads (bytes : List ℕ) (ds : List Sexp) : Type 0 where
   pub lexed : Lexes (body (chars bytes)) lexemes
   pub data_are : Many 0 lexemes ds []
 
--- Why bytes are no data: they are not UTF-8, at the place behind the longest front that is; or their characters are lexemes with a fault,
--- of which the first counts.
+-- Why bytes are no data: they are not UTF-8, at the place behind the longest front that is (F1); or the lexemes of their characters are
+-- refused.
 pub data FirstFault (bytes : List ℕ) (r : ReadRefusal) : Type 0 where
   not_utf8 : (n : ℕ) → IsValidUpTo bytes n → r ≡ refusal NotUtf8 (after_all start (chars (take n bytes))) → FirstFault bytes r
-  in_text : (ls : List Lexeme) → IsUtf8 bytes → Lexes (body (chars bytes)) ls → fault [] ls ≡ Some r → FirstFault bytes r
+  in_text : (ls : List Lexeme) → IsUtf8 bytes → Lexes (body (chars bytes)) ls → FaultOf ls r → FirstFault bytes r

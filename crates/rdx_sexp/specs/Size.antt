@@ -1,5 +1,5 @@
 -- How large the data of a file are.
-use Rattle.std.specs.Prelude.{◌≡◌, ℕ, suc, ◌≤◌, max, true, List}
+use Rattle.std.specs.Prelude.{ℕ, suc, ◌≤◌, max, List, IsTrue}
 use Rattle.rdx_term.specs.Spelling.{is_symbol_spelling}
 use Rattle.rdx_sexp.specs.Sexp.{Atom, integer, truth, text, symbol, keyword, Sexp, Sexps, leaf, list, nil, cons, sexps, sexps_nodes}
 
@@ -18,7 +18,7 @@ abbrev pub IsSpelled : Atom → Type 0
 IsSpelled (integer n) = Unit {0}
 IsSpelled (truth b) = Unit {0}
 IsSpelled (text t) = Unit {0}
-IsSpelled (symbol t) = is_symbol_spelling t ≡ true
+IsSpelled (symbol t) = IsTrue (is_symbol_spelling t)
 IsSpelled (keyword t) = Unit {0}
 
 -- each symbol in the data is

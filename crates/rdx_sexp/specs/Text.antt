@@ -1,5 +1,6 @@
 -- A text from a place on.
 use Rattle.std.specs.Prelude.{ℕ, ◌+◌, ◌==◌, List, [], ◌∷◌, Bool, false, if◌then◌else◌}
+use Rattle.std.specs.Str.{byte}
 use Rattle.rdx_base.specs.declared.place.Place.{Place}
 
 -- the characters from this place on
@@ -17,7 +18,8 @@ start = record { line = 1; column = 1 }
 
 -- the place after the character c at p: behind an LF the next line begins
 abbrev pub after : Place → ℕ → Place
-after p c = if c == 10 then record { line = p.line + 1; column = 1 } else record { line = p.line; column = p.column + 1 }
+after p c =
+    if c == byte "\n" then record { line = p.line + 1; column = 1 } else record { line = p.line; column = p.column + 1 }
 
 -- the place after all these characters
 abbrev pub after_all : Place → List ℕ → Place
@@ -27,7 +29,7 @@ after_all p (c ∷ cs) = after_all (after p c) cs
 -- the character c comes next
 abbrev pub next_is : ℕ → List ℕ → Bool
 next_is c [] = false
-next_is c (d ∷ ds) = c == d
+next_is c (d ∷ ds) = d == c
 
 -- the text behind one more character
 abbrev pub skip_one : Place → List ℕ → Text

@@ -2,9 +2,11 @@
 --
 -- The source is the chapter on the reader in the Racket reference, of which this is a part: all that looks like a number but is no decimal
 -- integer is refused, and so are quoted symbols.
-use Rattle.std.specs.Prelude.{ℕ, ℤ, pos, negsuc, ◌^◌, ◌==◌, ◌&&◌, ◌||◌, nat_lt, List, [], ◌∷◌, length, Bool, true, false, if◌then◌else◌, Option, Some, None, codes, bytes_eq}
+use Rattle.std.specs.Prelude.{ℕ, ℤ, pos, negsuc, ◌^◌, ◌==◌, ◌&&◌, ◌||◌, nat_lt, List, [], ◌∷◌, length, Bool, true, false, codes, bytes_eq}
+use Rattle.std.specs.Prelude.{if◌then◌else◌, Option, Some, None}
 use Rattle.std.specs.List.{list_any, list_all}
 use Rattle.std.specs.Char.{is_ascii_digit}
+use Rattle.std.specs.Str.{byte}
 use Rattle.std.specs.Str.Parse.{without_leading_sign, signed_digits_value}
 use Rattle.rdx_base.specs.declared.place.Place.{Place}
 use Rattle.rdx_base.specs.declared.place.Span.{Span}
@@ -38,16 +40,16 @@ abbrev pub fits : ℤ → Bool
 fits (pos n) = nat_lt n (2 ^ 127)
 fits (negsuc n) = nat_lt n (2 ^ 127)
 
--- the integer n
+-- the integer n, or its refusal (F6)
 abbrev pub integer_lexeme : ℤ → Span → Lexeme
 integer_lexeme n s = if fits n then word (integer n) s else bad (refusal NumberRange s.start)
 
--- what stands behind `#:` (35 and 58), if anything does
+-- what stands behind `#:`, if anything does
 abbrev pub keyword_name : List ℕ → Option (List ℕ)
 keyword_name [] = None
 keyword_name (h ∷ []) = None
 keyword_name (h ∷ c ∷ []) = None
-keyword_name (h ∷ c ∷ d ∷ ds) = if h == 35 && c == 58 then Some (d ∷ ds) else None
+keyword_name (h ∷ c ∷ d ∷ ds) = if h == byte "#" && c == byte ":" then Some (d ∷ ds) else None
 
 -- the keyword of this name, where there is one
 abbrev pub keyword_lexeme : Option (List ℕ) → Span → Lexeme
@@ -61,7 +63,8 @@ hash_lexeme bs s =
     else if bytes_eq bs (codes "#f") || bytes_eq bs (codes "#false") then word (truth false) s
     else keyword_lexeme (keyword_name bs) s
 
--- the lexeme that a token with these bytes is
+-- The lexeme that a token with these bytes is. Quoted symbols, a single point and other tokens with `#` are refused (F4), and what looks like
+-- a number and is no integer (F5).
 abbrev pub token_lexeme : List ℕ → Span → Lexeme
 token_lexeme bs s =
     if list_any is_symbol_quote bs || bytes_eq bs (codes ".") then bad (refusal BadToken s.start)

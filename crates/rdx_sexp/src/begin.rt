@@ -1,7 +1,7 @@
 // The first line of a file.
 ghost use Rattle.std.specs.Prelude.{◌≡◌, MatchOption, Some, None};
 ghost use Rattle.rdx_sexp.specs.Begin.{behind, ends_line, is_line_end, has_lang_line, past_line, body};
-ghost use Rattle.rdx_sexp.specs.Cursor.{text_of};
+ghost use Rattle.rdx_sexp.specs.Inside.Cursor.{text_from};
 ghost use Rattle.rdx_sexp.specs.Text.{start};
 
 use crate::blanks::past_line;
@@ -9,7 +9,9 @@ use crate::cursor::Cursor;
 
 // What stands behind a word that the text begins with.
 fn behind<'a>(word: &[u8], chars: &'a [char]) -> Option<&'a [char]>
-    ensures { MatchOption result (behind word.now chars.now ≡ None) (λ rest. behind word.now chars.now ≡ Some rest.now) }
+    ensures { MatchOption result
+        (behind word.now chars.now ≡ None)
+        (λ rest. behind word.now chars.now ≡ Some rest.now) }
 {
     let mut rest = chars;
     for byte in word {
@@ -59,7 +61,7 @@ fn has_lang_line(chars: &[char]) -> bool
 // The text with the data, of a whole text.
 pub(crate) fn body<'a>(whole: Cursor<'a>) -> Cursor<'a>
     requires { whole.place ≡ start }
-    ensures { text_of result ≡ body whole.entry.rest.now }
+    ensures { text_from result ≡ body whole.entry.rest.now }
 {
     if has_lang_line(whole.rest) {
         past_line(whole)

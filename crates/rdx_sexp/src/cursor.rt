@@ -1,7 +1,5 @@
 // Characters with their places.
-ghost use Rattle.std.specs.Prelude.{◌≡◌, ◌+◌, ◌<◌, ◌≤◌, ◌^◌, [], ◌∷◌, length, List, MatchOption};
-ghost use Rattle.rdx_base.specs.declared.place.Place.{Place};
-ghost use Rattle.rdx_sexp.specs.Blanks.{past_blanks, inside, second};
+ghost use Rattle.std.specs.Prelude.{◌≡◌, ◌+◌, ◌<◌, ◌≤◌, ◌^◌, [], ◌∷◌, length, MatchOption};
 ghost use Rattle.rdx_sexp.specs.Text.{at, after, after_all, next_is, skip_one};
 
 use rdx_base::Place;
@@ -38,7 +36,8 @@ impl<'a> Cursor<'a> {
     // The first character, and the text after it.
     pub(crate) fn step(self) -> Option<(char, Cursor<'a>)>
         ensures { MatchOption result (self.entry.rest.now ≡ [])
-            (λ r. (self.entry.rest.now ≡ r.0 ∷ r.1.rest.now) × (r.1.place ≡ after self.entry.place r.0)) }
+            (λ r. (self.entry.rest.now ≡ r.0 ∷ r.1.rest.now)
+            × (r.1.place ≡ after self.entry.place r.0)) }
     {
         let (c, rest) = self.rest.split_first()?;
         Some((
@@ -62,9 +61,9 @@ impl<'a> Cursor<'a> {
 
     // The text after one more character.
     pub(crate) fn skip_one(self) -> Cursor<'a>
-        ensures value { at result.place result.rest.now ≡ skip_one self.entry.place self.entry.rest.now }
+        ensures value { at result.place result.rest.now
+            ≡ skip_one self.entry.place self.entry.rest.now }
         ensures shorter { length result.rest.now ≤ length self.entry.rest.now }
-        ensures second { (os : List Place) → past_blanks (second os) self.entry.place self.entry.rest.now ≡ past_blanks (inside os) result.place result.rest.now }
     {
         match self.step() {
             None => self,

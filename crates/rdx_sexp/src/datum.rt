@@ -25,7 +25,7 @@ pub struct Datum {
 
 impl Model for Datum {
     ghost use Rattle.rdx_sexp.specs.Sexp.{Sexp, sexp_nodes};
-    ghost use Rattle.rdx_sexp.specs.SexpCode.{coded_sexp};
+    ghost use Rattle.rdx_sexp.specs.Model.SexpCode.{coded_sexp};
 
     ghost Value = { Sexp };
 
@@ -38,7 +38,7 @@ impl Model for Datum {
     ghost size = { sexp_nodes };
 
     ghost use Rattle.std.proofs.Common.{arith};
-    ghost use Rattle.rdx_sexp.specs.Falls.{deep_le-nodes};
+    ghost use Rattle.rdx_sexp.specs.Model.Falls.{deep_le-nodes};
 
     ghost size_decreases = { λ a h. omega (arith, deep_le-nodes a.form a.span) };
 }

@@ -8,22 +8,22 @@ use std::alloc::{AllocError, AllocFailed};
 /// Why a text is refused.
 #[derive(Clone, Copy, Debug, PartialEq, Eq)]
 pub enum ReadKind {
-    /// The bytes aren't UTF-8. The place is behind the longest front that is.
+    /// F1: the bytes aren't UTF-8. The place is behind the longest front that is.
     NotUtf8,
-    /// The text ends inside a list or a block comment, or before the datum of a quote mark or of `#;`. The place is that of the innermost
+    /// F2: the text ends inside a list or a block comment, or before the datum of a quote mark or of `#;`. The place is that of the innermost
     /// of these.
     Unclosed,
-    /// A closing bracket closes nothing, or a list of another kind, or stands where a datum is wanted.
+    /// F3: a closing bracket closes nothing, or a list of another kind, or stands where a datum is wanted.
     WrongClose,
-    /// A token has `|` or `\` in it, is a single point, or begins with `#` and is neither a truth value nor a keyword.
+    /// F4: a token has `|` or `\` in it, is a single point, or begins with `#` and is neither a truth value nor a keyword.
     BadToken,
-    /// A token begins like a number and is no integer.
+    /// F5: a token begins like a number and is no integer.
     NumberForm,
-    /// An integer is below -2^127 or above 2^127 - 1.
+    /// F6: an integer is below -2^127 or above 2^127 - 1.
     NumberRange,
-    /// A string has an escape that isn't known, at its backslash, or no end, at its opening quotation mark.
+    /// F7: a string has an escape that isn't known, at its backslash, or no end, at its opening quotation mark.
     BadString,
-    /// A bracket, quote mark or `#;` would be the 501st that is open.
+    /// F8: a bracket, quote mark or `#;` would be the 501st that is open.
     TooDeep,
 }
 

@@ -1,6 +1,6 @@
 //! Laws of the definitions: functions that do nothing, whose contracts are the laws.
-ghost use Rattle.rdx_sexp.specs.Examples.{NestedComment, TwoDropped, CommentsAlone, QuoteMark, WrongBracket, InnermostOpen, UnknownEscape};
-ghost use Rattle.rdx_sexp.specs.Laws.{OneReading, OneFault, DataOrFault, NeverNeither, TermsReadBack};
+ghost use Rattle.rdx_sexp.specs.Examples as example;
+ghost use Rattle.rdx_sexp.specs.Laws.{OneReading, OneFault, DataOrFault, NeverNeither, FaultsEndFronts, SymbolsRead, TermsReadBack};
 
 /// Bytes are one list of data at most.
 pub fn one_reading()
@@ -22,6 +22,17 @@ pub fn never_neither()
     ensures { NeverNeither }
 {}
 
+/// The lexemes before the one at fault are a front of lexemes that spell data, and with it they are a front of none. The lexeme alone says
+/// the kind and the place; at the end of the text, which is a front too and no data, the fault is what has no end.
+pub fn faults_end_fronts()
+    ensures { FaultsEndFronts }
+{}
+
+/// Text is spelled as the symbols of terms are exactly where it is read as that one symbol, and so is `hole`.
+pub fn symbols_read()
+    ensures { SymbolsRead }
+{}
+
 /// The printed spelling of a term is read as one datum, which stands for that term with its marks forgotten.
 pub fn terms_read_back()
     ensures { TermsReadBack }
@@ -29,11 +40,24 @@ pub fn terms_read_back()
 
 /// What some short texts are, as the definitions have it.
 pub fn worked_examples()
-    ensures nested_comment { NestedComment }
-    ensures two_dropped { TwoDropped }
-    ensures comments_alone { CommentsAlone }
-    ensures quote_mark { QuoteMark }
-    ensures wrong_bracket { WrongBracket }
-    ensures innermost_open { InnermostOpen }
-    ensures unknown_escape { UnknownEscape }
+    ensures nested_comment { example.NestedComment }
+    ensures two_dropped { example.TwoDropped }
+    ensures comments_alone { example.CommentsAlone }
+    ensures quote_mark { example.QuoteMark }
+    ensures lang_line { example.LangLine }
+    ensures other_lang { example.OtherLang }
+    ensures small_integers { example.SmallIntegers }
+    ensures largest_integer { example.LargestInteger }
+    ensures smallest_integer { example.SmallestInteger }
+    ensures tokens { example.Tokens }
+    ensures string_behind_token { example.StringBehindToken }
+    ensures no_text { example.NoText }
+    ensures innermost_open { example.InnermostOpen }
+    ensures wrong_bracket { example.WrongBracket }
+    ensures single_point { example.SinglePoint }
+    ensures fraction { example.Fraction }
+    ensures out_of_range { example.OutOfRange }
+    ensures unknown_escape { example.UnknownEscape }
+    ensures open_string { example.OpenString }
+    ensures too_many_open { example.TooManyOpen }
 {}

@@ -1,15 +1,15 @@
 // Lexemes of a text.
 ghost use Rattle.std.specs.Prelude.{◌≡◌, None};
-ghost use Rattle.rdx_sexp.specs.Cursor.{text_of, GivesPair, GivesStep};
+ghost use Rattle.rdx_sexp.specs.Inside.Cursor.{text_from, GivesPair, GivesStep};
 ghost use Rattle.rdx_sexp.specs.Lex.{lexeme_from, first_lexeme, string_step, token_step};
 ghost use Rattle.rdx_sexp.specs.Strings.{string_body};
 
 use crate::ReadFault;
 use crate::blanks::past_blanks;
 use crate::cursor::Cursor;
+use crate::lexeme::{Atom, Bracket, Lexeme, QuoteMark};
 use crate::strings::string_body;
-use crate::token::{Bracket, Leaf, Mark, Token};
-use crate::words::{leaf_of, take_token};
+use crate::words::{atom_of, take_token};
 use rdx_base::{Place, Span};
 use std::alloc::Global;
 use std::rc::RcStr;
@@ -19,15 +19,21 @@ fn string<'a>(
     alloc: Global,
     place: Place,
     rest: Cursor<'a>,
-) -> Result<(Token, Cursor<'a>), ReadFault>
-    ensures { GivesPair result (string_step place (string_body place None rest.entry.place rest.entry.rest.now) (text_of rest.entry)) }
+) -> Result<(Lexeme, Cursor<'a>), ReadFault>
+    ensures { GivesPair result
+        (string_step place
+        (string_body place rest.entry.place rest.entry.rest.now)
+        (text_from rest.entry)) }
 {
     let (text, end) = string_body(alloc, place, rest)?;
     let span = Span {
         start: place,
         end: end.place,
     };
-    Ok((Token::Word(Leaf::Str(RcStr::from_string(text)?), span), end))
+    Ok((
+        Lexeme::Word(Atom::Str(RcStr::from_string(text)?), span),
+        end,
+    ))
 }
 
 // The token that begins with c at `place`, before `rest`.
@@ -36,8 +42,8 @@ fn word<'a>(
     place: Place,
     c: char,
     rest: Cursor<'a>,
-) -> Result<(Token, Cursor<'a>), ReadFault>
-    ensures { GivesPair result (token_step place c (text_of rest.entry)) }
+) -> Result<(Lexeme, Cursor<'a>), ReadFault>
+    ensures { GivesPair result (token_step place c (text_from rest.entry)) }
 {
     let mut text = String::new(alloc);
     text.push(c)?;
@@ -46,7 +52,7 @@ fn word<'a>(
         start: place,
         end: end.place,
     };
-    Ok((Token::Word(leaf_of(alloc, text, span)?, span), end))
+    Ok((Lexeme::Word(atom_of(alloc, text, span)?, span), end))
 }
 
 // The lexeme that begins with c at `place`, before `rest`.
@@ -55,8 +61,8 @@ fn lexeme_from<'a>(
     place: Place,
     c: char,
     rest: Cursor<'a>,
-) -> Result<(Token, Cursor<'a>), ReadFault>
-    ensures { GivesPair result (lexeme_from place c (text_of rest.entry)) }
+) -> Result<(Lexeme, Cursor<'a>), ReadFault>
+    ensures { GivesPair result (lexeme_from place c (text_from rest.entry)) }
 {
     let one = Span {
         start: place,
@@ -68,18 +74,18 @@ fn lexeme_from<'a>(
         end: others.place,
     };
     Ok(match c {
-        '(' => (Token::Open(Bracket::Round, one), rest),
-        ')' => (Token::Close(Bracket::Round, one), rest),
-        '[' => (Token::Open(Bracket::Square, one), rest),
-        ']' => (Token::Close(Bracket::Square, one), rest),
-        '{' => (Token::Open(Bracket::Curly, one), rest),
-        '}' => (Token::Close(Bracket::Curly, one), rest),
-        '\'' => (Token::Marked(Mark::Quote, one), rest),
-        '`' => (Token::Marked(Mark::Quasiquote, one), rest),
-        ',' if rest.next_is('@') => (Token::Marked(Mark::UnquoteSplicing, two), others),
-        ',' => (Token::Marked(Mark::Unquote, one), rest),
+        '(' => (Lexeme::Open(Bracket::Round, one), rest),
+        ')' => (Lexeme::Close(Bracket::Round, one), rest),
+        '[' => (Lexeme::Open(Bracket::Square, one), rest),
+        ']' => (Lexeme::Close(Bracket::Square, one), rest),
+        '{' => (Lexeme::Open(Bracket::Curly, one), rest),
+        '}' => (Lexeme::Close(Bracket::Curly, one), rest),
+        '\'' => (Lexeme::Marked(QuoteMark::Quote, one), rest),
+        '`' => (Lexeme::Marked(QuoteMark::Quasiquote, one), rest),
+        ',' if rest.next_is('@') => (Lexeme::Marked(QuoteMark::UnquoteSplicing, two), others),
+        ',' => (Lexeme::Marked(QuoteMark::Unquote, one), rest),
         '"' => string(alloc, place, rest)?,
-        '#' if rest.next_is(';') => (Token::Skip(two), others),
+        '#' if rest.next_is(';') => (Lexeme::Skip(two), others),
         _ => word(alloc, place, c, rest)?,
     })
 }
@@ -89,8 +95,8 @@ fn lexeme_from<'a>(
 pub(crate) fn next<'a>(
     alloc: Global,
     cursor: Cursor<'a>,
-) -> Result<Option<(Token, Cursor<'a>)>, ReadFault>
-    ensures { GivesStep result (first_lexeme (text_of cursor.entry)) }
+) -> Result<Option<(Lexeme, Cursor<'a>)>, ReadFault>
+    ensures { GivesStep result (first_lexeme (text_from cursor.entry)) }
 {
     let at = past_blanks(alloc, cursor)?;
     match at.step() {

@@ -17,15 +17,13 @@ mod cursor;
 mod datum;
 mod fault;
 pub mod laws;
+mod lexeme;
 mod lexer;
 mod opener;
 mod print;
 mod read;
 mod reader;
 mod strings;
-#[cfg(test)]
-mod tests;
-mod token;
 mod words;
 
 pub use datum::{Datum, Form};

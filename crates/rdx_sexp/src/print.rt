@@ -45,7 +45,9 @@ fn print(d: &Datum, out: &mut Vec<u8>) -> Result<(), NoMemory>
 // The items between round brackets.
 #[cycle(print)]
 fn print_list(items: &[Datum], out: &mut Vec<u8>) -> Result<(), NoMemory>
-    ensures ok { OnOk result (out.new.items ≡ out.old.items ++ (codes "(" ++ sexps_text (sexps items.now) ++ codes ")")) }
+    ensures ok { OnOk result
+        (out.new.items
+        ≡ out.old.items ++ (codes "(" ++ sexps_text (sexps items.now) ++ codes ")")) }
     ensures kept { take (length out.old.items) out.new.items ≡ out.old.items }
 {
     out.push(b'(')?;

@@ -4,14 +4,14 @@ ghost use Rattle.std.specs.Str.{IsUtf8};
 ghost use Rattle.rdx_sexp.specs.declared.fault.ReadRefusal.{ReadRefusal};
 ghost use Rattle.rdx_sexp.specs.Answers.{HasData, HasRefusal, IsFaultOf, IsRefusal};
 ghost use Rattle.rdx_sexp.specs.Begin as begin;
-ghost use Rattle.rdx_sexp.specs.Cursor.{text_of};
+ghost use Rattle.rdx_sexp.specs.Inside.Cursor.{text_from};
 ghost use Rattle.rdx_sexp.specs.Lexeme.{Lexeme};
-ghost use Rattle.rdx_sexp.specs.Machine.{ended, run};
+ghost use Rattle.rdx_sexp.specs.Inside.Machine.{ended, run};
 ghost use Rattle.rdx_sexp.specs.Reads.{Lexes, Reads, FirstFault};
 ghost use Rattle.rdx_sexp.specs.Refusal.{refusal};
 ghost use Rattle.rdx_sexp.specs.Sexp.{Sexp};
 ghost use Rattle.rdx_sexp.specs.Size.{IsOfFileSize};
-ghost use Rattle.rdx_sexp.specs.Stack.{frames, Gives};
+ghost use Rattle.rdx_sexp.specs.Inside.Stack.{frames, Gives};
 ghost use Rattle.rdx_sexp.specs.Text.{at, start, after_all};
 
 use crate::begin::body;
@@ -35,13 +35,13 @@ fn finished(stack: &[Level], items: Vec<Datum>) -> Result<Vec<Datum>, ReadFault>
 
 // The data of a text.
 fn read_text(alloc: Global, text: Cursor<'_>) -> Result<Vec<Datum>, ReadFault>
-    ensures { (ls : List Lexeme) → Lexes (text_of text.entry) ls → Gives result (run [] [] ls) }
+    ensures { (ls : List Lexeme) → Lexes (text_from text.entry) ls → Gives result (run [] [] ls) }
 {
     let mut stack = Vec::new(alloc);
     let mut items = Vec::new(alloc);
     let mut at = text;
-    while let Some((token, rest)) = next(alloc, at)? {
-        take(alloc, token, &mut stack, &mut items)?;
+    while let Some((lexeme, rest)) = next(alloc, at)? {
+        take(alloc, lexeme, &mut stack, &mut items)?;
         at = rest;
     }
     finished(&stack, items)
@@ -58,7 +58,7 @@ fn chars_of(alloc: Global, text: &str) -> Result<Vec<char>, ReadFault>
 
 fn start<'a>(chars: &'a [char]) -> Cursor<'a>
     requires { length chars.now ≤ 1_048_576 }
-    ensures { text_of result ≡ at start chars.now }
+    ensures { text_from result ≡ at start chars.now }
 {
     Cursor {
         rest: chars,
@@ -68,7 +68,8 @@ fn start<'a>(chars: &'a [char]) -> Cursor<'a>
 
 fn read_str(alloc: Global, text: &str) -> Result<Vec<Datum>, ReadFault>
     requires { length text.now ≤ 1_048_576 }
-    ensures { (ls : List Lexeme) → Lexes (begin.body (chars text.now)) ls → Gives result (run [] [] ls) }
+    ensures { (ls : List Lexeme)
+        → Lexes (begin.body (chars text.now)) ls → Gives result (run [] [] ls) }
 {
     let chars = chars_of(alloc, text)?;
     read_text(alloc, body(start(chars.as_slice())))
@@ -79,7 +80,8 @@ fn not_utf8(alloc: Global, bytes: &[u8], len: usize) -> ReadFault
     requires small { length bytes.now ≤ 1_048_576 }
     requires within { len ≤ length bytes.now }
     requires front { IsUtf8 (take len bytes.now) }
-    ensures { IsRefusal (refusal ReadKind.NotUtf8 (after_all start (chars (take len bytes.now)))) result }
+    ensures { IsRefusal
+        (refusal ReadKind.NotUtf8 (after_all start (chars (take len bytes.now)))) result }
 {
     let Ok(text) = std::str::from_utf8(&bytes[..len]) else {
         unreachable!();

@@ -1,16 +1,17 @@
 // Data of lexemes, with a stack of what is open.
 ghost use Rattle.std.specs.Prelude.{◌≡◌, [], ◌∷◌, List, IfOk, OnOk, OnErr};
 ghost use Rattle.rdx_base.specs.declared.place.Span.{Span};
-ghost use Rattle.rdx_sexp.specs.Grammar.{joined, mark_name, quoted};
-ghost use Rattle.rdx_sexp.specs.Lexeme.{Lexeme};
-ghost use Rattle.rdx_sexp.specs.Machine.{frame, finish, opened, closed, run};
+ghost use Rattle.rdx_sexp.specs.Grammar.{joined, quote_name, quoted};
+ghost use Rattle.rdx_sexp.specs.Lexeme as lexemes;
+ghost use Rattle.rdx_sexp.specs.Inside.Machine.{frame, finish, opened, closed, run};
 ghost use Rattle.rdx_sexp.specs.Sexp.{leaf};
-ghost use Rattle.rdx_sexp.specs.Stack.{atom_of, lexeme_of, frames, Steps};
+ghost use Rattle.rdx_sexp.specs.Inside.Stack.{frames, Steps};
+ghost use Rattle.rdx_sexp.specs.Inside.Lexemes.{atom_of, lexeme_of, quote_mark_of, bracket_of, opener_of};
 ghost use Rattle.rdx_sexp.specs.View.{sexp_of};
 
 use crate::fault::refused;
+use crate::lexeme::{Atom, Bracket, Lexeme, QuoteMark};
 use crate::opener::Opener;
-use crate::token::{Bracket, Leaf, Mark, Token};
 use crate::{Datum, Form, ReadFault, ReadKind};
 use rdx_base::Span;
 use std::alloc::Global;
@@ -34,24 +35,24 @@ fn joined(first: Span, last: Span) -> Span
     }
 }
 
-fn mark_name(mark: Mark) -> &'static str
-    ensures { result.now ≡ mark_name mark }
+fn quote_name(mark: QuoteMark) -> &'static str
+    ensures { result.now ≡ quote_name (quote_mark_of mark) }
 {
     match mark {
-        Mark::Quote => "quote",
-        Mark::Quasiquote => "quasiquote",
-        Mark::Unquote => "unquote",
-        Mark::UnquoteSplicing => "unquote-splicing",
+        QuoteMark::Quote => "quote",
+        QuoteMark::Quasiquote => "quasiquote",
+        QuoteMark::Unquote => "unquote",
+        QuoteMark::UnquoteSplicing => "unquote-splicing",
     }
 }
 
 // The list that a quote mark and a datum stand for.
-fn quoted(alloc: Global, mark: Mark, span: Span, datum: Datum) -> Result<Datum, ReadFault>
-    ensures ok { IfOk result (λ d. d ≡ quoted mark span datum) }
+fn quoted(alloc: Global, mark: QuoteMark, span: Span, datum: Datum) -> Result<Datum, ReadFault>
+    ensures ok { IfOk result (λ d. d ≡ quoted (quote_mark_of mark) span datum) }
     ensures err { OnErr result (result ≡ Err ReadFault.NoMemory) }
 {
     let whole = joined(span, datum.span);
-    let name = RcStr::from_str(alloc, mark_name(mark))?;
+    let name = RcStr::from_str(alloc, quote_name(mark))?;
     let mut items = Vec::new(alloc);
     items.push(Datum {
         form: Form::Sym(name),
@@ -71,7 +72,9 @@ fn finish(
     stack: &mut Vec<Level>,
     items: &mut Vec<Datum>,
 ) -> Result<(), ReadFault>
-    ensures ok { OnOk result (finish datum (frames stack.old.items) items.old.items ≡ (frames stack.new.items, items.new.items)) }
+    ensures ok { OnOk result
+        (finish datum (frames stack.old.items) items.old.items
+        ≡ (frames stack.new.items, items.new.items)) }
     ensures err { OnErr result (result ≡ Err ReadFault.NoMemory) }
 {
     let mut datum = datum;
@@ -106,8 +109,9 @@ fn open(
     stack: &mut Vec<Level>,
     items: &mut Vec<Datum>,
 ) -> Result<(), ReadFault>
-    ensures { (ls : List Lexeme) → Steps result
-        (opened (frames stack.old.items) span (run (frame opener items.old.items ∷ frames stack.old.items) [] ls))
+    ensures { (ls : List lexemes.Lexeme) → Steps result
+        (opened (frames stack.old.items) span
+        (run (frame (opener_of opener) items.old.items ∷ frames stack.old.items) [] ls))
         (run (frames stack.new.items) items.new.items ls) }
 {
     if stack.len() >= MAX_OPEN {
@@ -126,8 +130,9 @@ fn close(
     stack: &mut Vec<Level>,
     items: &mut Vec<Datum>,
 ) -> Result<(), ReadFault>
-    ensures { (ls : List Lexeme) → Steps result
-        (closed bracket span (frames stack.old.items) items.old.items (λ st. run st.0 st.1 ls))
+    ensures { (ls : List lexemes.Lexeme) → Steps result
+        (closed (bracket_of bracket) span (frames stack.old.items) items.old.items
+        (λ st. run st.0 st.1 ls))
         (run (frames stack.new.items) items.new.items ls) }
 {
     let Some(Level { opener, before }) = stack.pop() else {
@@ -148,35 +153,35 @@ fn close(
 }
 
 // The form of a datum without parts.
-fn form_of(word: Leaf) -> Form
+fn form_of(word: Atom) -> Form
     ensures { (s : Span) → sexp_of result s ≡ leaf (atom_of word) s }
 {
     match word {
-        Leaf::Int(n) => Form::Int(n),
-        Leaf::Bool(b) => Form::Bool(b),
-        Leaf::Str(text) => Form::Str(text),
-        Leaf::Sym(text) => Form::Sym(text),
-        Leaf::Key(text) => Form::Key(text),
+        Atom::Int(n) => Form::Int(n),
+        Atom::Bool(b) => Form::Bool(b),
+        Atom::Str(text) => Form::Str(text),
+        Atom::Sym(text) => Form::Sym(text),
+        Atom::Key(text) => Form::Key(text),
     }
 }
 
 // One more lexeme.
 pub(crate) fn take(
     alloc: Global,
-    token: Token,
+    lexeme: Lexeme,
     stack: &mut Vec<Level>,
     items: &mut Vec<Datum>,
 ) -> Result<(), ReadFault>
-    ensures { (ls : List Lexeme) → Steps result
-        (run (frames stack.old.items) items.old.items (lexeme_of token ∷ ls))
+    ensures { (ls : List lexemes.Lexeme) → Steps result
+        (run (frames stack.old.items) items.old.items (lexeme_of lexeme ∷ ls))
         (run (frames stack.new.items) items.new.items ls) }
 {
-    match token {
-        Token::Open(bracket, span) => open(alloc, Opener::Nest(bracket, span), span, stack, items),
-        Token::Close(bracket, span) => close(alloc, bracket, span, stack, items),
-        Token::Marked(mark, span) => open(alloc, Opener::Quoting(mark, span), span, stack, items),
-        Token::Skip(span) => open(alloc, Opener::Skipping(span), span, stack, items),
-        Token::Word(word, span) => {
+    match lexeme {
+        Lexeme::Open(bracket, span) => open(alloc, Opener::Nest(bracket, span), span, stack, items),
+        Lexeme::Close(bracket, span) => close(alloc, bracket, span, stack, items),
+        Lexeme::Marked(mark, span) => open(alloc, Opener::Quoting(mark, span), span, stack, items),
+        Lexeme::Skip(span) => open(alloc, Opener::Skipping(span), span, stack, items),
+        Lexeme::Word(word, span) => {
             let form = form_of(word);
             finish(alloc, Datum { form, span }, stack, items)
         }

@@ -1,6 +1,6 @@
 // Strings.
 ghost use Rattle.std.specs.Prelude.{◌≡◌, None};
-ghost use Rattle.rdx_sexp.specs.Cursor.{GivesBody};
+ghost use Rattle.rdx_sexp.specs.Inside.Cursor.{GivesBody};
 ghost use Rattle.rdx_sexp.specs.Strings.{escape_of, string_body};
 
 use crate::cursor::Cursor;
@@ -29,7 +29,7 @@ pub(crate) fn string_body<'a>(
     place: Place,
     cursor: Cursor<'a>,
 ) -> Result<(String, Cursor<'a>), ReadFault>
-    ensures { GivesBody result (string_body place None cursor.entry.place cursor.entry.rest.now) }
+    ensures { GivesBody result (string_body place cursor.entry.place cursor.entry.rest.now) }
 {
     let mut text = String::new(alloc);
     let mut at = cursor;

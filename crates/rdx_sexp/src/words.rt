@@ -1,15 +1,15 @@
 // Tokens: how far they reach, and what they are.
-ghost use Rattle.std.specs.Prelude.{◌≡◌, ◌++◌, true, string_bytes, IfOk, OnOk, OnErr, MatchOption, Some, None};
+ghost use Rattle.std.specs.Prelude.{◌≡◌, ◌++◌, IsTrue, string_bytes, IfOk, OnOk, OnErr, MatchOption, Some, None};
 ghost use Rattle.std.specs.Char.{is_ascii_digit};
 ghost use Rattle.std.specs.List.{list_all};
 ghost use Rattle.std.specs.Str.{encode_utf8_all};
 ghost use Rattle.std.specs.Str.Parse.{signed_digits_value, without_leading_sign};
-ghost use Rattle.rdx_sexp.specs.Cursor.{text_of, GivesWord};
+ghost use Rattle.rdx_sexp.specs.Inside.Cursor.{text_from, GivesWord};
 ghost use Rattle.rdx_sexp.specs.Token.{token_chars, past_token, is_integer, integer_lexeme, keyword_name, hash_lexeme, token_lexeme};
 
 use crate::cursor::Cursor;
 use crate::fault::refused;
-use crate::token::Leaf;
+use crate::lexeme::Atom;
 use crate::{ReadFault, ReadKind};
 use rdx_base::Span;
 use rdx_term::spelling::{
@@ -20,8 +20,11 @@ use std::rc::RcStr;
 
 // The rest of a token, at the end of `text`, and what follows.
 pub(crate) fn take_token<'a>(text: &mut String, cursor: Cursor<'a>) -> Result<Cursor<'a>, ReadFault>
-    ensures chars { OnOk result (string_bytes text.new ≡ string_bytes text.old ++ encode_utf8_all (token_chars cursor.entry.rest.now)) }
-    ensures after { IfOk result (λ r. text_of r ≡ past_token cursor.entry.place cursor.entry.rest.now) }
+    ensures chars { OnOk result
+        (string_bytes text.new
+        ≡ string_bytes text.old ++ encode_utf8_all (token_chars cursor.entry.rest.now)) }
+    ensures after { IfOk result
+        (λ r. text_from r ≡ past_token cursor.entry.place cursor.entry.rest.now) }
     ensures err { OnErr result (result ≡ Err ReadFault.NoMemory) }
 {
     let mut at = cursor;
@@ -59,19 +62,21 @@ fn is_integer(bytes: &[u8]) -> bool
 
 #[tactic(auto, using(crate::proofs::Numbers::out_of_range))]
 // The integer that a sign and digits write.
-fn integer(text: &str, span: Span) -> Result<Leaf, ReadFault>
-    requires { is_integer text.now ≡ true }
+fn integer(text: &str, span: Span) -> Result<Atom, ReadFault>
+    requires { IsTrue (is_integer text.now) }
     ensures { GivesWord result span (integer_lexeme (signed_digits_value 10 text.now) span) }
 {
     match text.parse::<i128>() {
-        Ok(n) => Ok(Leaf::Int(n)),
+        Ok(n) => Ok(Atom::Int(n)),
         Err(_) => Err(refused(ReadKind::NumberRange, span.start)),
     }
 }
 
 // What stands behind `#:`, if anything does.
 fn keyword_name(text: &str) -> Option<&str>
-    ensures { MatchOption result (keyword_name text.now ≡ None) (λ name. keyword_name text.now ≡ Some name.now) }
+    ensures { MatchOption result
+        (keyword_name text.now ≡ None)
+        (λ name. keyword_name text.now ≡ Some name.now) }
 {
     let bytes = text.as_bytes();
     if bytes.len() > 2 && bytes[0] == b'#' && bytes[1] == b':' {
@@ -82,23 +87,23 @@ fn keyword_name(text: &str) -> Option<&str>
 }
 
 // What a token that begins with `#` is.
-fn hashed(alloc: Global, text: &str, span: Span) -> Result<Leaf, ReadFault>
+fn hashed(alloc: Global, text: &str, span: Span) -> Result<Atom, ReadFault>
     ensures { GivesWord result span (hash_lexeme text.now span) }
 {
     if text == "#t" || text == "#true" {
-        return Ok(Leaf::Bool(true));
+        return Ok(Atom::Bool(true));
     }
     if text == "#f" || text == "#false" {
-        return Ok(Leaf::Bool(false));
+        return Ok(Atom::Bool(false));
     }
     match keyword_name(text) {
-        Some(name) => Ok(Leaf::Key(RcStr::from_str(alloc, name)?)),
+        Some(name) => Ok(Atom::Key(RcStr::from_str(alloc, name)?)),
         None => Err(refused(ReadKind::BadToken, span.start)),
     }
 }
 
 // What a token is.
-pub(crate) fn leaf_of(alloc: Global, text: String, span: Span) -> Result<Leaf, ReadFault>
+pub(crate) fn atom_of(alloc: Global, text: String, span: Span) -> Result<Atom, ReadFault>
     ensures { GivesWord result span (token_lexeme (string_bytes text) span) }
 {
     let word = text.as_str();
@@ -114,5 +119,5 @@ pub(crate) fn leaf_of(alloc: Global, text: String, span: Span) -> Result<Leaf, R
     if begins_number(word.as_bytes()) || is_reserved(word) {
         return Err(refused(ReadKind::NumberForm, span.start));
     }
-    Ok(Leaf::Sym(RcStr::from_string(text)?))
+    Ok(Atom::Sym(RcStr::from_string(text)?))
 }

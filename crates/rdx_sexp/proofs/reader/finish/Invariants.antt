@@ -1,6 +1,6 @@
 use Rattle.std.proofs.Common.{◌≡◌, length}
-use Rattle.rdx_sexp.specs.Machine.{finish}
-use Rattle.rdx_sexp.specs.Stack.{frames}
+use Rattle.rdx_sexp.specs.Inside.Machine.{finish}
+use Rattle.rdx_sexp.specs.Inside.Stack.{frames}
 use Rattle.rdx_sexp.proofs.reader.finish.Given as goal
 
 abbrev pub invariant-loop-level : goal.invariant-loop-level

@@ -1,4 +1,4 @@
--- Data are told apart by their code: the marks of their spelling, from which the datum is built again from the last mark to the first.
+-- Data are told apart by their code: the pieces of their spelling, from which the datum is built again from the last piece to the first.
 use Rattle.std.specs.Prelude.{◌≡◌, ℕ, zero, suc, ℤ, pos, Bool, false, List, [], ◌∷◌, Option, Some, None, refl}
 use Rattle.std.proofs.Common.{◌∙◌, ap}
 use Rattle.std.specs.Coded.{Coded, code_by, coded×, coded_ℕ, coded_ℤ, coded_bool, coded_list, coded_option}
@@ -53,15 +53,15 @@ coded_span = code_by (Place × Place) (coded× coded_place coded_place) (λ s. (
 -- ---- data
 
 -- an atom with its span, the beginning of a list with the list's span, or, where there is none, the end of a list
-abbrev Mark : Type 0
-Mark = Option (Option Atom × Span)
+abbrev Piece : Type 0
+Piece = Option (Option Atom × Span)
 
 abbrev mutual
-  spell : Sexp → List Mark → List Mark
+  spell : Sexp → List Piece → List Piece
   spell (leaf a s) rest = Some (Some a, s) ∷ rest
   spell (list ds s) rest = Some (None, s) ∷ spell_all ds (None ∷ rest)
 
-  spell_all : Sexps → List Mark → List Mark
+  spell_all : Sexps → List Piece → List Piece
   spell_all nil rest = rest
   spell_all (cons d ds) rest = spell d (spell_all ds rest)
 
@@ -73,7 +73,7 @@ abbrev begin : Span → List Sexps → List Sexps
 begin s [] = []
 begin s (o ∷ outer) = put (list o s) outer
 
-abbrev step : Mark → List Sexps → List Sexps
+abbrev step : Piece → List Sexps → List Sexps
 step None open_lists = nil ∷ open_lists
 step (Some x) open_lists = spelled x.0 x.1
   where
@@ -81,16 +81,16 @@ step (Some x) open_lists = spelled x.0 x.1
     spelled None s = begin s open_lists
     spelled (Some a) s = put (leaf a s) open_lists
 
-abbrev build : List Mark → List Sexps
+abbrev build : List Piece → List Sexps
 build [] = nil ∷ []
 build (m ∷ ms) = step m (build ms)
 
 mutual
-  build-spell : (d : Sexp) (rest : List Mark) → build (spell d rest) ≡ put d (build rest)
+  build-spell : (d : Sexp) (rest : List Piece) → build (spell d rest) ≡ put d (build rest)
   build-spell (leaf a s) rest = refl
   build-spell (list ds s) rest = ap (begin s) (build-spell_all ds rest)
 
-  build-spell_all : (ds : Sexps) (rest : List Mark) → build (spell_all ds (None ∷ rest)) ≡ ds ∷ build rest
+  build-spell_all : (ds : Sexps) (rest : List Piece) → build (spell_all ds (None ∷ rest)) ≡ ds ∷ build rest
   build-spell_all nil rest = refl
   build-spell_all (cons d ds) rest = build-spell d (spell_all ds (None ∷ rest)) ∙ ap (put d) (build-spell_all ds rest)
 
@@ -102,14 +102,14 @@ abbrev innermost : List Sexps → Sexps
 innermost [] = nil
 innermost (o ∷ outer) = o
 
-abbrev to_marks : Sexp → List Mark
-to_marks d = spell d []
+abbrev to_pieces : Sexp → List Piece
+to_pieces d = spell d []
 
-abbrev from_marks : List Mark → Sexp
-from_marks ms = first (innermost (build ms))
+abbrev from_pieces : List Piece → Sexp
+from_pieces ms = first (innermost (build ms))
 
-pub from-to_marks : (d : Sexp) → from_marks (to_marks d) ≡ d
-from-to_marks d = ap (λ (o : List Sexps). first (innermost o)) (build-spell d [])
+pub from-to_pieces : (d : Sexp) → from_pieces (to_pieces d) ≡ d
+from-to_pieces d = ap (λ (o : List Sexps). first (innermost o)) (build-spell d [])
 
 abbrev pub coded_sexp : Coded Sexp
-coded_sexp = code_by (List Mark) (coded_list (coded_option (coded× (coded_option coded_atom) coded_span))) to_marks from_marks from-to_marks
+coded_sexp = code_by (List Piece) (coded_list (coded_option (coded× (coded_option coded_atom) coded_span))) to_pieces from_pieces from-to_pieces

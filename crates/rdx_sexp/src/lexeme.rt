@@ -12,7 +12,7 @@ pub(crate) enum Bracket {
 
 // The quote marks.
 #[derive(Clone, Copy, Debug, PartialEq, Eq)]
-pub(crate) enum Mark {
+pub(crate) enum QuoteMark {
     Quote,
     Quasiquote,
     Unquote,
@@ -21,7 +21,7 @@ pub(crate) enum Mark {
 
 // A datum without parts.
 #[derive(Drop)]
-pub(crate) enum Leaf {
+pub(crate) enum Atom {
     Int(i128),
     Bool(bool),
     Str(RcStr),
@@ -31,10 +31,10 @@ pub(crate) enum Leaf {
 
 // A bracket, a quote mark, the mark `#;` of a comment on one datum, or a datum without parts.
 #[derive(Drop)]
-pub(crate) enum Token {
+pub(crate) enum Lexeme {
     Open(Bracket, Span),
     Close(Bracket, Span),
-    Marked(Mark, Span),
+    Marked(QuoteMark, Span),
     Skip(Span),
-    Word(Leaf, Span),
+    Word(Atom, Span),
 }

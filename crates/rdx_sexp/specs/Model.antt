@@ -1,0 +1,3 @@
+-- The machinery of the model of `Datum`.
+pub mod SexpCode
+pub mod Falls
