@@ -1,3 +1,5 @@
 pub mod Pieces
 pub mod OneWord
 pub mod OneText
+pub mod SomeText
+pub mod WorkedExamples

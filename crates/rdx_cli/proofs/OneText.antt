@@ -1,55 +1,64 @@
 -- A file has one transcript.
-use Rattle.std.proofs.Common.{◌≡◌, ℕ, List, [], refl, ap, sym, ◌∙◌, subst, arith}
+use Rattle.std.proofs.Common.{◌≡◌, ℕ, List, ap, sym, ◌∙◌, subst, arith}
 use Rattle.rdx_grammar.specs.Refusal.{Refusal}
 use Rattle.rdx_query.specs.Answering.{Writes}
 use Rattle.rdx_query.specs.File.{Refuses}
-use Rattle.rdx_query.specs.Laws.{OneText, OneRefusal, TextOrRefusal}
+use Rattle.rdx_query.specs.Known.{nothing}
+use Rattle.rdx_query.specs.Laws.{OneText, OneRefusal, NeverBothTextAndRefusal}
 use Rattle.rdx_sexp.specs.Laws.{OneReading, OneFault, DataOrFault}
-use Rattle.rdx_sexp.specs.Reads.{FirstFault}
 use Rattle.rdx_sexp.specs.Sexp.{Sexp}
-use Rattle.rdx_sexp.specs.declared.fault.ReadRefusal.{ReadRefusal}
 use Rattle.rdx_cli.specs.Refusals.{read_line, form_line}
-use Rattle.rdx_cli.specs.Transcript.{IsRefused, IsAnswered, IsTranscript, too_long, unread, refused, answered}
+use Rattle.rdx_cli.specs.Transcript.{AreData, IsUnread, too_long, at_fault, RunWrites, unread, refused, answered, verdict_of, IsTranscript}
 use Rattle.rdx_cli.specs.declared.transcript.Verdict.{Verdict}
+use Rattle.rdx_cli.specs.declared.words.Mode.{Mode}
+use Rattle.rdx_cli.specs.declared.words.Mode.TheVariants.{Run}
 
-module _ (one_reading : OneReading) (one_fault : OneFault) (data_or_fault : DataOrFault) (one_text : OneText) (one_refusal : OneRefusal) (text_or_refusal : TextOrRefusal) where
-  one_answered : (bytes t u : List ℕ) → IsAnswered bytes t → IsAnswered bytes u → t ≡ u
-  one_answered bytes t u a b =
-      let k : a.sexps ≡ b.sexps = one_reading bytes a.sexps b.sexps a.read b.read in
-      one_text b.sexps t u (subst (λ (ds : List Sexp). Writes ds t) k a.written) b.written
+module _ (one_reading : OneReading) (one_fault : OneFault) (data_or_fault : DataOrFault) (one_text : OneText) (one_refusal : OneRefusal) (never_both : NeverBothTextAndRefusal) where
+  -- ---- files
 
-  -- a text that is no data has one line
-  one_unread : (bytes t u : List ℕ) (r q : ReadRefusal) → FirstFault bytes r → FirstFault bytes q → t ≡ read_line r → u ≡ read_line q → t ≡ u
-  one_unread bytes t u r q f g e h = e ∙ ap read_line (one_fault bytes r q f g) ∙ sym h
+  -- a file is one list of data
+  same_data : (bytes : List ℕ) (ds es : List Sexp) → AreData bytes ds → AreData bytes es → ds ≡ es
+  same_data bytes ds es a b = one_reading bytes ds es a.read b.read
+
+  -- one that is no data has one line
+  one_line : (bytes t u : List ℕ) → IsUnread bytes t → IsUnread bytes u → t ≡ u
+  one_line bytes t u (too_long h e) (too_long k g) = e ∙ sym g
+  one_line bytes t u (too_long h e) (at_fault k r f g) = absurd (omega (arith, h, k))
+  one_line bytes t u (at_fault h r f e) (too_long k g) = absurd (omega (arith, h, k))
+  one_line bytes t u (at_fault h r f e) (at_fault k q n g) = e ∙ ap read_line (one_fault bytes r q f n) ∙ sym g
+
+  -- and is none
+  not_data : (bytes t : List ℕ) (ds : List Sexp) → IsUnread bytes t → AreData bytes ds → ⊥
+  not_data bytes t ds (too_long h e) a = let k = a.limit in omega (arith, h, k)
+  not_data bytes t ds (at_fault h r f e) a = data_or_fault bytes ds r a.read f
+
+  -- ---- what `run` writes
 
   -- data with a form that is refused have one line
-  one_refused : (bytes t u : List ℕ) (r q : Refusal) → IsRefused bytes r → IsRefused bytes q → t ≡ form_line r → u ≡ form_line q → t ≡ u
-  one_refused bytes t u r q a b e h =
-      let k : a.sexps ≡ b.sexps = one_reading bytes a.sexps b.sexps a.read b.read in
-      e ∙ ap form_line (one_refusal b.sexps r q (subst (λ (ds : List Sexp). Refuses [] ds r) k a.refused) b.refused) ∙ sym h
+  one_form_line : (ds : List Sexp) (t u : List ℕ) (r q : Refusal) → Refuses nothing ds r → Refuses nothing ds q → t ≡ form_line r → u ≡ form_line q → t ≡ u
+  one_form_line ds t u r q a b e g = e ∙ ap form_line (one_refusal ds r q a b) ∙ sym g
 
-  -- no data with a form that is refused are answered
-  not_both : {X : Type 0} (bytes t : List ℕ) (r : Refusal) → IsRefused bytes r → IsAnswered bytes t → X
-  not_both bytes t r a b =
-      let k : a.sexps ≡ b.sexps = one_reading bytes a.sexps b.sexps a.read b.read in
-      absurd (text_or_refusal b.sexps t r b.written (subst (λ (ds : List Sexp). Refuses [] ds r) k a.refused))
+  run_writes_once : (bytes t u : List ℕ) (v w : Verdict) → RunWrites bytes t v → RunWrites bytes u w → (t ≡ u) × (v ≡ w)
+  run_writes_once bytes t u v w (unread a e) (unread b g) = (one_line bytes t u a b, e ∙ sym g)
+  run_writes_once bytes t u v w (unread a e) (refused ds r b n m g) = absurd (not_data bytes t ds a b)
+  run_writes_once bytes t u v w (unread a e) (answered ds m b n g) = absurd (not_data bytes t ds a b)
+  run_writes_once bytes t u v w (refused ds r a n m e) (unread b g) = absurd (not_data bytes u ds b a)
+  run_writes_once bytes t u v w (refused ds r a n m e) (refused es q b k l g) =
+      let d : es ≡ ds = same_data bytes es ds b a in
+      (one_form_line ds t u r q n (subst (λ (xs : List Sexp). Refuses nothing xs q) d k) m l, e ∙ sym g)
+  run_writes_once bytes t u v w (refused ds r a n m e) (answered es p b k g) =
+      let d : es ≡ ds = same_data bytes es ds b a in
+      absurd (never_both ds u p r (subst (λ (xs : List Sexp). Writes xs u p) d k) n)
+  run_writes_once bytes t u v w (answered ds m a n e) (unread b g) = absurd (not_data bytes u ds b a)
+  run_writes_once bytes t u v w (answered ds m a n e) (refused es q b k l g) =
+      let d : es ≡ ds = same_data bytes es ds b a in
+      absurd (never_both ds t m q n (subst (λ (xs : List Sexp). Refuses nothing xs q) d k))
+  run_writes_once bytes t u v w (answered ds m a n e) (answered es p b k g) =
+      let d : es ≡ ds = same_data bytes es ds b a in
+      let same = one_text ds t u m p n (subst (λ (xs : List Sexp). Writes xs u p) d k) in
+      (same.0, e ∙ ap verdict_of same.1 ∙ sym g)
 
-  -- ---- transcripts
+  -- ---- row by row of the table of words
 
-  pub one_transcript : (bytes t u : List ℕ) (v w : Verdict) → IsTranscript bytes t v → IsTranscript bytes u w → (t ≡ u) × (v ≡ w)
-  one_transcript bytes t u v w (too_long h e f) (too_long k g i) = (e ∙ sym g, f ∙ sym i)
-  one_transcript bytes t u v w (too_long h e f) (unread k q m g i) = absurd (omega (arith, h, k))
-  one_transcript bytes t u v w (too_long h e f) (refused k q m g i) = absurd (omega (arith, h, k))
-  one_transcript bytes t u v w (too_long h e f) (answered k a i) = absurd (omega (arith, h, k))
-  one_transcript bytes t u v w (unread h r n e f) (too_long k g i) = absurd (omega (arith, h, k))
-  one_transcript bytes t u v w (unread h r n e f) (unread k q m g i) = (one_unread bytes t u r q n m e g, f ∙ sym i)
-  one_transcript bytes t u v w (unread h r n e f) (refused k q m g i) = absurd (data_or_fault bytes m.sexps r m.read n)
-  one_transcript bytes t u v w (unread h r n e f) (answered k a i) = absurd (data_or_fault bytes a.sexps r a.read n)
-  one_transcript bytes t u v w (refused h p n e f) (too_long k g i) = absurd (omega (arith, h, k))
-  one_transcript bytes t u v w (refused h p n e f) (unread k q m g i) = absurd (data_or_fault bytes n.sexps q n.read m)
-  one_transcript bytes t u v w (refused h p n e f) (refused k q m g i) = (one_refused bytes t u p q n m e g, f ∙ sym i)
-  one_transcript bytes t u v w (refused h p n e f) (answered k a i) = not_both bytes u p n a
-  one_transcript bytes t u v w (answered h a f) (too_long k g i) = absurd (omega (arith, h, k))
-  one_transcript bytes t u v w (answered h a f) (unread k q m g i) = absurd (data_or_fault bytes a.sexps q a.read m)
-  one_transcript bytes t u v w (answered h a f) (refused k q m g i) = not_both bytes t q m a
-  one_transcript bytes t u v w (answered h a f) (answered k b i) = (one_answered bytes t u a b, f ∙ sym i)
+  pub one_transcript : (mode : Mode) (bytes t u : List ℕ) (v w : Verdict) → IsTranscript mode bytes t v → IsTranscript mode bytes u w → (t ≡ u) × (v ≡ w)
+  one_transcript Run bytes t u v w a b = run_writes_once bytes t u v w a b

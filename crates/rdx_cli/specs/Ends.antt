@@ -11,6 +11,8 @@ use Rattle.rdx_cli.specs.declared.transcript.Verdict.TheVariants as verdict
 use Rattle.rdx_cli.specs.declared.top.Status.{Status}
 use Rattle.rdx_cli.specs.declared.top.Status.TheVariants.{Done, Unmet, Refused, Usage, ReadFault, WriteFault, NoMemory}
 
+-- ---- statuses
+
 -- the number of a status
 abbrev pub code_of : Status → ℕ
 code_of Done = 0
@@ -24,6 +26,7 @@ code_of NoMemory = 6
 -- the status of a verdict
 abbrev pub status_of : Verdict → Status
 status_of verdict.Done = Done
+status_of verdict.Unmet = Unmet
 status_of verdict.Refused = Refused
 
 -- the run came to its end: a whole transcript was written
@@ -36,13 +39,25 @@ IsFinished ReadFault = ⊥
 IsFinished WriteFault = ⊥
 IsFinished NoMemory = ⊥
 
--- the words have a row, a file was read, and this is its transcript
+-- the run ended before its first put
+abbrev pub IsSilent : Status → Type 0
+IsSilent Done = ⊥
+IsSilent Unmet = ⊥
+IsSilent Refused = ⊥
+IsSilent Usage = Unit {0}
+IsSilent ReadFault = Unit {0}
+IsSilent WriteFault = ⊥
+IsSilent NoMemory = Unit {0}
+
+-- ---- what was written
+
+-- the words have a row, a file was read, and this is what that row writes for it, with the verdict
 pub record Transcribes (words : List (List ℕ)) (left rest : Option (List ℕ)) (text : List ℕ) (verdict : Verdict) : Type 0 where
   pub mode : Mode
   pub bytes : List ℕ
   pub row : ReadsAs words mode
   pub read : IsRead left rest bytes
-  pub transcript : IsTranscript bytes text verdict
+  pub transcript : IsTranscript mode bytes text verdict
 
 -- the whole transcript of the file was written, and the status is that of its verdict
 pub record WroteWhole (words : List (List ℕ)) (left rest before after : Option (List ℕ)) (status : Status) : Type 0 where

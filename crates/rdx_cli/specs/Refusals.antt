@@ -5,8 +5,8 @@ use Rattle.rdx_sexp.specs.declared.fault.ReadKind.{ReadKind}
 use Rattle.rdx_sexp.specs.declared.fault.ReadKind.TheVariants.{NotUtf8, Unclosed, WrongClose, BadToken, NumberForm, NumberRange, BadString, TooDeep}
 use Rattle.rdx_sexp.specs.declared.fault.ReadRefusal.{ReadRefusal}
 use Rattle.rdx_grammar.specs.Refusal.{Refusal}
-use Rattle.rdx_grammar.specs.declared.fault.DefKind.{DefKind}
-use Rattle.rdx_grammar.specs.declared.fault.DefKind.TheVariants.{Unbuilt, Shape, UnknownLanguage, Duplicate, BadName, BadPattern, LeftRecursive}
+use Rattle.rdx_grammar.specs.declared.shape.fault.DefKind.{DefKind}
+use Rattle.rdx_grammar.specs.declared.shape.fault.DefKind.TheVariants.{Unbuilt, Shape, UnknownLanguage, Duplicate, BadName, BadPattern, LeftRecursive}
 
 -- the name of what a text is refused for
 abbrev pub read_name : ReadKind → List ℕ
@@ -29,6 +29,10 @@ form_name BadName = codes "S4 BadName"
 form_name BadPattern = codes "S5 BadPattern"
 form_name LeftRecursive = codes "S7 LeftRecursive"
 
+-- the front of the line: why the file is refused, and where
+abbrev pub place_text : List ℕ → Place → List ℕ
+place_text kind p = codes "refused " ++ kind ++ codes " at " ++ decimal p.line ++ codes ":" ++ decimal p.column
+
 -- a name at the end of the line, where there is one
 abbrev pub name_text : Option (List ℕ) → List ℕ
 name_text None = []
@@ -36,7 +40,7 @@ name_text (Some x) = codes " " ++ x
 
 -- the line of a refusal of this kind at this place, with this name
 abbrev pub refusal_line : List ℕ → Place → Option (List ℕ) → List ℕ
-refusal_line kind p name = codes "refused " ++ kind ++ codes " at " ++ decimal p.line ++ codes ":" ++ decimal p.column ++ name_text name ++ codes "\n"
+refusal_line kind p name = place_text kind p ++ name_text name ++ codes "\n"
 
 -- the line of a text that can't be read
 abbrev pub read_line : ReadRefusal → List ℕ

@@ -1,40 +1,40 @@
--- The transcript of a file, and its verdict.
-use Rattle.std.specs.Prelude.{◌≡◌, ℕ, ◌<◌, ◌≤◌, List, [], length, codes}
+-- What is written for a file, and the verdict on it.
+use Rattle.std.specs.Prelude.{◌≡◌, ℕ, ◌<◌, ◌≤◌, Bool, true, false, List, length, codes}
 use Rattle.rdx_sexp.specs.Reads.{Reads, FirstFault}
 use Rattle.rdx_sexp.specs.Sexp.{Sexp}
 use Rattle.rdx_sexp.specs.declared.fault.ReadRefusal.{ReadRefusal}
-use Rattle.rdx_grammar.specs.Answers.{refusal_of}
 use Rattle.rdx_grammar.specs.Refusal.{Refusal}
-use Rattle.rdx_query.specs.Answering as forms
+use Rattle.rdx_query.specs.Answering.{Writes}
 use Rattle.rdx_query.specs.File.{Refuses}
+use Rattle.rdx_query.specs.Known.{nothing}
 use Rattle.rdx_cli.specs.Refusals.{read_line, form_line}
-use Rattle.rdx_cli.specs.declared.file.Answer.{Answer}
-use Rattle.rdx_cli.specs.declared.file.Answer.TheVariants.{Answered, Unread, Refused as RefusedForm}
 use Rattle.rdx_cli.specs.declared.transcript.Verdict.{Verdict}
-use Rattle.rdx_cli.specs.declared.transcript.Verdict.TheVariants.{Done, Refused}
+use Rattle.rdx_cli.specs.declared.transcript.Verdict.TheVariants.{Done, Unmet, Refused}
+use Rattle.rdx_cli.specs.declared.words.Mode.{Mode}
+use Rattle.rdx_cli.specs.declared.words.Mode.TheVariants.{Run}
 
--- the bytes are data, and r is the refusal of their first form that is refused
-pub record IsRefused (bytes : List ℕ) (r : Refusal) : Type 0 where
-  pub sexps : List Sexp
-  pub read : Reads bytes sexps
-  pub refused : Refuses [] sexps r
+-- the file is not too long, and its bytes are these data
+pub record AreData (bytes : List ℕ) (ds : List Sexp) : Type 0 where
+  pub limit : length bytes ≤ 1_048_576
+  pub read : Reads bytes ds
 
--- the bytes are data that are accepted, and this is the text that they write
-pub record IsAnswered (bytes text : List ℕ) : Type 0 where
-  pub sexps : List Sexp
-  pub read : Reads bytes sexps
-  pub written : forms.Writes sexps text
+-- The line of a file that is no data. A file of more than 1,048,576 bytes is refused by its length alone, and any other at its first fault.
+pub data IsUnread (bytes line : List ℕ) : Type 0 where
+  too_long : 1_048_576 < length bytes → line ≡ codes "refused F9 TooLong\n" → IsUnread bytes line
+  at_fault : length bytes ≤ 1_048_576 → (r : ReadRefusal) → FirstFault bytes r → line ≡ read_line r → IsUnread bytes line
 
--- A file of more than 1,048,576 bytes is refused by its length alone. Any other is refused at its first fault where it is no data, and at
--- its first form that is refused where it is data with such a form; what is left is answered.
-pub data IsTranscript (bytes text : List ℕ) (verdict : Verdict) : Type 0 where
-  too_long : 1_048_576 < length bytes → text ≡ codes "refused F9 TooLong\n" → verdict ≡ Refused → IsTranscript bytes text verdict
-  unread : length bytes ≤ 1_048_576 → (r : ReadRefusal) → FirstFault bytes r → text ≡ read_line r → verdict ≡ Refused → IsTranscript bytes text verdict
-  refused : length bytes ≤ 1_048_576 → (r : Refusal) → IsRefused bytes r → text ≡ form_line r → verdict ≡ Refused → IsTranscript bytes text verdict
-  answered : length bytes ≤ 1_048_576 → IsAnswered bytes text → verdict ≡ Done → IsTranscript bytes text verdict
+-- the verdict on a file whose forms are all answered: whether all is met that they state
+abbrev pub verdict_of : Bool → Verdict
+verdict_of true = Done
+verdict_of false = Unmet
 
--- what is answered to a file that is not too long
-abbrev pub Answers : List ℕ → Answer → Type 0
-Answers bytes (Answered text) = IsAnswered bytes text.items
-Answers bytes (Unread r) = FirstFault bytes r
-Answers bytes (RefusedForm r) = IsRefused bytes (refusal_of r)
+-- What the word `run` asks for. A file that is no data has the line that says so. One that is data with a form that is refused has the line
+-- of its first such form. For every other file the answers to its queries are written.
+pub data RunWrites (bytes text : List ℕ) (verdict : Verdict) : Type 0 where
+  unread : IsUnread bytes text → verdict ≡ Refused → RunWrites bytes text verdict
+  refused : (ds : List Sexp) (r : Refusal) → AreData bytes ds → Refuses nothing ds r → text ≡ form_line r → verdict ≡ Refused → RunWrites bytes text verdict
+  answered : (ds : List Sexp) (met : Bool) → AreData bytes ds → Writes ds text met → verdict ≡ verdict_of met → RunWrites bytes text verdict
+
+-- the text that is written for a file and the verdict on it, row by row of the table of words
+abbrev pub IsTranscript : Mode → List ℕ → List ℕ → Verdict → Type 0
+IsTranscript Run bytes text verdict = RunWrites bytes text verdict

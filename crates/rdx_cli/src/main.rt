@@ -1,15 +1,15 @@
 //! A workbench for operational semantics: it reads a file and writes its transcript.
 //!
-//! The program reads its standard input to the end, makes the transcript in memory, and writes it
-//! to its standard output. The words of the command line say what is asked for, and `run` is the
-//! only row of their table. It ends with the number of its [`top::Status`], and prints nothing
-//! else.
+//! The program reads its standard input to the end, or until it is longer than a file may be, makes
+//! the transcript in memory, and writes it to its standard output. The words of the command line say
+//! what is asked for (`specs/Words.antt`). It ends with the number of its [`top::Status`], and prints
+//! nothing else.
 #![tactic(auto)]
 
 ghost use Rattle.std.specs.Prelude.{◌≡◌, ◌⊎◌, ◌↔◌};
 ghost use Rattle.std.specs.IoError.{error_kind};
 
-mod file;
+mod contents;
 pub mod laws;
 mod reading;
 mod refusals;

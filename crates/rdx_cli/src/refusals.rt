@@ -1,7 +1,7 @@
 // The lines that say why a file is refused, and where.
-ghost use Rattle.std.specs.Prelude.{◌≡◌, ◌++◌, IfOk, OnOk, codes, decimal, option_map};
+ghost use Rattle.std.specs.Prelude.{◌≡◌, ◌++◌, IfOk, OnOk, option_map};
 ghost use Rattle.std.specs.Rc.{rc_str_bytes};
-ghost use Rattle.rdx_grammar.specs.Answers.{refusal_of};
+ghost use Rattle.rdx_grammar.specs.Refusal.{refusal_of};
 ghost use Rattle.rdx_cli.specs.Refusals as refusals;
 
 use itoa::Buffer;
@@ -45,7 +45,8 @@ fn form_name(kind: DefKind) -> &'static str
 
 // The front of a line: the kind and the place of a refusal.
 fn write_place(kind: &str, place: Place, line: &mut Vec<u8>) -> Result<(), NoMemory>
-    ensures { OnOk result (line.new.items ≡ line.old.items ++ (codes "refused " ++ kind.now ++ codes " at " ++ decimal place.line ++ codes ":" ++ decimal place.column)) }
+    ensures { OnOk result
+        (line.new.items ≡ line.old.items ++ refusals.place_text kind.now place) }
 {
     let mut buffer = Buffer::new();
     line.extend_from_slice(b"refused ")?;
@@ -59,7 +60,8 @@ fn write_place(kind: &str, place: Place, line: &mut Vec<u8>) -> Result<(), NoMem
 
 // The name at the end of a line, where there is one.
 fn write_name(name: &Option<RcStr>, line: &mut Vec<u8>) -> Result<(), NoMemory>
-    ensures { OnOk result (line.new.items ≡ line.old.items ++ refusals.name_text (option_map rc_str_bytes name.now)) }
+    ensures { OnOk result
+        (line.new.items ≡ line.old.items ++ refusals.name_text (option_map rc_str_bytes name.now)) }
 {
     if let Some(name) = name {
         line.push(b' ')?;

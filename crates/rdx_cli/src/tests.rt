@@ -1,55 +1,50 @@
-// Whole runs over memory, and the words that the program is given.
-mod answered;
-mod answered_definitions;
-mod answered_extensions;
-mod answered_names;
-mod answered_symbols;
-mod order;
-mod refused_duplicate;
-mod refused_language;
-mod refused_name;
-mod refused_pattern;
-mod refused_recursion;
-mod refused_shape;
-mod refused_unbuilt;
-mod unread;
-
+// What no proof shows: that files are answered where there is memory, how calls of a source and a
+// sink are made, that the machine's stack suffices, and what words the program is given.
 use crate::top::{Status, run};
 use crate::writing::write_text;
 use crate::{status_without_words, words_of};
 use rdx_base::{MemSink, MemSource, SteadySource};
+use std::alloc::{AllocError, Global};
 use std::env::{Env, FillError};
 use std::process::Abort;
 use std::str::from_utf8;
 use std::test::Fail;
 
-// How many bytes a call moves at most, and which calls fail.
+// ---- runs over memory
+
+// How many bytes a call moves at most, and the call that fails, if one does.
 #[derive(Clone, Copy)]
-struct Plan<'a> {
+struct Plan {
     piece: usize,
-    failing: &'a [usize],
+    failing: Option<usize>,
 }
 
-const STEADY: Plan<'static> = Plan {
+const STEADY: Plan = Plan {
     piece: 10_000,
-    failing: &[],
+    failing: None,
 };
 
-const BROKEN: Plan<'static> = Plan {
+const BROKEN: Plan = Plan {
     piece: 1,
-    failing: &[0],
+    failing: Some(0),
 };
 
-const UNFIT: [&[&str]; 4] = [&[], &["trace"], &["run", "run"], &[""]];
+fn failing_calls(alloc: Global, plan: Plan) -> Result<Vec<usize>, AllocError> {
+    let mut calls = Vec::new(alloc);
+    if let Some(call) = plan.failing {
+        calls.push(call)?;
+    }
+    Ok(calls)
+}
 
 // A run over these words and bytes ends so, and writes this.
 fn run_on<R: Abort + AllocGlobal>(
     rt: &R,
     words: &[&str],
     bytes: &[u8],
-    takes: Plan<'_>,
-    puts: Plan<'_>,
-    (status, text): (Status, &str),
+    takes: Plan,
+    puts: Plan,
+    (status, text): (Status, &[u8]),
 ) -> Result<(), Fail> {
     let alloc = rt.alloc();
     let mut owned = Vec::new(alloc);
@@ -57,61 +52,117 @@ fn run_on<R: Abort + AllocGlobal>(
         owned.push(String::from_str(alloc, word)?)?;
     }
     assert!(rt; takes.piece > 0 && puts.piece > 0);
-    let failing = takes.failing.to_vec(alloc)?;
-    let mut source = MemSource::new(bytes.to_vec(alloc)?, takes.piece, failing);
-    let mut sink = MemSink::new(puts.piece, puts.failing.to_vec(alloc)?);
+    let mut source = MemSource::new(
+        bytes.to_vec(alloc)?,
+        takes.piece,
+        failing_calls(alloc, takes)?,
+    );
+    let mut sink = MemSink::new(puts.piece, failing_calls(alloc, puts)?);
     let ended = run(alloc, &owned, &mut source, &mut sink);
     let (file, written) = (from_utf8(bytes), from_utf8(sink.written()));
     assert_eq!(rt; ended, status, "at {words:?} and the file {file:?}");
-    assert_eq!(rt; written, Ok(text), "at {words:?} and the file {file:?}");
+    assert_eq!(rt;
+        written,
+        from_utf8(text),
+        "at {words:?} and the file {file:?}"
+    );
     Ok(())
 }
 
-// Each of these files is answered so.
-fn answers<R: Abort + AllocGlobal>(rt: &R, rows: &[(&str, &str)]) -> Result<(), Fail> {
-    for (file, text) in rows {
-        let wanted = (Status::Done, *text);
-        run_on(rt, &["run"], file.as_bytes(), STEADY, STEADY, wanted)?;
-    }
-    Ok(())
-}
+// ---- whole files
 
-// Each of these files is refused so.
-fn refuses<R: Abort + AllocGlobal>(rt: &R, rows: &[(&str, &str)]) -> Result<(), Fail> {
-    for (file, fault) in rows {
-        let line = format!(in rt.alloc(); "refused {fault}\n")?;
-        let wanted = (Status::Refused, line.as_str());
-        run_on(rt, &["run"], file.as_bytes(), STEADY, STEADY, wanted)?;
-    }
-    Ok(())
-}
+const PAIRS: &str =
+    "(define-language L (e (e e) number)) (redex-match L (e_1 e_2) (term (1 (2 3))))";
 
-#[test]
-fn words_that_fit_no_row_read_and_write_nothing(rt: HostRuntime) -> Result<(), Fail> {
-    for words in UNFIT {
-        run_on(&rt, words, b"(a)", BROKEN, STEADY, (Status::Usage, ""))?;
-    }
-    Ok(())
-}
+const PAIRS_MATCHED: &str = "match 1\n  e_1 = 1, e_2 = (2 3)\n";
+
+const ANSWERED: [(&str, &str); 5] = [
+    (PAIRS, PAIRS_MATCHED),
+    ("", ""),
+    // What two derivations bind alike is listed once.
+    (
+        "(define-language B (e v x) (v x) (x variable)) (redex-match B e_1 (term a))",
+        "match 1\n  e_1 = a\n",
+    ),
+    // A name of a nonterminal's alternative stands for one term, and is not bound outside.
+    (
+        "(define-language L (e (e_1 e_1) number)) (redex-match L any (term (1 1)))\n\
+         (redex-match L e (term (1 2)))",
+        "match 1\n  any = (1 1)\nmatch 0\n",
+    ),
+    // An extension inherits alternatives, and leaves its base as it is.
+    (
+        "(define-language L (e (e e) number)) (define-extended-language M L (e .... string))\n\
+         (redex-match M (e_1 e_2) (term (1 \"a\"))) (redex-match? L e (term \"a\"))",
+        "match 1\n  e_1 = 1, e_2 = \"a\"\nmatches #f\n",
+    ),
+];
+
+const REFUSED: [(&str, &str); 16] = [
+    // These are no data.
+    ("(term (1 2)", "refused F2 Unclosed at 1:1\n"),
+    ("(term (1]", "refused F3 WrongClose at 1:9\n"),
+    ("(term #\\a)", "refused F4 BadToken at 1:7\n"),
+    ("(term 1/2)", "refused F5 NumberForm at 1:7\n"),
+    (
+        "(term 170141183460469231731687303715884105728)",
+        "refused F6 NumberRange at 1:7\n",
+    ),
+    ("(term \"a", "refused F7 BadString at 1:7\n"),
+    ("(term \"a\\q\")", "refused F7 BadString at 1:9\n"),
+    // Each of these has a form that is refused.
+    (
+        "#| a #| b |# c |# #;(x [y]) (foo)",
+        "refused S0 Unbuilt at 1:29\n",
+    ),
+    (
+        "(define-language L (e number)) (redex-match L (e ...) (term 1))",
+        "refused S0 Unbuilt at 1:32\n",
+    ),
+    ("(define-language)", "refused S1 Shape at 1:1\n"),
+    (
+        "(redex-match M any (term 1))",
+        "refused S2 UnknownLanguage at 1:14 M\n",
+    ),
+    (
+        "(define-language L (e number) (e string))",
+        "refused S3 Duplicate at 1:32 e\n",
+    ),
+    (
+        "(define-language L (number 1))",
+        "refused S4 BadName at 1:21 number\n",
+    ),
+    (
+        "(define-language L (e foo_1))",
+        "refused S5 BadPattern at 1:23\n",
+    ),
+    (
+        "(define-language L (e f) (f e number))",
+        "refused S7 LeftRecursive at 1:1 e\n",
+    ),
+    (
+        "(define-language L (e (name x e)))",
+        "refused S7 LeftRecursive at 1:1 e\n",
+    ),
+];
 
 #[test]
 fn files_have_their_transcripts(rt: HostRuntime) -> Result<(), Fail> {
-    let unclosed = (Status::Refused, "refused F2 Unclosed at 1:1\n");
-    run_on(&rt, &["run"], b"", STEADY, STEADY, (Status::Done, ""))?;
-    run_on(
-        &rt,
-        &["run"],
-        b"(define-language L",
-        STEADY,
-        STEADY,
-        unclosed,
-    )?;
+    for (status, rows) in [
+        (Status::Done, ANSWERED.as_slice()),
+        (Status::Refused, REFUSED.as_slice()),
+    ] {
+        for (file, text) in rows {
+            let wanted = (status, text.as_bytes());
+            run_on(&rt, &["run"], file.as_bytes(), STEADY, STEADY, wanted)?;
+        }
+    }
     Ok(())
 }
 
 // A file of as many bytes as a file may have, and one of one more.
 #[test]
-fn a_long_file_is_refused(rt: HostRuntime) -> Result<(), Fail> {
+fn a_longer_file_is_refused(rt: HostRuntime) -> Result<(), Fail> {
     let alloc = rt.alloc();
     let words = vec![in alloc; String::from_str(alloc, "run")?]?;
     let rows = [
@@ -133,35 +184,118 @@ fn a_long_file_is_refused(rt: HostRuntime) -> Result<(), Fail> {
     Ok(())
 }
 
-// A file of 5,000 bytes is taken as 4,096 bytes, 904 bytes and the end.
+// Data that nest 500 deep are read, and the deepest terms and patterns in them are matched and
+// printed. One bracket more is refused.
 #[test]
-fn faults_end_a_run(rt: HostRuntime) -> Result<(), Fail> {
-    let file = [b'x'; 5000];
-    let unbuilt = "refused S0 Unbuilt at 1:1\n";
-    let rows = [
-        (1, Status::ReadFault, ""),
-        (2, Status::ReadFault, ""),
-        (3, Status::Refused, unbuilt),
-    ];
-    for (failing, status, text) in rows {
+fn deep_files_fit_the_stack(rt: HostRuntime) -> Result<(), Fail> {
+    let alloc = rt.alloc();
+    let opens = [b'('; 498];
+    let closes = [b')'; 498];
+    let mut file = Vec::new(alloc);
+    for piece in [
+        b"(define-language L (e (e) ())) (redex-match L ".as_slice(),
+        &opens,
+        &closes,
+        b" (term ",
+        &opens,
+        &closes,
+        b")) (redex-match L e (term ",
+        &opens,
+        &closes,
+        b"))",
+    ] {
+        file.extend_from_slice(piece)?;
+    }
+    let mut text = Vec::new(alloc);
+    for piece in [
+        b"match 1\n  -\nmatch 1\n  e = ".as_slice(),
+        &opens,
+        &closes,
+        b"\n",
+    ] {
+        text.extend_from_slice(piece)?;
+    }
+    let wanted = (Status::Done, text.as_slice());
+    run_on(&rt, &["run"], &file, STEADY, STEADY, wanted)?;
+
+    let brackets = [b'('; 501];
+    let line = b"refused F8 TooDeep at 1:501\n".as_slice();
+    let wanted = (Status::Refused, line);
+    run_on(&rt, &["run"], &brackets, STEADY, STEADY, wanted)?;
+    Ok(())
+}
+
+// ---- calls of the source and the sink
+
+const UNFIT: [&[&str]; 6] = [
+    &[],
+    &[""],
+    &["trace"],
+    &["run", "run"],
+    &["step", "01"],
+    &["workload", "0"],
+];
+
+#[test]
+fn words_that_fit_no_row_take_and_put_nothing(rt: HostRuntime) -> Result<(), Fail> {
+    for words in UNFIT {
+        run_on(&rt, words, b"(a)", BROKEN, BROKEN, (Status::Usage, b""))?;
+    }
+    Ok(())
+}
+
+// 79 bytes come in five pieces of 16 at most, and then the end. Whichever of these six calls fails,
+// it is the last, although a call behind it would go through.
+#[test]
+fn a_failed_take_ends_a_run(rt: HostRuntime) -> Result<(), Fail> {
+    for call in 0..7 {
+        let takes = Plan {
+            piece: 16,
+            failing: Some(call),
+        };
+        let wanted = if call < 6 {
+            (Status::ReadFault, b"".as_slice())
+        } else {
+            (Status::Done, PAIRS_MATCHED.as_bytes())
+        };
+        run_on(&rt, &["run"], PAIRS.as_bytes(), takes, STEADY, wanted)?;
+    }
+    Ok(())
+}
+
+// 31 bytes are put in eight pieces of 4 at most. Whichever of these calls fails, it is the last.
+#[test]
+fn a_failed_put_ends_a_run(rt: HostRuntime) -> Result<(), Fail> {
+    for call in 0..9 {
+        let puts = Plan {
+            piece: 4,
+            failing: Some(call),
+        };
+        let text = PAIRS_MATCHED.as_bytes();
+        let wanted = match text.get(..4 * call) {
+            Some(front) => (Status::WriteFault, front),
+            None => (Status::Done, text),
+        };
+        run_on(&rt, &["run"], PAIRS.as_bytes(), STEADY, puts, wanted)?;
+    }
+    Ok(())
+}
+
+// A file of 5,000 bytes is taken as 4,096 bytes, 904 bytes and the end, so there are three takes.
+#[test]
+fn takes_ask_for_a_piece_or_the_rest(rt: HostRuntime) -> Result<(), Fail> {
+    for call in 0..4 {
         let takes = Plan {
             piece: 10_000,
-            failing: &[failing],
+            failing: Some(call),
         };
-        run_on(&rt, &["run"], &file, takes, STEADY, (status, text))?;
+        let wanted = if call < 3 {
+            (Status::ReadFault, b"".as_slice())
+        } else {
+            (Status::Refused, b"refused S0 Unbuilt at 1:1\n".as_slice())
+        };
+        run_on(&rt, &["run"], &[b'x'; 5000], takes, STEADY, wanted)?;
     }
-    let puts = Plan {
-        piece: 4,
-        failing: &[1],
-    };
-    run_on(
-        &rt,
-        &["run"],
-        &file,
-        STEADY,
-        puts,
-        (Status::WriteFault, "refu"),
-    )?;
     Ok(())
 }
 
@@ -170,7 +304,6 @@ fn faults_end_a_run(rt: HostRuntime) -> Result<(), Fail> {
 #[test]
 fn puts_offer_a_piece_or_the_rest(rt: HostRuntime) -> Result<(), Fail> {
     let alloc = rt.alloc();
-    let text = [b'x'; 9000];
     let rows = [
         (0, false, 0),
         (1, false, 4096),
@@ -179,11 +312,13 @@ fn puts_offer_a_piece_or_the_rest(rt: HostRuntime) -> Result<(), Fail> {
     ];
     for (failing, whole, written) in rows {
         let mut sink = MemSink::new(10_000, vec![in alloc; failing]?);
-        assert_eq!(rt; write_text(&mut sink, &text), whole);
+        assert_eq!(rt; write_text(&mut sink, &[b'x'; 9000]), whole);
         assert_eq!(rt; sink.written().len(), written);
     }
     Ok(())
 }
+
+// ---- the words of the program
 
 // A command line of these words.
 #[derive(Clone, Copy)]

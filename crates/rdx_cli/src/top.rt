@@ -3,7 +3,7 @@ ghost use Rattle.std.specs.Prelude.{◌≡◌, ◌≢◌, ◌⊎◌, ◌↔◌};
 ghost use Rattle.rdx_base.specs.Faults.{Rose};
 ghost use Rattle.rdx_cli.specs.Reading.{LosesFront};
 ghost use Rattle.rdx_cli.specs.Words.{FitsNoRow, texts};
-ghost use Rattle.rdx_cli.specs.Ends.{WroteWhole, WrotePrefix, IsFinished, code_of};
+ghost use Rattle.rdx_cli.specs.Ends.{WroteWhole, WrotePrefix, IsFinished, IsSilent, code_of, status_of};
 
 use crate::reading::{ReadFailure, read_file};
 use crate::transcript::{Verdict, transcript_of};
@@ -40,40 +40,42 @@ impl Status {
     }
 }
 
-/// Reads a file, and writes its transcript.
+/// Reads a file, and writes what the words ask for, of which the definition is in
+/// `specs/Transcript.antt`.
 pub fn run<S: Source, K: Sink>(
     alloc: Global,
     words: &[String],
     source: &mut S,
     sink: &mut K,
 ) -> Status
-    // The words decide about the usage, and then nothing is read or written.
+    // The words decide about the usage, and then nothing is read.
     ensures usage { (result ≡ Status.Usage) ↔ FitsNoRow (texts words.now) }
-    ensures untouched { result ≡ Status.Usage → (source.new ≡ source.old) × (sink.new ≡ sink.old) }
+    ensures untaken { result ≡ Status.Usage → source.new ≡ source.old }
 
-    // What was read has this transcript, and all of it was written.
+    // What was read has this transcript, and all of it was written, or a front where a put failed.
     ensures whole { IsFinished result
         → WroteWhole (texts words.now) (S.left source.old) (S.left source.new)
         (K.written sink.old) (K.written sink.new) result }
-
-    // Each other end has its cause, and says what was lost and what was written.
-    ensures read { result ≡ Status.ReadFault
-        → Rose (S.faults source.old) (S.faults source.new) × (sink.new ≡ sink.old) }
-    ensures write { result ≡ Status.WriteFault → Rose (K.faults sink.old) (K.faults sink.new) }
     ensures front { result ≡ Status.WriteFault
         → WrotePrefix (texts words.now) (S.left source.old) (S.left source.new)
         (K.written sink.old) (K.written sink.new) }
-    ensures no_memory { result ≡ Status.NoMemory → sink.new ≡ sink.old }
+    ensures silent { IsSilent result → sink.new ≡ sink.old }
     ensures lost { LosesFront (S.left source.old) (S.left source.new) }
 
-    // Nothing can be unmet yet, and only a fault or want of memory keeps a run from its end.
-    ensures met { result ≢ Status.Unmet }
+    // A fault has its cause, and only a fault or want of memory keeps a run from its end.
+    ensures read_fault { result ≡ Status.ReadFault
+        → Rose (S.faults source.old) (S.faults source.new) }
+    ensures write_fault { result ≡ Status.WriteFault
+        → Rose (K.faults sink.old) (K.faults sink.new) }
     ensures complete { ¬ FitsNoRow (texts words.now)
         → ¬ Rose (S.faults source.old) (S.faults source.new)
         → ¬ Rose (K.faults sink.old) (K.faults sink.new)
         → IsFinished result ⊎ (result ≡ Status.NoMemory) }
+
+    // No form states anything so far.
+    ensures met { result ≢ Status.Unmet }
 {
-    let Some(_mode) = mode_of(words) else {
+    let Some(mode) = mode_of(words) else {
         return Status::Usage;
     };
     let bytes = match read_file(alloc, source) {
@@ -81,14 +83,22 @@ pub fn run<S: Source, K: Sink>(
         Err(ReadFailure::Failed) => return Status::ReadFault,
         Err(ReadFailure::NoMemory) => return Status::NoMemory,
     };
-    let Ok(transcript) = transcript_of(alloc, &bytes) else {
+    let Ok(transcript) = transcript_of(alloc, &mode, &bytes) else {
         return Status::NoMemory;
     };
     if !write_text(sink, &transcript.text) {
         return Status::WriteFault;
     }
-    match transcript.verdict {
+    status_for(transcript.verdict)
+}
+
+// The status of a run that wrote the whole transcript of a file.
+fn status_for(verdict: Verdict) -> Status
+    ensures { result ≡ status_of verdict }
+{
+    match verdict {
         Verdict::Done => Status::Done,
+        Verdict::Unmet => Status::Unmet,
         Verdict::Refused => Status::Refused,
     }
 }

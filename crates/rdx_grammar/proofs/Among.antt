@@ -1,12 +1,12 @@
 -- Nonterminals by their names.
-use Rattle.std.proofs.Common.{◌≡◌, ℕ, Bool, List, [], ◌∷◌, map, refl, sym}
-use Rattle.std.specs.Prelude.{◌||◌, bytes_eq}
+use Rattle.std.proofs.Common.{◌≡◌, ℕ, Bool, List, [], ◌∷◌, refl, sym}
+use Rattle.std.specs.Prelude.{◌||◌, bytes_eq, flat_map}
 use Rattle.std.specs.Cmp.Lexicographic.{bytes_decides}
 use Rattle.rdx_lang.specs.References.{is_among as is_defined_among}
 use Rattle.rdx_lang.specs.declared.pattern.Ref.{Ref}
 use Rattle.rdx_lang.specs.declared.pattern.Ref.TheVariants.{Nt}
-use Rattle.rdx_grammar.specs.Checks.{is_among}
-use Rattle.rdx_grammar.specs.Languages.{ref_text}
+use Rattle.rdx_grammar.specs.Kinds.{is_among}
+use Rattle.rdx_grammar.specs.Nonterminals.{ref_names}
 use Rattle.rdx_grammar.proofs.Tests.{either_way}
 
 -- two texts are compared either way
@@ -19,7 +19,8 @@ bytes_eq-sym x y = either_way (bytes_eq x y) (bytes_eq y x)
 or_both : (a b c d : Bool) → a ≡ b → c ≡ d → (a || c) ≡ (b || d)
 or_both a b c d e f = cc
 
--- a name among the texts of nonterminals is one of these
-pub is_among-texts : (x : List ℕ) (xs : List Ref) → is_among (map ref_text xs) x ≡ is_defined_among (Nt x) xs
-is_among-texts x [] = refl
-is_among-texts x (Nt y ∷ xs) = or_both (bytes_eq y x) (bytes_eq x y) (is_among (map ref_text xs) x) (is_defined_among (Nt x) xs) (bytes_eq-sym y x) (is_among-texts x xs)
+-- a name among those of nonterminals is one of these
+pub is_among-names : (x : List ℕ) (xs : List Ref) → is_among (flat_map ref_names xs) x ≡ is_defined_among (Nt x) xs
+is_among-names x [] = refl
+is_among-names x (Nt y ∷ xs) =
+    or_both (bytes_eq y x) (bytes_eq x y) (is_among (flat_map ref_names xs) x) (is_defined_among (Nt x) xs) (bytes_eq-sym y x) (is_among-names x xs)

@@ -1,6 +1,7 @@
 -- The worked examples.
 use Rattle.std.proofs.Common.{◌≡◌, Bool, true, false, List, [], ◌∷◌, refl, sym, subst}
 use Rattle.std.specs.Prelude.{codes}
+use Rattle.std.specs.Str.{chars}
 use Rattle.rdx_lang.specs.Edges.{Edge, edge_nt, edge_named, Reaches, at_once, further, IsFree}
 use Rattle.rdx_lang.specs.Members.{In, here, there}
 use Rattle.rdx_lang.specs.Patterns.{Pattern, of_kind, nt, Definition, Language}
@@ -56,6 +57,7 @@ module _ (L : Language) (all : all_alternatives is_built_in L.nonterminals ≡ t
 -- ---- the examples
 
 pub inherits_in_place : InheritsInPlace
+unfolding chars
 inherits_in_place s = record {
   passes = refl;
   parts = record { name = word s (codes "M"); definitions = definitions s };

@@ -6,7 +6,7 @@ use Rattle.rdx_lang.specs.Patterns.{Definition}
 use Rattle.rdx_lang.specs.References.{is_same, is_among, are_distinct}
 use Rattle.rdx_lang.specs.declared.pattern.Ref.{Ref}
 use Rattle.rdx_lang.specs.declared.pattern.Ref.TheVariants.{Nt}
-use Rattle.rdx_grammar.specs.Languages.{heads, redefined, added}
+use Rattle.rdx_grammar.specs.Extension.{heads, redefined, added}
 use Rattle.rdx_grammar.proofs.Booleans.{or_false, or_neither, or_true, or_or, not_and_true, not_and_both, unless_true, not_either_way}
 use Rattle.rdx_grammar.proofs.Tests.{or_left, or_right}
 

@@ -6,13 +6,15 @@ use Rattle.rdx_lang.specs.Lookup.{alternatives_of, alternatives_among}
 use Rattle.rdx_lang.specs.Patterns.{Pattern, wild, of_kind, except, prefix, lit, nt, named, seq, Items, nil, one, Language}
 use Rattle.rdx_lang.specs.Patterns as model
 use Rattle.rdx_lang.specs.References.{is_same, is_among}
-use Rattle.rdx_lang.specs.WellFormed.{is_well_formed, have_known_nonterminals as are_well_formed, all_patterns, all_alternatives}
+use Rattle.rdx_lang.specs.WellFormed.{is_well_formed, have_known_nonterminals, all_patterns, all_alternatives}
 use Rattle.rdx_lang.specs.declared.pattern.Ref.{Ref}
 use Rattle.rdx_lang.specs.declared.pattern.Ref.TheVariants.{Nt}
-use Rattle.rdx_grammar.specs.Languages.{heads, redefined, added, alternatives, defined_by, definitions_of}
-use Rattle.rdx_grammar.specs.Parts.{text_of, is_word, Definition, definition_in}
+use Rattle.rdx_grammar.specs.Extension.{heads, redefined, added}
+use Rattle.rdx_grammar.specs.Languages.{alternatives, defined_by, definitions_of}
+use Rattle.rdx_grammar.specs.Parts.{text_of, is_word}
+use Rattle.rdx_grammar.specs.Definitions.{Definition, definition_in}
 use Rattle.rdx_grammar.specs.Reading.{reading}
-use Rattle.rdx_grammar.specs.declared.patterns.Position.TheVariants.{Grammar as InGrammar}
+use Rattle.rdx_grammar.specs.declared.patterns.position.Position.TheVariants.{Grammar as InGrammar}
 use Rattle.rdx_grammar.proofs.Booleans.{and_true, and_both}
 use Rattle.rdx_grammar.proofs.ExtendedNames.{Within}
 
@@ -28,14 +30,14 @@ mutual
   is_well_formed-within xs ys w (lit u) e = refl
   is_well_formed-within xs ys w (nt x) e = w x e
   is_well_formed-within xs ys w (named x q) e = is_well_formed-within xs ys w q e
-  is_well_formed-within xs ys w (seq ps) e = are_well_formed-within xs ys w ps e
+  is_well_formed-within xs ys w (seq ps) e = have_known_nonterminals-within xs ys w ps e
 
   -- items
-  are_well_formed-within : (xs ys : List Ref) → Within xs ys → (ps : Items) → are_well_formed xs ps ≡ true → are_well_formed ys ps ≡ true
-  are_well_formed-within xs ys w nil e = refl
-  are_well_formed-within xs ys w (one p ps) e =
-      let k = and_true (is_well_formed xs p) (are_well_formed xs ps) e in
-      and_both (is_well_formed ys p) (are_well_formed ys ps) (is_well_formed-within xs ys w p k.0) (are_well_formed-within xs ys w ps k.1)
+  have_known_nonterminals-within : (xs ys : List Ref) → Within xs ys → (ps : Items) → have_known_nonterminals xs ps ≡ true → have_known_nonterminals ys ps ≡ true
+  have_known_nonterminals-within xs ys w nil e = refl
+  have_known_nonterminals-within xs ys w (one p ps) e =
+      let k = and_true (is_well_formed xs p) (have_known_nonterminals xs ps) e in
+      and_both (is_well_formed ys p) (have_known_nonterminals ys ps) (is_well_formed-within xs ys w p k.0) (have_known_nonterminals-within xs ys w ps k.1)
 
 -- alternatives
 all_patterns-within : (xs ys : List Ref) → Within xs ys → (ps : List Pattern) → all_patterns (is_well_formed xs) ps ≡ true → all_patterns (is_well_formed ys) ps ≡ true
@@ -84,23 +86,23 @@ module _ (test : Pattern → Bool) where
 
   module _ (base : Language) (ns : List (List ℕ)) (old : all_alternatives test base.nonterminals ≡ true) (read : (d : Sexp) → test (reading ns InGrammar d) ≡ true) where
     -- one alternative, or those that are inherited
-    written : (b : Bool) (x : List ℕ) (d : Sexp) → all_patterns test (if b then alternatives_of base (Nt x) else reading ns InGrammar d ∷ []) ≡ true
-    written true x d = all_patterns-among base.nonterminals (Nt x) old
+    written : (b : Bool) (x : Ref) (d : Sexp) → all_patterns test (if b then alternatives_of base x else reading ns InGrammar d ∷ []) ≡ true
+    written true x d = all_patterns-among base.nonterminals x old
     written false x d = and_both (test (reading ns InGrammar d)) true (read d) refl
 
     -- all alternatives
-    all_patterns-alternatives : (x : List ℕ) (ds : List Sexp) → all_patterns test (alternatives base ns x ds) ≡ true
+    all_patterns-alternatives : (x : Ref) (ds : List Sexp) → all_patterns test (alternatives base ns x ds) ≡ true
     all_patterns-alternatives x [] = refl
     all_patterns-alternatives x (d ∷ ds) =
-        all_patterns-append (if is_word (codes "....") d then alternatives_of base (Nt x) else reading ns InGrammar d ∷ []) (alternatives base ns x ds)
+        all_patterns-append (if is_word (codes "....") d then alternatives_of base x else reading ns InGrammar d ∷ []) (alternatives base ns x ds)
         (written (is_word (codes "....") d) x d) (all_patterns-alternatives x ds)
 
     -- those of several names
-    of_names : (es ds : List Sexp) → all_alternatives test (map (λ e. (Nt (text_of e), alternatives base ns (text_of e) ds)) es) ≡ true
+    of_names : (es ds : List Sexp) → all_alternatives test (map (λ e. (Nt (text_of e), alternatives base ns (Nt (text_of e)) ds)) es) ≡ true
     of_names [] ds = refl
     of_names (e ∷ es) ds =
-        and_both (all_patterns test (alternatives base ns (text_of e) ds)) (all_alternatives test (map (λ f. (Nt (text_of f), alternatives base ns (text_of f) ds)) es))
-        (all_patterns-alternatives (text_of e) ds) (of_names es ds)
+        and_both (all_patterns test (alternatives base ns (Nt (text_of e)) ds)) (all_alternatives test (map (λ f. (Nt (text_of f), alternatives base ns (Nt (text_of f)) ds)) es))
+        (all_patterns-alternatives (Nt (text_of e)) ds) (of_names es ds)
 
     -- those of a definition
     of_definition : (o : Option Definition) → all_alternatives test (defined_by base ns o) ≡ true

@@ -1,7 +1,8 @@
 -- The definitions of a form that extends no language.
 use Rattle.std.proofs.Common.{◌≡◌, List, [], ◌∷◌, refl, ap}
 use Rattle.rdx_lang.specs.Patterns.{Definition}
-use Rattle.rdx_grammar.specs.Languages.{added, extended, empty_language}
+use Rattle.rdx_grammar.specs.Extension.{added, extended}
+use Rattle.rdx_grammar.specs.Languages.{empty_language}
 
 -- all are added where the base has none
 added-none : (new : List Definition) → added [] new ≡ new

@@ -1,12 +1,15 @@
 -- A form is one language at most, or it has one refusal.
-use Rattle.std.proofs.Common.{◌≡◌, Option, Some, None, sym, ◌∙◌, ap, subst}
+use Rattle.std.proofs.Common.{◌≡◌, Option, Some, None, refl, sym, ◌∙◌, ap, subst, ◌⊎◌, inl, inr}
+use Rattle.std.specs.Prelude.{IsSome}
 use Rattle.rdx_lang.specs.Edges.{IsFree, IsFirstRecursive}
 use Rattle.rdx_lang.specs.declared.pattern.Ref.TheVariants.{Nt}
-use Rattle.rdx_grammar.specs.Answers.{refusal_of}
+use Rattle.rdx_grammar.specs.Refusal.{refusal_of}
 use Rattle.rdx_lang.proofs.FirstRecursive.{first_recursive-one, first_recursive-free}
-use Rattle.rdx_grammar.specs.Languages.{GrammarForm, language_over}
-use Rattle.rdx_grammar.specs.Laws.{OneLanguage, OneRefusal, LanguageOrRefusal, OnePattern, OnePatternRefusal, PatternOrRefusal}
-use Rattle.rdx_grammar.specs.Refused.{by_check, by_recursion, refusal_over, recursion_at, pattern_refusal}
+use Rattle.rdx_grammar.specs.Forms.{GrammarForm}
+use Rattle.rdx_grammar.specs.Languages.{language_over}
+use Rattle.rdx_grammar.specs.Laws.{OneLanguage, OneRefusal, NeverBothLanguage, OnePattern, OnePatternRefusal, NeverBothPattern, NeverNeitherPattern}
+use Rattle.rdx_grammar.specs.Refused.{by_check, by_recursion, refusal_over, recursion_at}
+use Rattle.rdx_grammar.specs.PatternRefusal.{pattern_refusal}
 
 -- what is some value is one
 same_some : {A : Type 0} (o : Option A) (x y : A) → o ≡ Some x → o ≡ Some y → x ≡ y
@@ -30,9 +33,9 @@ one_refusal base d g r q (by_recursion p x e l a k) (by_recursion m y f n b h) =
     let t = subst (λ (o : GrammarForm). IsFirstRecursive (language_over base o) (Nt x)) s a in
     k ∙ ap (recursion_at d) (first_recursive-one (language_over base m) x y t b) ∙ sym h
 
-pub language_or_refusal : LanguageOrRefusal
-language_or_refusal base d g L r a (by_check e) = not_some (refusal_over base d g) r a.passes e
-language_or_refusal base d g L r a (by_recursion m x e n b h) =
+pub never_both_language : NeverBothLanguage
+never_both_language base d g L r a (by_check e) = not_some (refusal_over base d g) r a.passes e
+never_both_language base d g L r a (by_recursion m x e n b h) =
     let s : a.parts ≡ m = same_some g a.parts m a.are n in
     first_recursive-free (language_over base m) x (subst IsFree (a.reads ∙ ap (language_over base) s) a.free) b
 
@@ -44,5 +47,13 @@ one_pattern ns d c e a b = a.1 ∙ sym b.1
 pub one_pattern_refusal : OnePatternRefusal
 one_pattern_refusal ns d r q e f = same_some (pattern_refusal ns d) (refusal_of r) (refusal_of q) e f
 
-pub pattern_or_refusal : PatternOrRefusal
-pattern_or_refusal ns d c r a e = not_some (pattern_refusal ns d) (refusal_of r) a.0 e
+pub never_both_pattern : NeverBothPattern
+never_both_pattern ns d c r a e = not_some (pattern_refusal ns d) (refusal_of r) a.0 e
+
+-- a refusal, or none
+none_or_some : {A : Type 0} (o : Option A) → (o ≡ None) ⊎ IsSome o
+none_or_some None = inl refl
+none_or_some (Some x) = inr refl
+
+pub never_neither_pattern : NeverNeitherPattern
+never_neither_pattern ns d = none_or_some (pattern_refusal ns d)

@@ -1,37 +1,43 @@
 -- Forms that the checks pass.
 use Rattle.std.proofs.Common.{◌≡◌, Option, Some, None, Result, Ok, Err, refl, sym, subst}
 use Rattle.rdx_sexp.specs.Sexp.{Sexp}
-use Rattle.rdx_sexp.specs.Size.{IsSpelledSexp}
 use Rattle.rdx_lang.specs.Edges.{IsFree}
 use Rattle.rdx_lang.specs.Patterns.{Language}
 use Rattle.rdx_lang.specs.WellFormed.{IsWellFormed}
 use Rattle.rdx_lang.specs.declared.checked.CheckedLang.{CheckedLang}
 use Rattle.rdx_grammar.specs.Answers.{ReadsForm}
-use Rattle.rdx_grammar.specs.BaseView.{base_in}
-use Rattle.rdx_grammar.specs.CheckedForms.{ChecksRecursion}
-use Rattle.rdx_grammar.specs.Languages.{GrammarForm, language_over}
+use Rattle.rdx_grammar.specs.Inside.BaseView.{base_in}
+use Rattle.rdx_grammar.specs.Inside.CheckedForms.{AreNamedIn, AreSpelledIn, ChecksRecursion}
+use Rattle.rdx_grammar.specs.Forms.{GrammarForm}
+use Rattle.rdx_grammar.specs.Languages.{language_over}
 use Rattle.rdx_grammar.specs.Refusal.{or_else, unnamed}
-use Rattle.rdx_grammar.specs.Refused.{refusal_over, unbuilt_at, by_recursion}
-use Rattle.rdx_grammar.specs.SymbolNames.{AreNames}
-use Rattle.rdx_grammar.specs.declared.fault.DefFault.{DefFault}
-use Rattle.rdx_grammar.specs.declared.fault.DefFault.TheVariants.{Refused, NoMemory}
-use Rattle.rdx_grammar.specs.declared.fault.DefKind.TheVariants.{Shape}
-use Rattle.rdx_grammar.proofs.Spelled.{AreNames-spelled, none_to_come}
+use Rattle.rdx_grammar.specs.Refused.{refusal_over, shape_at, duplicate_at, bad_name_at, by_recursion}
+use Rattle.rdx_grammar.specs.Unbuilt.{unbuilt_at}
+use Rattle.rdx_grammar.specs.Stands.{form_stands}
+use Rattle.rdx_grammar.specs.declared.shape.fault.DefFault.{DefFault}
+use Rattle.rdx_grammar.specs.declared.shape.fault.DefFault.TheVariants.{Refused, NoMemory}
+use Rattle.rdx_grammar.specs.declared.shape.fault.DefKind.TheVariants.{Shape}
+use Rattle.rdx_grammar.proofs.Firsts.{none_or}
+use Rattle.rdx_grammar.proofs.NamedForms.{AreNamedIn-passed}
 
 -- a base is well formed
 pub IsWellFormed-base : (o : Option CheckedLang) → IsWellFormed (base_in o)
 IsWellFormed-base None = record { distinct = refl; well_formed = refl }
 IsWellFormed-base (Some c) = c.well_formed
 
--- the symbols of a spelled form that passes are names
-pub AreNames-passed : (base : Language) (d : Sexp) (g : Option GrammarForm) → IsSpelledSexp d → refusal_over base d g ≡ None → AreNames d
-AreNames-passed base d g h e = AreNames-spelled d h (none_to_come d _ e)
+-- what a form that passes defines has names
+pub AreNamedIn-refusal : (base : Language) (d : Sexp) (g : Option GrammarForm) → AreSpelledIn g → refusal_over base d g ≡ None → AreNamedIn g
+AreNamedIn-refusal base d g h e =
+    let f = (none_or (unbuilt_at d) _ e).1 in
+    let k = (none_or (shape_at (form_stands d g)) _ f).1 in
+    let l = (none_or (duplicate_at (form_stands d g)) _ k).1 in
+    AreNamedIn-passed d g h (none_or (bad_name_at (form_stands d g)) _ l).0
 
 -- a form that passes has parts
 pub has_parts : (base : Language) (d : Sexp) → refusal_over base d None ≡ None → ⊥
 has_parts base d e = by_first (unbuilt_at d) e
   where
-    by_first : (o : _) → or_else o (or_else (Some (unnamed Shape d)) None) ≡ None → ⊥
+    by_first : (o : _) → or_else o (Some (unnamed Shape d)) ≡ None → ⊥
     by_first None f = cc
     by_first (Some r) f = cc
 

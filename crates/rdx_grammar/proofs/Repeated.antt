@@ -1,19 +1,18 @@
 -- Where no nonterminal is defined twice, the names are distinct.
-use Rattle.std.proofs.Common.{◌≡◌, ◌++◌, ℕ, Bool, true, false, List, [], ◌∷◌, None, map, refl, sym, subst, if◌then◌else◌}
-use Rattle.std.specs.Prelude.{◌&&◌, not, bytes_eq, option_map}
+use Rattle.std.proofs.Common.{◌≡◌, ℕ, Bool, true, false, List, [], ◌∷◌, None, map, refl, sym, subst}
+use Rattle.std.specs.Prelude.{◌&&◌, not, bytes_eq}
 use Rattle.std.specs.List.{list_any}
 use Rattle.std.specs.Cmp.Lexicographic.{bytes_decides}
-use Rattle.rdx_sexp.specs.Sexp.{Sexp}
 use Rattle.rdx_lang.specs.References.{is_among, are_distinct}
 use Rattle.rdx_lang.specs.declared.pattern.Ref.TheVariants.{Nt}
 use Rattle.rdx_grammar.specs.Checks.{is_seen, repeats}
 use Rattle.rdx_grammar.specs.Parts.{text_of}
-use Rattle.rdx_grammar.specs.Refusal.{first, named}
+use Rattle.rdx_grammar.specs.Refusal.{named}
 use Rattle.rdx_grammar.specs.Refused.{duplicate_at}
-use Rattle.rdx_grammar.specs.Stands.{Stand, misshaped, key, defined, nonterminal, binder, pattern, excepted, malformed, inherited}
-use Rattle.rdx_grammar.specs.declared.fault.DefKind.{DefKind}
-use Rattle.rdx_grammar.specs.declared.fault.DefKind.TheVariants.{Duplicate}
+use Rattle.rdx_grammar.specs.Stands.{Stand, misshaped, defined, nonterminal, alternative, inherited}
+use Rattle.rdx_grammar.specs.declared.shape.fault.DefKind.TheVariants.{Duplicate}
 use Rattle.rdx_grammar.proofs.Booleans.{or_neither, not_and_true, not_and_both}
+use Rattle.rdx_grammar.proofs.Firsts.{nothing, none_first}
 use Rattle.rdx_grammar.proofs.FormNonterminals.{nonterminals_in}
 use Rattle.rdx_grammar.proofs.Tests.{or_left, or_right}
 
@@ -22,24 +21,15 @@ abbrev pub are_new : List (List ℕ) → List (List ℕ) → Bool
 are_new seen [] = true
 are_new seen (x ∷ xs) = not (list_any (λ y. bytes_eq x y) seen) && are_new (x ∷ seen) xs
 
--- a list that is empty, with a datum in front where a test holds
-none_first : (b : Bool) (d : Sexp) (ds : List Sexp) → (if b then d ∷ [] else []) ++ ds ≡ [] → (b ≡ false) × (ds ≡ [])
-none_first true d ds e = absurd cc
-none_first false d ds e = (refl, e)
-
 -- where nothing repeats, all are new
 are_new-repeats : (seen : List (List ℕ)) (ss : List Stand) → repeats seen ss ≡ [] → are_new seen (nonterminals_in ss) ≡ true
 are_new-repeats seen [] e = refl
+are_new-repeats seen (misshaped d ∷ ss) e = are_new-repeats seen ss e
+are_new-repeats seen (defined d ∷ ss) e = are_new-repeats seen ss e
 are_new-repeats seen (nonterminal d ∷ ss) e =
     let f = none_first (is_seen seen d) d (repeats (text_of d ∷ seen) ss) e in
     not_and_both (is_seen seen d) (are_new (text_of d ∷ seen) (nonterminals_in ss)) f.0 (are_new-repeats (text_of d ∷ seen) ss f.1)
-are_new-repeats seen (misshaped d ∷ ss) e = are_new-repeats seen ss e
-are_new-repeats seen (key d ∷ ss) e = are_new-repeats seen ss e
-are_new-repeats seen (defined d ∷ ss) e = are_new-repeats seen ss e
-are_new-repeats seen (binder d ∷ ss) e = are_new-repeats seen ss e
-are_new-repeats seen (pattern d ∷ ss) e = are_new-repeats seen ss e
-are_new-repeats seen (excepted d ∷ ss) e = are_new-repeats seen ss e
-are_new-repeats seen (malformed d ∷ ss) e = are_new-repeats seen ss e
+are_new-repeats seen (alternative os ∷ ss) e = are_new-repeats seen ss e
 are_new-repeats seen (inherited d names again ∷ ss) e = are_new-repeats seen ss e
 
 -- ---- new names are distinct
@@ -71,11 +61,6 @@ are_distinct-new seen (x ∷ xs) e =
 
 -- ---- what the check passes
 
--- nothing is refused where there is nothing
-nothing : (k : DefKind) (ds : List Sexp) → option_map (named k) (first ds) ≡ None → ds ≡ []
-nothing k [] e = refl
-nothing k (d ∷ ds) e = absurd cc
-
 -- the nonterminals that stand in a form that the check passes are distinct
 pub are_distinct-nonterminals : (ss : List Stand) → duplicate_at ss ≡ None → are_distinct (map (λ x. Nt x) (nonterminals_in ss)) ≡ true
-are_distinct-nonterminals ss e = are_distinct-new [] (nonterminals_in ss) (are_new-repeats [] ss (nothing Duplicate (repeats [] ss) e))
+are_distinct-nonterminals ss e = are_distinct-new [] (nonterminals_in ss) (are_new-repeats [] ss (nothing (named Duplicate) (repeats [] ss) e))

@@ -8,21 +8,10 @@ use Rattle.rdx_sexp.specs.Sexp.{Sexp}
 use Rattle.rdx_grammar.specs.Checks.{is_seen, repeats}
 use Rattle.rdx_grammar.specs.Parts.{text_of}
 use Rattle.rdx_grammar.specs.Refusal.{first, or_else}
-use Rattle.rdx_grammar.specs.Repeats.{seen_with, seen_behind, repeated}
-use Rattle.rdx_grammar.specs.Stands.{Stand, misshaped, key, defined, nonterminal, binder, pattern, excepted, malformed, inherited}
+use Rattle.rdx_grammar.specs.Checks.{seen_with, repeated}
+use Rattle.rdx_grammar.specs.Inside.Repeats.{seen_behind}
+use Rattle.rdx_grammar.specs.Stands.{Stand, misshaped, defined, nonterminal, alternative, inherited}
 use Rattle.rdx_grammar.proofs.Firsts.{first-append}
-
--- the first stand, and what repeats behind it
-pub repeats-cons : (seen : List (List ℕ)) (s : Stand) (ss : List Stand) → repeats seen (s ∷ ss) ≡ repeated seen s ++ repeats (seen_with seen s) ss
-repeats-cons seen (misshaped d) ss = refl
-repeats-cons seen (key d) ss = refl
-repeats-cons seen (defined d) ss = refl
-repeats-cons seen (nonterminal d) ss = refl
-repeats-cons seen (binder d) ss = refl
-repeats-cons seen (pattern d) ss = refl
-repeats-cons seen (excepted d) ss = refl
-repeats-cons seen (malformed d) ss = refl
-repeats-cons seen (inherited d names again) ss = refl
 
 -- behind the first ones and then others
 pub seen_behind-append : (seen : List (List ℕ)) (xs ys : List Stand) → seen_behind seen (xs ++ ys) ≡ seen_behind (seen_behind seen xs) ys
@@ -43,7 +32,6 @@ repeats-later v xs i x h e none =
     let seen = seen_behind [] (map v (take i xs)) in
     let rest = map v (drop (i + 1) xs) in
     ap (λ ys. first (repeats seen ys)) (rest_at v xs i x h e)
-    ∙ ap first (repeats-cons seen (v x) rest)
     ∙ first-append (repeated seen (v x)) (repeats (seen_with seen (v x)) rest)
     ∙ ap (λ o. or_else o (first (repeats (seen_with seen (v x)) rest))) none
     ∙ ap (λ z. first (repeats z rest)) (sym (seen_behind-take v xs i x h e))
@@ -61,7 +49,6 @@ or_assoc false b c = refl
 -- what one stand adds is seen
 seen_one : (seen : List (List ℕ)) (s : Stand) (d : Sexp) → is_seen (seen_with seen s) d ≡ (is_seen seen d || is_seen (seen_with [] s) d)
 seen_one seen (misshaped e) d = or_false (is_seen seen d)
-seen_one seen (key e) d = or_false (is_seen seen d)
 seen_one seen (defined e) d = or_false (is_seen seen d)
 seen_one seen (nonterminal e) d = added (bytes_eq (text_of d) (text_of e)) (is_seen seen d)
   where
@@ -70,10 +57,7 @@ seen_one seen (nonterminal e) d = added (bytes_eq (text_of d) (text_of e)) (is_s
     added true false = refl
     added false true = refl
     added false false = refl
-seen_one seen (binder e) d = or_false (is_seen seen d)
-seen_one seen (pattern e) d = or_false (is_seen seen d)
-seen_one seen (excepted e) d = or_false (is_seen seen d)
-seen_one seen (malformed e) d = or_false (is_seen seen d)
+seen_one seen (alternative os) d = or_false (is_seen seen d)
 seen_one seen (inherited e names again) d = or_false (is_seen seen d)
 
 -- what is seen at first stays seen

@@ -1,20 +1,28 @@
 -- The language of a form that passes the checks is well formed.
 use Rattle.std.proofs.Common.{◌≡◌, ◌++◌, ℕ, true, List, [], ◌∷◌, Option, Some, None, map, refl, sym, ap, ◌∙◌, subst}
+use Rattle.std.specs.Prelude.{flat_map}
+use Rattle.std.proofs.lemmas.Grind.{flat_map-append}
 use Rattle.rdx_sexp.specs.Sexp.{Sexp}
 use Rattle.rdx_lang.specs.Patterns.{Language}
 use Rattle.rdx_lang.specs.References.{is_among as is_defined_among, are_distinct}
 use Rattle.rdx_lang.specs.WellFormed.{is_well_formed, all_alternatives, defined, IsWellFormed}
 use Rattle.rdx_lang.specs.declared.pattern.Ref.{Ref}
 use Rattle.rdx_lang.specs.declared.pattern.Ref.TheVariants.{Nt}
-use Rattle.rdx_grammar.specs.Languages.{GrammarForm, form_stands, names_of, names_by, names_in, all_names, ref_text, heads, redefined, added, alternatives, defined_by, definitions_of, language_over}
-use Rattle.rdx_grammar.specs.Parts.{text_of, Definition, definition_in}
+use Rattle.rdx_grammar.specs.Forms.{GrammarForm}
+use Rattle.rdx_grammar.specs.Stands.{form_stands}
+use Rattle.rdx_grammar.specs.Nonterminals.{ref_names, names_of, names_by, names_in, all_names}
+use Rattle.rdx_grammar.specs.Languages.{alternatives, defined_by, definitions_of, language_over}
+use Rattle.rdx_grammar.specs.Extension.{heads, redefined, added}
+use Rattle.rdx_grammar.specs.Parts.{text_of}
+use Rattle.rdx_grammar.specs.Definitions.{Definition, definition_in}
 use Rattle.rdx_grammar.specs.Reading.{reading}
-use Rattle.rdx_grammar.specs.Refusal.{or_else}
-use Rattle.rdx_grammar.specs.Refused.{refusal_over, unbuilt_at, shape_at, duplicate_at}
-use Rattle.rdx_grammar.specs.declared.patterns.Position.TheVariants.{Grammar as InGrammar}
+use Rattle.rdx_grammar.specs.Refused.{refusal_over, shape_at, duplicate_at}
+use Rattle.rdx_grammar.specs.Unbuilt.{unbuilt_at}
+use Rattle.rdx_grammar.specs.declared.patterns.position.Position.TheVariants.{Grammar as InGrammar}
 use Rattle.rdx_grammar.proofs.Booleans.{or_true}
 use Rattle.rdx_grammar.proofs.ExtendedNames.{Within, is_among-append, heads-append, Within-old, Within-new, are_distinct-extended}
 use Rattle.rdx_grammar.proofs.ExtendedPatterns.{is_well_formed-within, all_alternatives-within, all_alternatives-definitions, all_alternatives-extended}
+use Rattle.rdx_grammar.proofs.Firsts.{none_or}
 use Rattle.rdx_grammar.proofs.FormNonterminals.{nonterminals_in-definitions}
 use Rattle.rdx_grammar.proofs.Repeated.{are_distinct-nonterminals}
 use Rattle.rdx_grammar.proofs.WellRead.{reading_wf}
@@ -31,7 +39,7 @@ refs-append [] ys = refl
 refs-append (x ∷ xs) ys = ap (λ (z : List Ref). Nt x ∷ z) (refs-append xs ys)
 
 -- of the definitions of several names
-heads_of_names : (base : Language) (ns : List (List ℕ)) (es ds : List Sexp) → heads (map (λ e. (Nt (text_of e), alternatives base ns (text_of e) ds)) es) ≡ refs (map text_of es)
+heads_of_names : (base : Language) (ns : List (List ℕ)) (es ds : List Sexp) → heads (map (λ e. (Nt (text_of e), alternatives base ns (Nt (text_of e)) ds)) es) ≡ refs (map text_of es)
 heads_of_names base ns [] ds = refl
 heads_of_names base ns (e ∷ es) ds = ap (λ (x : List Ref). Nt (text_of e) ∷ x) (heads_of_names base ns es ds)
 
@@ -51,25 +59,20 @@ heads-definitions_of base ns (d ∷ ds) =
 
 -- ---- the names that patterns may have
 
--- of two lists of nonterminals
-texts-append : (xs ys : List Ref) → map ref_text (xs ++ ys) ≡ map ref_text xs ++ map ref_text ys
-texts-append [] ys = refl
-texts-append (x ∷ xs) ys = ap (λ (z : List (List ℕ)). ref_text x ∷ z) (texts-append xs ys)
-
 -- of nonterminals of these names
-texts-refs : (xs : List (List ℕ)) → map ref_text (refs xs) ≡ xs
-texts-refs [] = refl
-texts-refs (x ∷ xs) = ap (λ (z : List (List ℕ)). x ∷ z) (texts-refs xs)
+names-refs : (xs : List (List ℕ)) → flat_map ref_names (refs xs) ≡ xs
+names-refs [] = refl
+names-refs (x ∷ xs) = ap (λ (z : List (List ℕ)). x ∷ z) (names-refs xs)
 
 -- of all nonterminals of a form
-pub all_names-texts : (base : Language) (ds : List Sexp) → map ref_text (defined base ++ refs (names_in ds)) ≡ all_names base ds
-all_names-texts base ds = texts-append (defined base) (refs (names_in ds)) ∙ ap (λ (z : List (List ℕ)). names_of base ++ z) (texts-refs (names_in ds))
+pub all_names-refs : (base : Language) (ds : List Sexp) → flat_map ref_names (defined base ++ refs (names_in ds)) ≡ all_names base ds
+all_names-refs base ds = flat_map-append ref_names (defined base) (refs (names_in ds)) ∙ ap (λ (z : List (List ℕ)). names_of base ++ z) (names-refs (names_in ds))
 
 -- what is read in a grammar is well formed over more nonterminals
 reading_within : (base : Language) (ds : List Sexp) (ys : List Ref) → Within (defined base ++ refs (names_in ds)) ys → (d : Sexp) → is_well_formed ys (reading (all_names base ds) InGrammar d) ≡ true
 reading_within base ds ys w d =
     is_well_formed-within (defined base ++ refs (names_in ds)) ys w (reading (all_names base ds) InGrammar d)
-    (ap (λ (ns : List (List ℕ)). is_well_formed (defined base ++ refs (names_in ds)) (reading ns InGrammar d)) (sym (all_names-texts base ds)) ∙ reading_wf (defined base ++ refs (names_in ds)) InGrammar d)
+    (ap (λ (ns : List (List ℕ)). is_well_formed (defined base ++ refs (names_in ds)) (reading ns InGrammar d)) (sym (all_names-refs base ds)) ∙ reading_wf (defined base ++ refs (names_in ds)) InGrammar d)
 
 -- those of two lists are among others if those of each are
 Within-both : (xs ys zs : List Ref) → Within xs zs → Within ys zs → Within (xs ++ ys) zs
@@ -77,23 +80,13 @@ Within-both xs ys zs f g x e = or_true (is_defined_among x xs) (is_defined_among
 
 -- ---- what the checks pass
 
--- the second of two that don't refuse
-second_none : {A : Type 0} (o p : Option A) → or_else o p ≡ None → p ≡ None
-second_none None p e = e
-second_none (Some x) p e = absurd cc
-
--- and the first
-first_none : {A : Type 0} (o p : Option A) → or_else o p ≡ None → o ≡ None
-first_none None p e = refl
-first_none (Some x) p e = absurd cc
-
 -- the names that the form defines are distinct
 are_distinct-names : (base : Language) (d : Sexp) (g : GrammarForm) → refusal_over base d (Some g) ≡ None → are_distinct (refs (names_in g.definitions)) ≡ true
 are_distinct-names base d g e =
     let ss = form_stands d (Some g) in
-    let f = second_none (unbuilt_at d) _ e in
-    let h = second_none (shape_at ss) _ f in
-    let k : duplicate_at ss ≡ None = first_none (duplicate_at ss) _ h in
+    let f = (none_or (unbuilt_at d) _ e).1 in
+    let h = (none_or (shape_at ss) _ f).1 in
+    let k : duplicate_at ss ≡ None = (none_or (duplicate_at ss) _ h).0 in
     ap (λ (xs : List (List ℕ)). are_distinct (refs xs)) (sym (nonterminals_in-definitions g.definitions)) ∙ are_distinct-nonterminals ss k
 
 -- the language of a form that the checks pass is well formed

@@ -1,34 +1,36 @@
 -- What is read names only nonterminals that there are.
-use Rattle.std.proofs.Common.{◌≡◌, ℕ, Bool, true, false, List, Option, Some, None, map, refl, sym, if◌then◌else◌}
-use Rattle.std.specs.Prelude.{bytes_eq, codes}
+use Rattle.std.proofs.Common.{◌≡◌, ℕ, Bool, true, false, List, Option, Some, None, refl, sym, if◌then◌else◌}
+use Rattle.std.specs.Prelude.{bytes_eq, codes, flat_map}
 use Rattle.rdx_sexp.specs.Sexp.{Sexp, Sexps, leaf, list, nil, cons, Atom, integer, truth, text, symbol, keyword}
+use Rattle.rdx_term.specs.Spelling.{is_name}
 use Rattle.rdx_term.specs.Tree as tree
-use Rattle.rdx_lang.specs.Patterns.{Pattern, wild, nt, lit, except}
-use Rattle.rdx_lang.specs.WellFormed.{is_well_formed, have_known_nonterminals as are_well_formed}
+use Rattle.rdx_lang.specs.Patterns.{Pattern, wild, nt, lit, Items}
+use Rattle.rdx_lang.specs.Patterns as model
+use Rattle.rdx_lang.specs.WellFormed.{is_well_formed, have_known_nonterminals}
 use Rattle.rdx_lang.specs.declared.pattern.Kind.{Kind}
 use Rattle.rdx_lang.specs.declared.pattern.Ref.{Ref}
 use Rattle.rdx_lang.specs.declared.pattern.Ref.TheVariants.{Nt}
-use Rattle.rdx_grammar.specs.Checks.{is_among}
-use Rattle.rdx_grammar.specs.Languages.{ref_text}
-use Rattle.rdx_grammar.specs.Names.{kind_of, has_suffix, front}
-use Rattle.rdx_grammar.specs.Parts.{listed, are_symbols}
-use Rattle.rdx_grammar.specs.Reading.{base, base_of, by_base, other_symbol, suffixed, symbol_reading, atom_reading, texts, reading, reading_by, readings}
-use Rattle.rdx_grammar.specs.Stands.{head_among}
-use Rattle.rdx_grammar.specs.declared.patterns.Position.{Position}
-use Rattle.rdx_grammar.specs.declared.patterns.Position.TheVariants.{Grammar, Query}
-use Rattle.rdx_grammar.specs.declared.stands.Head.{Head}
-use Rattle.rdx_grammar.specs.declared.stands.Head.TheVariants.{Naming, Avoiding, Prefixing, Plain}
-use Rattle.rdx_grammar.proofs.Among.{is_among-texts}
-use Rattle.rdx_grammar.proofs.Booleans.{and_both}
+use Rattle.rdx_grammar.specs.Heads.{Head, naming, avoiding, prefixing, plain, Role, word, bound, spelt, pattern, Roles, roles_of, head_among, next, rest, is_shaped}
+use Rattle.rdx_grammar.specs.Kinds.{kind_of, is_among}
+use Rattle.rdx_grammar.specs.Names.{has_suffix, front}
+use Rattle.rdx_grammar.specs.Nonterminals.{ref_names}
+use Rattle.rdx_grammar.specs.Reading.{base, base_of, by_base, other_symbol, suffixed, symbol_reading, atom_reading, only, only_item, prefixed, bound_to, names_among, role_items, assembled, reading, items_among}
+use Rattle.rdx_grammar.specs.declared.patterns.position.Position.{Position}
+use Rattle.rdx_grammar.specs.declared.patterns.position.Position.TheVariants.{Grammar, Query}
+use Rattle.rdx_grammar.proofs.Among.{is_among-names}
+use Rattle.rdx_grammar.proofs.Booleans.{and_both, and_true}
 
 module _ (xs : List Ref) (pos : Position) where
   -- the names of the nonterminals
   abbrev ns : List (List ℕ)
-  ns = map ref_text xs
+  ns = flat_map ref_names xs
 
-  -- the test of a pattern
+  -- the test of a pattern, and of items
   abbrev wf : Pattern → Bool
   wf = is_well_formed xs
+
+  abbrev items-wf : Items → Bool
+  items-wf = have_known_nonterminals xs
 
   -- what is there passes
   abbrev Passes : Option Pattern → Type 0
@@ -37,7 +39,7 @@ module _ (xs : List Ref) (pos : Position) where
 
   -- a nonterminal
   nonterminal_passes : (x : List ℕ) → Passes (if is_among ns x then Some (nt (Nt x)) else None)
-  nonterminal_passes x = by_test (is_among ns x) (is_among-texts x xs)
+  nonterminal_passes x = by_test (is_among ns x) (is_among-names x xs)
     where
       by_test : (b : Bool) → b ≡ wf (nt (Nt x)) → Passes (if b then Some (nt (Nt x)) else None)
       by_test true e = sym e
@@ -72,13 +74,21 @@ module _ (xs : List Ref) (pos : Position) where
   by_base_wf Grammar x (Some q) h = h
   by_base_wf Query x (Some q) h = h
 
+  -- one that is a name
+  name_wf : (x : List ℕ) → wf (if is_name x then by_base ns pos x (base ns x) else wild) ≡ true
+  name_wf x = by_test (is_name x)
+    where
+      by_test : (b : Bool) → wf (if b then by_base ns pos x (base ns x) else wild) ≡ true
+      by_test true = by_base_wf pos x (base ns x) (base_passes x)
+      by_test false = refl
+
   -- each symbol
   symbol_wf : (x : List ℕ) → wf (symbol_reading ns pos x) ≡ true
   symbol_wf x = by_test (bytes_eq x (codes "_"))
     where
-      by_test : (b : Bool) → wf (if b then wild else by_base ns pos x (base ns x)) ≡ true
+      by_test : (b : Bool) → wf (if b then wild else if is_name x then by_base ns pos x (base ns x) else wild) ≡ true
       by_test true = refl
-      by_test false = by_base_wf pos x (base ns x) (base_passes x)
+      by_test false = name_wf x
 
   -- ---- data
 
@@ -90,44 +100,48 @@ module _ (xs : List Ref) (pos : Position) where
   atom_wf (symbol x) = symbol_wf x
   atom_wf (keyword k) = refl
 
-  -- a list that is headed by `variable-except`
-  avoiding_wf : (b : Bool) (ys : List (List ℕ)) → wf (if b then except ys else wild) ≡ true
-  avoiding_wf true ys = refl
-  avoiding_wf false ys = refl
+  -- one item, in front of others
+  role_wf : (o : Option Role) (p : Pattern) (ps : Items) → wf p ≡ true → items-wf ps ≡ true → items-wf (role_items o p ps) ≡ true
+  role_wf None p ps h k = k
+  role_wf (Some word) p ps h k = k
+  role_wf (Some bound) p ps h k = k
+  role_wf (Some spelt) p ps h k = k
+  role_wf (Some pattern) p ps h k = and_both (wf p) (items-wf ps) h k
+
+  -- what is bound to a name
+  bound_wf : (o : Option (List ℕ)) (ps : Items) → items-wf ps ≡ true → wf (bound_to o (only_item ps)) ≡ true
+  bound_wf None ps h = refl
+  bound_wf (Some x) model.nil h = refl
+  bound_wf (Some x) (model.one p model.nil) h = (and_true (wf p) true h).0
+  bound_wf (Some x) (model.one p (model.one q ps)) h = refl
+
+  -- what begins with a name
+  prefixed_wf : (o : Option (List ℕ)) → wf (prefixed o) ≡ true
+  prefixed_wf None = refl
+  prefixed_wf (Some x) = refl
+
+  -- a list of well-formed items
+  assembled_wf : (h : Head) (ys : List (List ℕ)) (ps : Items) → items-wf ps ≡ true → wf (assembled h ys ps) ≡ true
+  assembled_wf naming ys ps e = bound_wf (only ys) ps e
+  assembled_wf avoiding ys ps e = refl
+  assembled_wf prefixing ys ps e = prefixed_wf (only ys)
+  assembled_wf plain ys ps e = e
+
+  -- a list that may have its shape
+  shaped_wf : (b : Bool) (p : Pattern) → wf p ≡ true → wf (if b then p else wild) ≡ true
+  shaped_wf true p e = e
+  shaped_wf false p e = refl
 
   mutual
     -- a datum
-    pub reading_wf : (d : Sexp) → is_well_formed xs (reading (map ref_text xs) pos d) ≡ true
+    pub reading_wf : (d : Sexp) → is_well_formed xs (reading (flat_map ref_names xs) pos d) ≡ true
     reading_wf (leaf a s) = atom_wf a
-    reading_wf (list ds s) = by_head (head_among ds) ds
+    reading_wf (list ds s) =
+        let h = head_among ds in
+        shaped_wf (is_shaped ds) (assembled h (names_among (roles_of h) ds) (items_among ns pos (roles_of h) ds))
+        (assembled_wf h (names_among (roles_of h) ds) (items_among ns pos (roles_of h) ds) (items_wf (roles_of h) ds))
 
-    -- a list, by its head
-    by_head : (h : Head) (ds : Sexps) → wf (reading_by ns pos h ds) ≡ true
-    by_head Naming nil = refl
-    by_head Naming (cons h nil) = refl
-    by_head Naming (cons h (cons (leaf (symbol x) s) nil)) = refl
-    by_head Naming (cons h (cons (leaf (symbol x) s) (cons p nil))) = reading_wf p
-    by_head Naming (cons h (cons (leaf (symbol x) s) (cons p (cons q ds)))) = refl
-    by_head Naming (cons h (cons (leaf (integer n) s) ds)) = refl
-    by_head Naming (cons h (cons (leaf (truth b) s) ds)) = refl
-    by_head Naming (cons h (cons (leaf (text t) s) ds)) = refl
-    by_head Naming (cons h (cons (leaf (keyword k) s) ds)) = refl
-    by_head Naming (cons h (cons (list es s) ds)) = refl
-    by_head Avoiding nil = refl
-    by_head Avoiding (cons h ds) = avoiding_wf (are_symbols (listed ds)) (texts (listed ds))
-    by_head Prefixing nil = refl
-    by_head Prefixing (cons h nil) = refl
-    by_head Prefixing (cons h (cons (leaf (symbol x) s) nil)) = refl
-    by_head Prefixing (cons h (cons (leaf (symbol x) s) (cons p ds))) = refl
-    by_head Prefixing (cons h (cons (leaf (integer n) s) ds)) = refl
-    by_head Prefixing (cons h (cons (leaf (truth b) s) ds)) = refl
-    by_head Prefixing (cons h (cons (leaf (text t) s) ds)) = refl
-    by_head Prefixing (cons h (cons (leaf (keyword k) s) ds)) = refl
-    by_head Prefixing (cons h (cons (list es s) ds)) = refl
-    by_head Plain nil = refl
-    by_head Plain (cons d ds) = and_both (wf (reading ns pos d)) (are_well_formed xs (readings ns pos ds)) (reading_wf d) (readings_wf ds)
-
-    -- items of a list
-    readings_wf : (ds : Sexps) → are_well_formed xs (readings ns pos ds) ≡ true
-    readings_wf nil = refl
-    readings_wf (cons d ds) = and_both (wf (reading ns pos d)) (are_well_formed xs (readings ns pos ds)) (reading_wf d) (readings_wf ds)
+    -- items in these roles
+    items_wf : (rs : Roles) (ds : Sexps) → items-wf (items_among ns pos rs ds) ≡ true
+    items_wf rs nil = refl
+    items_wf rs (cons d ds) = role_wf (next rs) (reading ns pos d) (items_among ns pos (rest rs) ds) (reading_wf d) (items_wf (rest rs) ds)

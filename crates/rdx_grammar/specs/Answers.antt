@@ -1,23 +1,19 @@
 -- What the readers answer.
-use Rattle.std.specs.Prelude.{◌≡◌, ℕ, List, Option, Some, None, option_map, Result, Ok, Err}
-use Rattle.std.specs.Rc.{rc_str_bytes}
+use Rattle.std.specs.Prelude.{◌≡◌, ℕ, List, Option, Some, None, IsTrue, Result, Ok, Err}
 use Rattle.rdx_sexp.specs.Sexp.{Sexp}
 use Rattle.rdx_lang.specs.Checked.{language_in, pattern_in}
 use Rattle.rdx_lang.specs.Patterns.{Language}
+use Rattle.rdx_lang.specs.WellFormed.{is_well_formed, defined}
 use Rattle.rdx_lang.specs.declared.checked.CheckedLang.{CheckedLang}
 use Rattle.rdx_lang.specs.declared.checked.CheckedPat.{CheckedPat}
-use Rattle.rdx_grammar.specs.Languages.{GrammarForm}
+use Rattle.rdx_grammar.specs.Forms.{GrammarForm}
+use Rattle.rdx_grammar.specs.PatternRefusal.{pattern_refusal}
 use Rattle.rdx_grammar.specs.Reading.{reading}
-use Rattle.rdx_grammar.specs.Refusal.{Refusal}
-use Rattle.rdx_grammar.specs.Refused.{IsLanguage, IsRefused, pattern_refusal}
-use Rattle.rdx_grammar.specs.declared.fault.DefFault.{DefFault}
-use Rattle.rdx_grammar.specs.declared.fault.DefFault.TheVariants.{Refused, NoMemory}
-use Rattle.rdx_grammar.specs.declared.fault.DefRefusal.{DefRefusal}
-use Rattle.rdx_grammar.specs.declared.patterns.Position.TheVariants.{Query}
-
--- the refusal that a refusal of the code stands for
-abbrev pub refusal_of : DefRefusal → Refusal
-refusal_of r = record { kind = r.kind; place = r.place; name = option_map rc_str_bytes r.name }
+use Rattle.rdx_grammar.specs.Refusal.{refusal_of}
+use Rattle.rdx_grammar.specs.Refused.{IsLanguage, IsRefused}
+use Rattle.rdx_grammar.specs.declared.shape.fault.DefFault.{DefFault}
+use Rattle.rdx_grammar.specs.declared.shape.fault.DefFault.TheVariants.{Refused, NoMemory}
+use Rattle.rdx_grammar.specs.declared.patterns.position.Position.TheVariants.{Query}
 
 -- the form is refused so, unless memory ran out
 abbrev pub IsFaultOf : Language → Sexp → Option GrammarForm → DefFault → Type 0
@@ -28,6 +24,10 @@ IsFaultOf base d g NoMemory = Unit {0}
 abbrev pub ReadsForm : Language → Sexp → Option GrammarForm → Result CheckedLang DefFault → Type 0
 ReadsForm base d g (Ok c) = IsLanguage base d g (language_in c)
 ReadsForm base d g (Err e) = IsFaultOf base d g e
+
+-- the pattern names only nonterminals of the language
+abbrev pub IsWellFormedIn : Language → CheckedPat → Type 0
+IsWellFormedIn L c = IsTrue (is_well_formed (defined L) (pattern_in c))
 
 -- the datum is refused so as a pattern, unless memory ran out
 abbrev pub IsPatternFault : List (List ℕ) → Sexp → DefFault → Type 0

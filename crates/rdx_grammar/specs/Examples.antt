@@ -5,9 +5,10 @@ use Rattle.rdx_sexp.specs.Sexp.{symbol, Sexp, leaf, list, sexps}
 use Rattle.rdx_lang.specs.Patterns.{of_kind, Language}
 use Rattle.rdx_lang.specs.declared.pattern.Kind.TheVariants.{Any, Number, Text, Boolean}
 use Rattle.rdx_lang.specs.declared.pattern.Ref.TheVariants.{Nt}
-use Rattle.rdx_grammar.specs.Languages.{empty_language, language_form, extension_form}
+use Rattle.rdx_grammar.specs.Forms.{language_form, extension_form}
+use Rattle.rdx_grammar.specs.Languages.{empty_language}
 use Rattle.rdx_grammar.specs.Refused.{IsLanguage, IsRefused}
-use Rattle.rdx_grammar.specs.declared.fault.DefKind.TheVariants.{Duplicate}
+use Rattle.rdx_grammar.specs.declared.shape.fault.DefKind.TheVariants.{Duplicate}
 
 -- a symbol, and a list
 abbrev pub word : Span → List ℕ → Sexp
@@ -60,4 +61,6 @@ defined_twice =
 -- The symbol `foo_1`, which is no pattern, stands before the second `e`. But the check for nonterminals that are defined twice has a lesser
 -- number than that of patterns, so the second `e` is reported.
 abbrev pub LeastCheckFirst : Type 0
-LeastCheckFirst = IsRefused empty_language defined_twice (language_form defined_twice) (record { kind = Duplicate; place = record { line = 1; column = 31 }; name = Some (codes "e") })
+LeastCheckFirst =
+    IsRefused empty_language defined_twice (language_form defined_twice)
+    (record { kind = Duplicate; place = record { line = 1; column = 31 }; name = Some (codes "e") })

@@ -1,19 +1,20 @@
 -- The pattern that a datum stands for. A datum that is refused has a pattern too, which counts for nothing.
-use Rattle.std.specs.Prelude.{ℕ, List, Option, Some, None, map, codes, bytes_eq, if◌then◌else◌}
+use Rattle.std.specs.Prelude.{ℕ, Bool, true, false, List, [], ◌∷◌, ◌++◌, Option, Some, None, codes, bytes_eq, if◌then◌else◌}
 use Rattle.rdx_sexp.specs.Sexp.{Atom, integer, truth, text, symbol, keyword, Sexp, Sexps, leaf, list, nil, cons}
+use Rattle.rdx_term.specs.Spelling.{is_name}
 use Rattle.rdx_term.specs.Tree as tree
 use Rattle.rdx_lang.specs.Patterns.{Pattern, wild, of_kind, except, prefix, lit, nt, named, seq, Items}
 use Rattle.rdx_lang.specs.Patterns as model
 use Rattle.rdx_lang.specs.declared.pattern.Kind.{Kind}
 use Rattle.rdx_lang.specs.declared.pattern.Ref.TheVariants.{Nt}
-use Rattle.rdx_grammar.specs.Checks.{is_among}
-use Rattle.rdx_grammar.specs.Names.{kind_of, has_suffix, front}
-use Rattle.rdx_grammar.specs.Parts.{listed, text_of, are_symbols}
-use Rattle.rdx_grammar.specs.Stands.{head_among}
-use Rattle.rdx_grammar.specs.declared.patterns.Position.{Position}
-use Rattle.rdx_grammar.specs.declared.patterns.Position.TheVariants.{Grammar, Query}
-use Rattle.rdx_grammar.specs.declared.stands.Head.{Head}
-use Rattle.rdx_grammar.specs.declared.stands.Head.TheVariants.{Naming, Avoiding, Prefixing, Plain}
+use Rattle.rdx_grammar.specs.Heads.{Head, naming, avoiding, prefixing, plain, Role, word, bound, spelt, pattern, Roles, roles_of, head_among, next, rest, is_shaped}
+use Rattle.rdx_grammar.specs.Kinds.{kind_of, is_among}
+use Rattle.rdx_grammar.specs.Names.{has_suffix, front}
+use Rattle.rdx_grammar.specs.Parts.{text_of}
+use Rattle.rdx_grammar.specs.declared.patterns.position.Position.{Position}
+use Rattle.rdx_grammar.specs.declared.patterns.position.Position.TheVariants.{Grammar, Query}
+
+-- ---- symbols
 
 -- the built-in name or the nonterminal of this name, over these nonterminals
 abbrev pub base_of : List (List ℕ) → List ℕ → Option Kind → Option Pattern
@@ -43,9 +44,12 @@ abbrev pub by_base : List (List ℕ) → Position → List ℕ → Option Patter
 by_base ns pos x (Some p) = unsuffixed pos x p
 by_base ns pos x None = other_symbol ns x
 
--- a symbol: `_` matches everything and binds nothing
+-- a symbol: `_` matches everything and binds nothing; `hole`, which is no name, is refused
 abbrev pub symbol_reading : List (List ℕ) → Position → List ℕ → Pattern
-symbol_reading ns pos x = if bytes_eq x (codes "_") then wild else by_base ns pos x (base ns x)
+symbol_reading ns pos x =
+    if bytes_eq x (codes "_") then wild
+    else if is_name x then by_base ns pos x (base ns x)
+    else wild
 
 -- numbers, booleans and strings stand for themselves; a keyword is refused
 abbrev pub atom_reading : List (List ℕ) → Position → Atom → Pattern
@@ -55,28 +59,75 @@ atom_reading ns pos (text t) = lit (tree.text t)
 atom_reading ns pos (symbol x) = symbol_reading ns pos x
 atom_reading ns pos (keyword k) = wild
 
--- the texts of symbols
-abbrev pub texts : List Sexp → List (List ℕ)
-texts ds = map text_of ds
+-- ---- lists
+
+-- the name that a symbol is, where it is one
+abbrev pub name_in : Sexp → List (List ℕ)
+name_in d = if is_name (text_of d) then text_of d ∷ [] else []
+
+-- what an item in this role gives as a name
+abbrev pub role_names : Option Role → Sexp → List (List ℕ)
+role_names None d = []
+role_names (Some word) d = []
+role_names (Some bound) d = name_in d
+role_names (Some spelt) d = name_in d
+role_names (Some pattern) d = []
+
+-- the names among items in these roles
+abbrev pub names_among : Roles → Sexps → List (List ℕ)
+names_among rs nil = []
+names_among rs (cons d ds) = role_names (next rs) d ++ names_among (rest rs) ds
+
+-- an item in this role is a pattern
+abbrev pub is_pattern : Option Role → Bool
+is_pattern None = false
+is_pattern (Some word) = false
+is_pattern (Some bound) = false
+is_pattern (Some spelt) = false
+is_pattern (Some pattern) = true
+
+-- the item patterns, with this one in front where it is one
+abbrev pub role_items : Option Role → Pattern → Items → Items
+role_items o p ps = if is_pattern o then model.one p ps else ps
+
+-- the member of a list of one
+abbrev pub only : {A : Type 0} → List A → Option A
+only (x ∷ []) = Some x
+only xs = None
+
+-- the item pattern of a list pattern of one
+abbrev pub only_item : Items → Option Pattern
+only_item (model.one p model.nil) = Some p
+only_item ps = None
+
+-- what begins with this name, where there is one
+abbrev pub prefixed : Option (List ℕ) → Pattern
+prefixed None = wild
+prefixed (Some x) = prefix x
+
+-- this pattern bound to this name, where there are both
+abbrev pub bound_to : Option (List ℕ) → Option Pattern → Pattern
+bound_to None o = wild
+bound_to (Some x) None = wild
+bound_to (Some x) (Some p) = named x p
+
+-- a list with such a head, put together from the names and the patterns among its items
+abbrev pub assembled : Head → List (List ℕ) → Items → Pattern
+assembled naming xs ps = bound_to (only xs) (only_item ps)
+assembled avoiding xs ps = except xs
+assembled prefixing xs ps = prefixed (only xs)
+assembled plain xs ps = seq ps
 
 abbrev mutual
-  -- over these nonterminals, in a grammar or outside
+  -- the pattern of a datum over these nonterminals, in a grammar or outside; a list without its shape is refused
   pub reading : List (List ℕ) → Position → Sexp → Pattern
   reading ns pos (leaf a s) = atom_reading ns pos a
-  reading ns pos (list ds s) = reading_by ns pos (head_among ds) ds
+  reading ns pos (list ds s) =
+      if is_shaped ds
+      then assembled (head_among ds) (names_among (roles_of (head_among ds)) ds) (items_among ns pos (roles_of (head_among ds)) ds)
+      else wild
 
-  -- a list with such a head
-  pub reading_by : List (List ℕ) → Position → Head → Sexps → Pattern
-  reading_by ns pos Naming (cons h (cons (leaf (symbol x) s) (cons p nil))) = named x (reading ns pos p)
-  reading_by ns pos Naming ds = wild
-  reading_by ns pos Avoiding (cons h ds) = if are_symbols (listed ds) then except (texts (listed ds)) else wild
-  reading_by ns pos Avoiding nil = wild
-  reading_by ns pos Prefixing (cons h (cons (leaf (symbol x) s) nil)) = prefix x
-  reading_by ns pos Prefixing ds = wild
-  reading_by ns pos Plain nil = seq model.nil
-  reading_by ns pos Plain (cons d ds) = seq (model.one (reading ns pos d) (readings ns pos ds))
-
-  -- the items of a list pattern
-  pub readings : List (List ℕ) → Position → Sexps → Items
-  readings ns pos nil = model.nil
-  readings ns pos (cons d ds) = model.one (reading ns pos d) (readings ns pos ds)
+  -- the item patterns among items in these roles
+  pub items_among : List (List ℕ) → Position → Roles → Sexps → Items
+  items_among ns pos rs nil = model.nil
+  items_among ns pos rs (cons d ds) = role_items (next rs) (reading ns pos d) (items_among ns pos (rest rs) ds)

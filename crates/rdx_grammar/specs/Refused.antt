@@ -1,35 +1,33 @@
--- When a form is refused, and which language it is else.
-use Rattle.std.specs.Prelude.{◌≡◌, ℕ, List, [], Option, Some, None, option_map, if◌then◌else◌}
+-- When a form that defines a language is refused, and which language it is else.
+use Rattle.std.specs.Prelude.{◌≡◌, ℕ, List, [], ◌∷◌, Option, Some, None, option_map}
 use Rattle.rdx_sexp.specs.Sexp.{Sexp}
 use Rattle.rdx_lang.specs.Edges.{IsFree, IsFirstRecursive}
 use Rattle.rdx_lang.specs.Patterns.{Language}
 use Rattle.rdx_lang.specs.declared.pattern.Ref.TheVariants.{Nt}
 use Rattle.rdx_grammar.specs.Checks.{shape_faults, repeats, bad_names, bad_patterns}
-use Rattle.rdx_grammar.specs.Languages.{GrammarForm, all_names, empty_language, form_stands, language_over}
-use Rattle.rdx_grammar.specs.Refusal.{Refusal, unnamed, named, named_at, or_else, first}
-use Rattle.rdx_grammar.specs.Stands.{Stand, stands}
-use Rattle.rdx_grammar.specs.Unbuilt.{has_word_to_come}
-use Rattle.rdx_grammar.specs.declared.fault.DefKind.TheVariants.{Unbuilt, Shape, Duplicate, BadName, BadPattern, LeftRecursive}
+use Rattle.rdx_grammar.specs.Forms.{GrammarForm}
+use Rattle.rdx_grammar.specs.Languages.{language_over}
+use Rattle.rdx_grammar.specs.Nonterminals.{all_names}
+use Rattle.rdx_grammar.specs.Refusal.{Refusal, unnamed, named, named_at, first, first_refusal}
+use Rattle.rdx_grammar.specs.Stands.{Stand, form_stands}
+use Rattle.rdx_grammar.specs.Unbuilt.{unbuilt_at}
+use Rattle.rdx_grammar.specs.declared.shape.fault.DefKind.TheVariants.{Shape, Duplicate, BadName, BadPattern, LeftRecursive}
 
 -- ---- check by check: the first place at which each refuses
 
--- a word of a form to come stands in the datum
-abbrev pub unbuilt_at : Sexp → Option Refusal
-unbuilt_at d = if has_word_to_come d then Some (unnamed Unbuilt d) else None
-
--- a form, a definition or a pattern has not its shape
+-- S1: a form or a definition has not its shape, or a keyword stands in a pattern
 abbrev pub shape_at : List Stand → Option Refusal
 shape_at ss = option_map (unnamed Shape) (first (shape_faults ss))
 
--- a nonterminal is defined twice
+-- S3: a nonterminal is defined twice
 abbrev pub duplicate_at : List Stand → Option Refusal
 duplicate_at ss = option_map (named Duplicate) (first (repeats [] ss))
 
--- a name is defined or bound that may not be
+-- S4: a name is defined or bound that may not be
 abbrev pub bad_name_at : List Stand → Option Refusal
 bad_name_at ss = option_map (named BadName) (first (bad_names ss))
 
--- a pattern means nothing
+-- S5: a pattern means nothing
 abbrev pub bad_pattern_at : Language → List (List ℕ) → List Stand → Option Refusal
 bad_pattern_at base ns ss = option_map (unnamed BadPattern) (first (bad_patterns base ns ss))
 
@@ -43,10 +41,15 @@ names_over base (Some g) = all_names base g.definitions
 -- the check with the least number that refuses a form with these parts over a base, but for left recursion
 abbrev pub refusal_over : Language → Sexp → Option GrammarForm → Option Refusal
 refusal_over base d g =
-    or_else (unbuilt_at d) (or_else (shape_at (form_stands d g)) (or_else (duplicate_at (form_stands d g))
-    (or_else (bad_name_at (form_stands d g)) (bad_pattern_at base (names_over base g) (form_stands d g)))))
+    first_refusal
+    (unbuilt_at d  -- S0
+    ∷ shape_at (form_stands d g)  -- S1
+    ∷ duplicate_at (form_stands d g)  -- S3
+    ∷ bad_name_at (form_stands d g)  -- S4
+    ∷ bad_pattern_at base (names_over base g) (form_stands d g)  -- S5
+    ∷ [])
 
--- the language of the form d is left-recursive at x; the place is that of the form
+-- S7, LeftRecursive: the language of the form d is left-recursive at x; the place is that of the form
 abbrev pub recursion_at : Sexp → List ℕ → Refusal
 recursion_at d x = named_at LeftRecursive d x
 
@@ -62,9 +65,3 @@ pub record IsLanguage (base : Language) (d : Sexp) (g : Option GrammarForm) (L :
 pub data IsRefused (base : Language) (d : Sexp) (g : Option GrammarForm) (r : Refusal) : Type 0 where
   by_check : refusal_over base d g ≡ Some r → IsRefused base d g r
   by_recursion : (parts : GrammarForm) (x : List ℕ) → refusal_over base d g ≡ None → g ≡ Some parts → IsFirstRecursive (language_over base parts) (Nt x) → r ≡ recursion_at d x → IsRefused base d g r
-
--- ---- patterns by themselves
-
--- the check with the least number that refuses a pattern outside grammars, over these nonterminals
-abbrev pub pattern_refusal : List (List ℕ) → Sexp → Option Refusal
-pattern_refusal ns d = or_else (unbuilt_at d) (or_else (shape_at (stands d)) (or_else (bad_name_at (stands d)) (bad_pattern_at empty_language ns (stands d))))

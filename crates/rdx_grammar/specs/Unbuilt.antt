@@ -1,8 +1,10 @@
--- Forms and words that are not built yet.
-use Rattle.std.specs.Prelude.{ℕ, Bool, false, not, ◌&&◌, ◌||◌, List, [], ◌∷◌, codes, bytes_eq, nat_eq}
+-- S0: forms and words that are not built yet.
+use Rattle.std.specs.Prelude.{ℕ, Bool, false, not, ◌&&◌, ◌||◌, List, [], ◌∷◌, Option, Some, None, codes, bytes_eq, nat_eq, if◌then◌else◌}
 use Rattle.std.specs.List.{starts_with}
 use Rattle.rdx_sexp.specs.Sexp.{integer, truth, text, symbol, keyword, Atom, Sexp, Sexps, leaf, list, nil, cons}
 use Rattle.rdx_grammar.specs.Names.{is_one_of, begins_with_dots, is_inherited}
+use Rattle.rdx_grammar.specs.Refusal.{Refusal, unnamed}
+use Rattle.rdx_grammar.specs.declared.shape.fault.DefKind.TheVariants.{Unbuilt}
 
 -- the words that forms to come are written with
 abbrev pub words_to_come : List (List ℕ)
@@ -38,3 +40,7 @@ abbrev mutual
   pub have_word_to_come : Sexps → Bool
   have_word_to_come nil = false
   have_word_to_come (cons d ds) = has_word_to_come d || have_word_to_come ds
+
+-- S0, Unbuilt: such a word stands in the datum, which is refused as a whole
+abbrev pub unbuilt_at : Sexp → Option Refusal
+unbuilt_at d = if has_word_to_come d then Some (unnamed Unbuilt d) else None

@@ -1,6 +1,6 @@
 //! Laws of the definitions: functions that do nothing, whose contracts are the laws.
 ghost use Rattle.rdx_grammar.specs.Examples.{InheritsInPlace, LeastCheckFirst};
-ghost use Rattle.rdx_grammar.specs.Laws.{OneLanguage, OneRefusal, LanguageOrRefusal, OnePattern, OnePatternRefusal, PatternOrRefusal};
+ghost use Rattle.rdx_grammar.specs.Laws.{OneLanguage, OneRefusal, NeverBothLanguage, OnePattern, OnePatternRefusal, NeverBothPattern, NeverNeitherPattern, InOrder, WildsAreWritten};
 
 /// A form over a base is one language at most.
 pub fn one_language()
@@ -13,15 +13,26 @@ pub fn one_refusal()
 {}
 
 /// A form that is a language isn't refused.
-pub fn language_or_refusal()
-    ensures { LanguageOrRefusal }
+pub fn never_both_language_and_refusal()
+    ensures { NeverBothLanguage }
 {}
 
-/// A datum is one pattern over given nonterminals at most, or it has one refusal.
+/// A datum is one pattern over given nonterminals at most, or has one refusal at most, and always one of both.
 pub fn one_pattern()
     ensures pattern { OnePattern }
     ensures refusal { OnePatternRefusal }
-    ensures either { PatternOrRefusal }
+    ensures never_both { NeverBothPattern }
+    ensures never_neither { NeverNeitherPattern }
+{}
+
+/// What stands in a pattern stands in the order of its parts, and each part is at most one thing that stands there.
+pub fn order_of_occurrences()
+    ensures { InOrder }
+{}
+
+/// The reading of a datum that passes the checks has the pattern that matches everything for each `_`, and for nothing else.
+pub fn wilds_are_written()
+    ensures { WildsAreWritten }
 {}
 
 /// Worked examples: the language that an extension is, and the refusal of a form that two checks refuse.

@@ -1,63 +1,84 @@
 -- The worked examples hold.
 use Rattle.std.proofs.Common.{◌≡◌, ◌⊎◌, ℕ, pos, List, [], ◌∷◌, ◌++◌, None, inl, inr, refl, ap, sym, subst, codes, arith}
-use Rattle.std.specs.Prelude.{decimal}
+use Rattle.std.specs.Str.{chars}
+use Rattle.std.specs.Prelude.{decimal, true}
 use Rattle.std.proofs.lemmas.Fmt.{decimal_digit}
 use Rattle.rdx_base.specs.declared.place.Span.{Span}
 use Rattle.rdx_term.specs.Tree as tree
 use Rattle.rdx_lang.specs.Bindings.{Pair, Binding}
 use Rattle.rdx_lang.specs.Bindings.{one as one_term}
-use Rattle.rdx_lang.specs.Edges.{Reaches, at_once, further, edge_nt, IsFree}
+use Rattle.rdx_lang.specs.Edges.{Reaches, at_once, further, edge_nt, IsFree, IsFirstRecursive}
 use Rattle.rdx_lang.specs.Join.{IsJoin}
 use Rattle.rdx_lang.proofs.JoinLaws.{one_join}
 use Rattle.rdx_lang.specs.Listing.{IsListing, Matches}
 use Rattle.rdx_lang.specs.Members.{In, here, there}
 use Rattle.rdx_lang.specs.Order.{binding_cmp}
 use Rattle.rdx_lang.specs.Patterns.{Pattern, of_kind, lit, nt, named, seq, nil, one, Definition, Language}
-use Rattle.rdx_lang.specs.Rules.{Match, IsAlternative, match_kind, match_lit, match_named, match_seq, match_none, match_one}
+use Rattle.rdx_lang.specs.Rules.{Match, IsAlternative, match_kind, match_lit, match_nt, match_named, match_seq, match_none, match_one}
 use Rattle.rdx_lang.specs.declared.pattern.Kind.TheVariants.{Any}
 use Rattle.rdx_lang.specs.declared.pattern.Ref.{Ref}
 use Rattle.rdx_lang.specs.declared.pattern.Ref.TheVariants.{Nt}
 use Rattle.rdx_query.specs.AnswerText.{matches_text}
 use Rattle.rdx_query.specs.Answering.{no_answers, more_answers}
-use Rattle.rdx_query.specs.Examples.{defines_L, AnswersInOrder, FirstRefusedForm, EarlierLanguagesOnly}
-use Rattle.rdx_query.specs.File.{Defines, by_check, accepts_none, accepts_language, accepts_query, refuses_here, refuses_behind_language}
-use Rattle.rdx_query.specs.FormReadings.{matches}
+use Rattle.rdx_query.specs.Definitions.{language}
+use Rattle.rdx_query.specs.Examples.{defines_L, AnswersInOrder, WholeAnswer, Inherited, FirstRefusedForm, EarlierLanguagesOnly, TakenName, HostExpression, FewItems, LeftRecursion}
+use Rattle.rdx_query.specs.File.{Defines, by_check, by_recursion, accepts_none, accepts_definition, accepts_query, refuses_here, refuses_behind_definition}
+use Rattle.rdx_query.specs.Known.{nothing}
+use Rattle.rdx_query.specs.Queries.{matches, whether}
 
--- ---- the language L
+-- ---- languages with one nonterminal e, whose alternatives are literals
+
+-- these integers as patterns
+abbrev literals : List ℕ → List Pattern
+literals [] = []
+literals (n ∷ ns) = lit (tree.integer (pos n)) ∷ literals ns
+
+-- the language of this name
+abbrev literal_language : List ℕ → List ℕ → Language
+literal_language x ns = record { name = x; nonterminals = (Nt (codes "e"), literals ns) ∷ [] }
 
 -- what `(define-language L (e 1))` defines
 abbrev L : Language
-L = record { name = codes "L"; nonterminals = (Nt (codes "e"), lit (tree.integer (pos 1)) ∷ []) ∷ [] }
+L = literal_language (codes "L") (1 ∷ [])
 
--- the alternatives of its one definition
-only_alternatives : (x : Ref) (ps : List Pattern) → In (x, ps) L.nonterminals → ps ≡ lit (tree.integer (pos 1)) ∷ []
-only_alternatives x ps (here e) = ap (λ (d : Definition). d.1) e
-only_alternatives x ps (there i) = elim i [ ]
+-- what `(define-extended-language M L (e ....))` defines
+abbrev M : Language
+M = literal_language (codes "M") (1 ∷ [])
 
 -- the member of a list of one
 only_member : {A : Type 0} (x y : A) → In x (y ∷ []) → x ≡ y
 only_member x y (here e) = e
 only_member x y (there i) = elim i [ ]
 
--- its one alternative
-only_alternative : (x : Ref) (p : Pattern) → IsAlternative L x p → p ≡ lit (tree.integer (pos 1))
-only_alternative x p a =
-    only_member p (lit (tree.integer (pos 1))) (subst (λ (ps : List Pattern). In p ps) (only_alternatives x a.all a.defined) a.among)
+-- an alternative is one of the literals
+among_literals : (x : List ℕ) (ns : List ℕ) (y : Ref) (p : Pattern) → IsAlternative (literal_language x ns) y p → In p (literals ns)
+among_literals x ns y p a =
+    subst (λ (ps : List Pattern). In p ps) (ap (λ (d : Definition). d.1) (only_member (y, a.all) (Nt (codes "e"), literals ns) a.defined)) a.among
 
--- nothing is reached from a literal
-none_from_literals : (t : tree.Tree) (q : Pattern) → Reaches L (lit t) q → ⊥
-none_from_literals t q (at_once e) = elim e [ ]
-none_from_literals t q (further e r) = elim e [ ]
+-- nothing is reached from them
+none_from : (x : List ℕ) (ns ms : List ℕ) (p q : Pattern) → In p (literals ms) → Reaches (literal_language x ns) p q → ⊥
+none_from x ns [] p q i r = elim i [ ]
+none_from x ns (m ∷ ms) p q (here e) r = from_literal (subst (λ (o : Pattern). Reaches (literal_language x ns) o q) e r)
+  where
+    from_literal : Reaches (literal_language x ns) (lit (tree.integer (pos m))) q → ⊥
+    from_literal (at_once f) = elim f [ ]
+    from_literal (further f h) = elim f [ ]
+none_from x ns (m ∷ ms) p q (there i) r = none_from x ns ms p q i r
+
+-- no literal is a nonterminal
+not_literal : (ms : List ℕ) (y : Ref) → In (nt y) (literals ms) → ⊥
+not_literal [] y i = elim i [ ]
+not_literal (m ∷ ms) y (here e) = absurd cc
+not_literal (m ∷ ms) y (there i) = not_literal ms y i
 
 -- no nonterminal reaches itself
-free : IsFree L
-free x (at_once (edge_nt a)) = let e : nt x ≡ lit (tree.integer (pos 1)) = only_alternative x (nt x) a in absurd cc
-free x (further (edge_nt {p = p} a) r) =
-    none_from_literals (tree.integer (pos 1)) (nt x) (subst (λ (q : Pattern). Reaches L q (nt x)) (only_alternative x p a) r)
+free : (x : List ℕ) (ns : List ℕ) → IsFree (literal_language x ns)
+free x ns y (at_once (edge_nt a)) = not_literal ns y (among_literals x ns y (nt y) a)
+free x ns y (further (edge_nt {p = p} a) r) = none_from x ns ns p (nt y) (among_literals x ns y p a) r
 
--- the form defines it
-defines : (s : Span) → Defines [] (defines_L s) L
-defines s = record { passes = refl; means = refl; free = free }
+-- the forms define them
+defines : (s : Span) → Defines nothing (defines_L s) (language L)
+defines s = record { passes = refl; means = refl; sound = free (codes "L") (1 ∷ []) }
 
 -- ---- listings
 
@@ -137,6 +158,37 @@ only_nothing b (match_lit e) = refl
 second_listing : Matches L (lit (tree.integer (pos 1))) (tree.integer (pos 1)) ([] ∷ [])
 second_listing = one_alone [] (match_lit refl) only_nothing
 
+-- ---- the queries for e
+
+-- the pattern `e`
+abbrev named_e : Pattern
+named_e = named (codes "e") (nt (Nt (codes "e")))
+
+-- it matches 1 with one binding
+e_listing : (x : List ℕ) → Matches (literal_language x (1 ∷ [])) named_e (tree.integer (pos 1)) (binds (codes "e") 1 ∷ [])
+e_listing x =
+    one_alone (binds (codes "e") 1)
+    (match_named (match_nt (record { all = literals (1 ∷ []); defined = here refl; among = here refl }) (match_lit refl)) (with_nothing (codes "e") 1))
+    only
+  where
+    only : (b : Binding) → Match (literal_language x (1 ∷ [])) named_e (tree.integer (pos 1)) b → b ≡ binds (codes "e") 1
+    only b (match_named (match_nt a h) j) = one_join [] (binds (codes "e") 1) b (binds (codes "e") 1) j (with_nothing (codes "e") 1)
+
+-- a literal matches no other
+other_literal : (c : Binding) → Match L (lit (tree.integer (pos 1))) (tree.integer (pos 2)) c → ⊥
+other_literal c (match_lit f) = absurd cc
+
+-- and 2 with none
+no_match : (p : Pattern) (c : Binding) → p ≡ lit (tree.integer (pos 1)) → Match L p (tree.integer (pos 2)) c → ⊥
+no_match p c e h = other_literal c (subst (λ (q : Pattern). Match L q (tree.integer (pos 2)) c) e h)
+
+none_listing : Matches L named_e (tree.integer (pos 2)) []
+none_listing = record { ascending = tt; sound = λ b i. elim i [ ]; complete = λ b h. absurd (none b h) }
+  where
+    none : (b : Binding) → Match L named_e (tree.integer (pos 2)) b → ⊥
+    none b (match_named (match_nt {x = y} {p = p} {c = c} a h) j) =
+        no_match p c (only_member p (lit (tree.integer (pos 1))) (among_literals (codes "L") (1 ∷ []) y p a)) h
+
 -- ---- what is printed
 
 one_digit : codes "1" ≡ decimal 1
@@ -155,19 +207,76 @@ second_printed = λ i. codes "match " ++ one_digit i ++ codes "\n" ++ (codes "  
 -- ---- the examples
 
 pub answers_in_order : AnswersInOrder
+unfolding chars
 answers_in_order s = record {
-  languages = L ∷ [];
+  known = record { languages = L ∷ [] };
   queries = matches (codes "L") pattern pair ∷ matches (codes "L") (lit (tree.integer (pos 1))) (tree.integer (pos 1)) ∷ [];
   accepted =
-      accepts_language (defines s) (accepts_query (record { passes = refl; means = refl }) (accepts_query (record { passes = refl; means = refl }) accepts_none));
+      accepts_definition (defines s) (accepts_query (record { passes = refl; means = refl }) (accepts_query (record { passes = refl; means = refl }) accepts_none));
   answers =
-      more_answers (codes "match 1\n  any_x = 2, any_y = 1\n") (codes "match 1\n  -\n")
-      (record { language = L; known = refl; found = both ∷ []; listing = first_listing; printed = first_printed })
-      (more_answers (codes "match 1\n  -\n") [] (record { language = L; known = refl; found = [] ∷ []; listing = second_listing; printed = second_printed }) no_answers);
+      more_answers (codes "match 1\n  any_x = 2, any_y = 1\n") (codes "match 1\n  -\n") true true
+      (record { found = both ∷ []; finds = record { language = L; known = refl; listing = first_listing }; printed = first_printed; is_met = refl })
+      (more_answers (codes "match 1\n  -\n") [] true true
+      (record { found = [] ∷ []; finds = record { language = L; known = refl; listing = second_listing }; printed = second_printed; is_met = refl }) no_answers);
 }
 
 pub first_refused_form : FirstRefusedForm
-first_refused_form s m = refuses_behind_language (defines s) (refuses_here (by_check refl))
+first_refused_form s m = refuses_behind_definition (defines s) (refuses_here (by_check refl))
 
 pub earlier_languages_only : EarlierLanguagesOnly
 earlier_languages_only s l = refuses_here (by_check refl)
+
+pub whole_answer : WholeAnswer
+unfolding chars
+whole_answer s = record {
+  known = record { languages = L ∷ [] };
+  queries = whether (codes "L") named_e (tree.integer (pos 1)) ∷ whether (codes "L") named_e (tree.integer (pos 2)) ∷ [];
+  accepted =
+      accepts_definition (defines s) (accepts_query (record { passes = refl; means = refl }) (accepts_query (record { passes = refl; means = refl }) accepts_none));
+  answers =
+      more_answers (codes "matches #t\n") (codes "matches #f\n") true true
+      (record { found = binds (codes "e") 1 ∷ []; finds = record { language = L; known = refl; listing = e_listing (codes "L") }; printed = refl; is_met = refl })
+      (more_answers (codes "matches #f\n") [] true true
+      (record { found = []; finds = record { language = L; known = refl; listing = none_listing }; printed = refl; is_met = refl }) no_answers);
+}
+
+pub inherited : Inherited
+unfolding chars
+inherited s = record {
+  known = record { languages = L ∷ M ∷ [] };
+  queries = whether (codes "M") named_e (tree.integer (pos 1)) ∷ [];
+  accepted =
+      accepts_definition (defines s)
+      (accepts_definition (record { passes = refl; means = refl; sound = free (codes "M") (1 ∷ []) }) (accepts_query (record { passes = refl; means = refl }) accepts_none));
+  answers =
+      more_answers (codes "matches #t\n") [] true true
+      (record { found = binds (codes "e") 1 ∷ []; finds = record { language = M; known = refl; listing = e_listing (codes "M") }; printed = refl; is_met = refl }) no_answers;
+}
+
+pub taken_name : TakenName
+taken_name s l = refuses_behind_definition (defines s) (refuses_here (by_check refl))
+
+pub host_expression : HostExpression
+host_expression s = refuses_here (by_check refl)
+
+pub few_items : FewItems
+few_items s = refuses_here (by_check refl)
+
+-- what `(define-language L (e e))` defines
+abbrev looping : Language
+looping = record { name = codes "L"; nonterminals = (Nt (codes "e"), nt (Nt (codes "e")) ∷ []) ∷ [] }
+
+-- its nonterminal reaches itself
+loops : IsFirstRecursive looping (Nt (codes "e"))
+loops = record {
+  before = [];
+  alternatives = nt (Nt (codes "e")) ∷ [];
+  behind = [];
+  defined = refl;
+  recursive = at_once (edge_nt (record { all = nt (Nt (codes "e")) ∷ []; defined = here refl; among = here refl }));
+  first = λ d i. elim i [ ];
+}
+
+pub left_recursion : LeftRecursion
+unfolding chars
+left_recursion s = refuses_here (by_recursion looping (codes "e") refl refl loops refl)

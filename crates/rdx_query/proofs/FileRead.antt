@@ -4,17 +4,18 @@ use Rattle.std.specs.Prelude.{is_some, bytes_eq, if◌then◌else◌}
 use Rattle.rdx_sexp.specs.Sexp.{Sexp}
 use Rattle.rdx_sexp.specs.Size.{IsOfFileSize}
 use Rattle.rdx_lang.specs.Patterns.{Language}
-use Rattle.rdx_grammar.specs.Answers.{refusal_of}
+use Rattle.rdx_grammar.specs.Refusal.{refusal_of}
 use Rattle.rdx_grammar.specs.Refusal.{Refusal}
-use Rattle.rdx_grammar.specs.declared.fault.DefFault.{DefFault}
-use Rattle.rdx_grammar.specs.declared.fault.DefFault.TheVariants.{Refused, NoMemory}
-use Rattle.rdx_query.specs.Defining.{IsFormFault}
-use Rattle.rdx_query.specs.File.{Defines, Asks, Accepts, accepts_none, accepts_language, accepts_query, Refuses, refuses_here, refuses_behind_language, refuses_behind_query}
-use Rattle.rdx_query.specs.FormReadings.{Query}
-use Rattle.rdx_query.specs.Known.{language_named}
-use Rattle.rdx_query.specs.Sizes.{IsFormSize}
-use Rattle.rdx_query.specs.Steps.{Step, step_defines, step_asks}
-use Rattle.rdx_query.specs.Views.{AreNamed, IsFileFault, query_name}
+use Rattle.rdx_grammar.specs.declared.shape.fault.DefFault.{DefFault}
+use Rattle.rdx_grammar.specs.declared.shape.fault.DefFault.TheVariants.{Refused, NoMemory}
+use Rattle.rdx_query.specs.Definitions.{Defined, language}
+use Rattle.rdx_query.specs.File.{Defines, Asks, Accepts, accepts_none, accepts_definition, accepts_query, Refuses, refuses_here, refuses_behind_definition, refuses_behind_query}
+use Rattle.rdx_query.specs.Inside.Defining.{IsFormFault}
+use Rattle.rdx_query.specs.Inside.Sizes.{IsFormSize}
+use Rattle.rdx_query.specs.Inside.Steps.{Step, step_defines, step_asks}
+use Rattle.rdx_query.specs.Known.{Known, nothing, with_language, with_definition, language_among}
+use Rattle.rdx_query.specs.Queries.{Query, matches, whether, NamesKnown}
+use Rattle.rdx_query.specs.Views.{AllNamesKnown, IsFileFault}
 use Rattle.rdx_query.proofs.ReadTerms.{drop-at}
 
 -- ---- names stay known
@@ -25,60 +26,69 @@ known-by true L o p f e = refl
 known-by false L o p f e = f e
 
 -- a name that is known stays known behind one more language
-named-more : (Ls : List Language) (M : Language) (x : List ℕ) → is_some (language_named Ls x) ≡ true → is_some (language_named (Ls ++ M ∷ []) x) ≡ true
+named-more : (Ls : List Language) (M : Language) (x : List ℕ) → is_some (language_among Ls x) ≡ true → is_some (language_among (Ls ++ M ∷ []) x) ≡ true
 named-more [] M x e = absurd cc
-named-more (L ∷ Ls) M x e = known-by (bytes_eq L.name x) L (language_named Ls x) (language_named (Ls ++ M ∷ []) x) (named-more Ls M x) e
+named-more (L ∷ Ls) M x e = known-by (bytes_eq L.name x) L (language_among Ls x) (language_among (Ls ++ M ∷ []) x) (named-more Ls M x) e
 
--- so do the names of queries
-are_named-more : (Ls : List Language) (M : Language) (qs : List Query) → AreNamed Ls qs → AreNamed (Ls ++ M ∷ []) qs
-are_named-more Ls M [] n = tt
-are_named-more Ls M (q ∷ qs) n = (named-more Ls M (query_name q) n.0, are_named-more Ls M qs n.1)
+-- what a query names stays known behind one more language
+names_known-language : (K : Known) (M : Language) (q : Query) → NamesKnown K q → NamesKnown (with_language K M) q
+names_known-language K M (matches name p t) e = named-more K.languages M name e
+names_known-language K M (whether name p t) e = named-more K.languages M name e
 
--- one more query over a known language
-are_named-push : (Ls : List Language) (qs : List Query) (q : Query) → AreNamed Ls qs → is_some (language_named Ls (query_name q)) ≡ true → AreNamed Ls (qs ++ q ∷ [])
-are_named-push Ls [] q n e = (e, tt)
-are_named-push Ls (p ∷ qs) q n e = (n.0, are_named-push Ls qs q n.1 e)
+-- and behind whatever is defined
+pub names_known-more : (K : Known) (x : Defined) (q : Query) → NamesKnown K q → NamesKnown (with_definition K x) q
+names_known-more K (language M) q e = names_known-language K M q e
+
+-- so does what queries name
+all_names_known-more : (K : Known) (x : Defined) (qs : List Query) → AllNamesKnown K qs → AllNamesKnown (with_definition K x) qs
+all_names_known-more K x [] n = tt
+all_names_known-more K x (q ∷ qs) n = (names_known-more K x q n.0, all_names_known-more K x qs n.1)
+
+-- one more query that names what is known
+all_names_known-push : (K : Known) (qs : List Query) (q : Query) → AllNamesKnown K qs → NamesKnown K q → AllNamesKnown K (qs ++ q ∷ [])
+all_names_known-push K [] q n e = (e, tt)
+all_names_known-push K (p ∷ qs) q n e = (n.0, all_names_known-push K qs q n.1 e)
 
 -- ---- what is read so far
 
--- behind the languages Ls and the queries qs, which the forms before define and ask, the rest of a file decides what the file means
-pub record SoFar (all rest : List Sexp) (Ls : List Language) (qs : List Query) : Type 0 where
-  pub accepted : (Ms : List Language) (rs : List Query) → Accepts Ls rest Ms rs → Accepts [] all Ms (qs ++ rs)
-  pub refused : (r : Refusal) → Refuses Ls rest r → Refuses [] all r
-  pub named : AreNamed Ls qs
+-- behind K and the queries qs, which the forms before define and ask, the rest of a file decides what the file means
+pub record SoFar (all rest : List Sexp) (K : Known) (qs : List Query) : Type 0 where
+  pub accepted : (J : Known) (rs : List Query) → Accepts K rest J rs → Accepts nothing all J (qs ++ rs)
+  pub refused : (r : Refusal) → Refuses K rest r → Refuses nothing all r
+  pub named : AllNamesKnown K qs
 
--- the next form defines a language
-behind_language : (all more : List Sexp) (d : Sexp) (Ls : List Language) (qs : List Query) (L : Language) → Defines Ls d L → SoFar all (d ∷ more) Ls qs → SoFar all more (Ls ++ L ∷ []) qs
-behind_language all more d Ls qs L f s = record {
-  accepted = λ Ms rs a. s.accepted Ms rs (accepts_language f a);
-  refused = λ r a. s.refused r (refuses_behind_language f a);
-  named = are_named-more Ls L qs s.named;
+-- the next form defines something
+behind_definition : (all more : List Sexp) (d : Sexp) (K : Known) (qs : List Query) (x : Defined) → Defines K d x → SoFar all (d ∷ more) K qs → SoFar all more (with_definition K x) qs
+behind_definition all more d K qs x f s = record {
+  accepted = λ J rs a. s.accepted J rs (accepts_definition f a);
+  refused = λ r a. s.refused r (refuses_behind_definition f a);
+  named = all_names_known-more K x qs s.named;
 }
 
 -- the next form asks something
-behind_query : (all more : List Sexp) (d : Sexp) (Ls : List Language) (qs : List Query) (q : Query) → Asks Ls d q → is_some (language_named Ls (query_name q)) ≡ true → SoFar all (d ∷ more) Ls qs → SoFar all more Ls (qs ++ q ∷ [])
-behind_query all more d Ls qs q f e s = record {
-  accepted = λ Ms rs a. subst (λ (ps : List Query). Accepts [] all Ms ps) (sym (append_assoc qs (q ∷ []) rs)) (s.accepted Ms (q ∷ rs) (accepts_query f a));
+behind_query : (all more : List Sexp) (d : Sexp) (K : Known) (qs : List Query) (q : Query) → Asks K d q → NamesKnown K q → SoFar all (d ∷ more) K qs → SoFar all more K (qs ++ q ∷ [])
+behind_query all more d K qs q f e s = record {
+  accepted = λ J rs a. subst (λ (ps : List Query). Accepts nothing all J ps) (sym (append_assoc qs (q ∷ []) rs)) (s.accepted J (q ∷ rs) (accepts_query f a));
   refused = λ r a. s.refused r (refuses_behind_query f a);
-  named = are_named-push Ls qs q s.named e;
+  named = all_names_known-push K qs q s.named e;
 }
 
 -- the next form does what it does
-stepped : (all more : List Sexp) (d : Sexp) (Ls Ms : List Language) (qs rs : List Query) → Step Ls qs d Ms rs → SoFar all (d ∷ more) Ls qs → SoFar all more Ms rs
-stepped all more d Ls Ms qs rs (step_defines L f e g) s =
-    subst (λ (ps : List Query). SoFar all more Ms ps) (sym g) (subst (λ (Ns : List Language). SoFar all more Ns qs) (sym e) (behind_language all more d Ls qs L f s))
-stepped all more d Ls Ms qs rs (step_asks q f k e g) s =
-    subst (λ (ps : List Query). SoFar all more Ms ps) (sym g) (subst (λ (Ns : List Language). SoFar all more Ns (qs ++ q ∷ [])) (sym e) (behind_query all more d Ls qs q f k s))
+stepped : (all more : List Sexp) (d : Sexp) (K J : Known) (qs rs : List Query) → Step K qs d J rs → SoFar all (d ∷ more) K qs → SoFar all more J rs
+stepped all more d K J qs rs (step_defines x f e g) s =
+    subst (λ (ps : List Query). SoFar all more J ps) (sym g) (subst (λ (I : Known). SoFar all more I qs) (sym e) (behind_definition all more d K qs x f s))
+stepped all more d K J qs rs (step_asks q f k e g) s =
+    subst (λ (ps : List Query). SoFar all more J ps) (sym g) (subst (λ (I : Known). SoFar all more I (qs ++ q ∷ [])) (sym e) (behind_query all more d K qs q f k s))
 
 -- one form more
-pub so_far-next : (all : List Sexp) (i : ℕ) (d : Sexp) (Ls Ms : List Language) (qs rs : List Query) → i < length all → d ≡ get_or all i d → Step Ls qs d Ms rs → SoFar all (drop i all) Ls qs → SoFar all (drop (i + 1) all) Ms rs
-so_far-next all i d Ls Ms qs rs h e a s =
-    stepped all (drop (i + 1) all) d Ls Ms qs rs a (subst (λ (ds : List Sexp). SoFar all ds Ls qs) (drop-at all i d h e) s)
+pub so_far-next : (all : List Sexp) (i : ℕ) (d : Sexp) (K J : Known) (qs rs : List Query) → i < length all → d ≡ get_or all i d → Step K qs d J rs → SoFar all (drop i all) K qs → SoFar all (drop (i + 1) all) J rs
+so_far-next all i d K J qs rs h e a s =
+    stepped all (drop (i + 1) all) d K J qs rs a (subst (λ (ds : List Sexp). SoFar all ds K qs) (drop-at all i d h e) s)
 
 -- a form is refused
-pub so_far-fault : (all : List Sexp) (i : ℕ) (d : Sexp) (Ls : List Language) (qs : List Query) (x : DefFault) → i < length all → d ≡ get_or all i d → IsFormFault Ls d x → SoFar all (drop i all) Ls qs → IsFileFault all x
-so_far-fault all i d Ls qs NoMemory h e a s = tt
-so_far-fault all i d Ls qs (Refused r) h e a s = s.refused (refusal_of r) (subst (λ (ds : List Sexp). Refuses Ls ds (refusal_of r)) (sym (drop-at all i d h e)) (refuses_here a))
+pub so_far-fault : (all : List Sexp) (i : ℕ) (d : Sexp) (K : Known) (qs : List Query) (x : DefFault) → i < length all → d ≡ get_or all i d → IsFormFault K d x → SoFar all (drop i all) K qs → IsFileFault all x
+so_far-fault all i d K qs NoMemory h e a s = tt
+so_far-fault all i d K qs (Refused r) h e a s = s.refused (refusal_of r) (subst (λ (ds : List Sexp). Refuses K ds (refusal_of r)) (sym (drop-at all i d h e)) (refuses_here a))
 
 -- behind the last element nothing is left
 drop-none : {A : Type 0} (xs : List A) (i : ℕ) → length xs ≤ i → drop i xs ≡ []
@@ -88,10 +98,10 @@ drop-none (x ∷ xs) zero h = absurd (omega arith)
 drop-none (x ∷ xs) (suc i) h = drop-none xs i (omega arith)
 
 -- all forms are read
-pub so_far-end : (all : List Sexp) (i : ℕ) (Ls : List Language) (qs : List Query) → length all ≤ i → SoFar all (drop i all) Ls qs → Accepts [] all Ls qs
-so_far-end all i Ls qs h s =
-    subst (λ (ps : List Query). Accepts [] all Ls ps) (append-nil qs)
-    (s.accepted Ls [] (subst (λ (ds : List Sexp). Accepts Ls ds Ls []) (sym (drop-none all i h)) accepts_none))
+pub so_far-end : (all : List Sexp) (i : ℕ) (K : Known) (qs : List Query) → length all ≤ i → SoFar all (drop i all) K qs → Accepts nothing all K qs
+so_far-end all i K qs h s =
+    subst (λ (ps : List Query). Accepts nothing all K ps) (append-nil qs)
+    (s.accepted K [] (subst (λ (ds : List Sexp). Accepts K ds K []) (sym (drop-none all i h)) accepts_none))
 
 -- ---- sizes
 

@@ -4,18 +4,20 @@ use Rattle.std.specs.Prelude.{codes, if◌then◌else◌, option_map}
 use Rattle.rdx_sexp.specs.Sexp.{Sexp}
 use Rattle.rdx_lang.specs.Patterns.{Language}
 use Rattle.rdx_lang.specs.declared.checked.CheckedLang.{CheckedLang}
-use Rattle.rdx_grammar.specs.Languages.{GrammarForm, empty_language, language_over, form_parts, language_parts, extension_parts, language_form, extension_form}
+use Rattle.rdx_grammar.specs.Forms.{GrammarForm, form_parts, language_parts, extension_parts, language_form, extension_form}
+use Rattle.rdx_grammar.specs.Languages.{empty_language, language_over}
 use Rattle.rdx_grammar.specs.Parts.{parts, text_of, is_word, is_symbol}
-use Rattle.rdx_grammar.specs.declared.fault.DefFault.{DefFault}
-use Rattle.rdx_grammar.specs.declared.fault.DefFault.TheVariants.{Refused, NoMemory}
-use Rattle.rdx_query.specs.Defining.{language_by_check, language_by_recursion, DefinesOver, DefinesBy, IsNamed}
+use Rattle.rdx_grammar.specs.declared.shape.fault.DefFault.{DefFault}
+use Rattle.rdx_grammar.specs.declared.shape.fault.DefFault.TheVariants.{Refused, NoMemory}
+use Rattle.rdx_query.specs.Definitions.{language}
 use Rattle.rdx_query.specs.File.{by_check, by_recursion}
-use Rattle.rdx_query.specs.FormChecks.{language_refusal, form_refusal, refusal_by_kind, named_base, unknown_at, unknown_by}
-use Rattle.rdx_query.specs.FormParts.{form_kind, base_name}
-use Rattle.rdx_query.specs.FormReadings.{form_language, language_by_kind}
-use Rattle.rdx_query.specs.Known.{language_named, or_empty}
-use Rattle.rdx_query.specs.PartViews.{second_among}
-use Rattle.rdx_query.specs.declared.kind.FormKind.TheVariants as kind
+use Rattle.rdx_query.specs.FormKinds.{defines, form_kind}
+use Rattle.rdx_query.specs.FormKinds as kind
+use Rattle.rdx_query.specs.Forms.{form_refusal, refusal_by_kind, form_definition, definition_by_kind}
+use Rattle.rdx_query.specs.Inside.Defining.{language_by_check, language_by_recursion, DefinesOver, DefinesBy, IsNamed}
+use Rattle.rdx_query.specs.Inside.PartViews.{second_among}
+use Rattle.rdx_query.specs.Known.{Known, language_named, or_empty}
+use Rattle.rdx_query.specs.LanguageForms.{base_name, named_base, unknown_at, unknown_by, language_refusal}
 
 -- ---- the name of the language that is defined
 
@@ -59,29 +61,29 @@ extension_form-named d g e = named_extension (codes "define-extended-language") 
 -- ---- the language that is extended
 
 -- a language that is known is the base
-pub named_base-known : (Ls : List Language) (l : Sexp) (L : Language) → language_named Ls (text_of l) ≡ Some L → named_base Ls (Some l) ≡ L
-named_base-known Ls l L e = ap or_empty e
+pub named_base-known : (K : Known) (l : Sexp) (L : Language) → language_named K (text_of l) ≡ Some L → named_base K (Some l) ≡ L
+named_base-known K l L e = ap or_empty e
 
 -- and the check of unknown languages lets it pass
-pub unknown_at-known : (Ls : List Language) (l : Sexp) (L : Language) → language_named Ls (text_of l) ≡ Some L → unknown_at Ls (Some l) ≡ None
-unknown_at-known Ls l L e = ap (λ o. unknown_by o l) e
+pub unknown_at-known : (K : Known) (l : Sexp) (L : Language) → language_named K (text_of l) ≡ Some L → unknown_at K (Some l) ≡ None
+unknown_at-known K l L e = ap (λ o. unknown_by o l) e
 
 -- ---- forms by their kinds
 
 -- what the parts of a form say of the form
-by_parts : (Ls : List Language) (base : Language) (l0 : Option Sexp) (d : Sexp) (g : Option GrammarForm) (x : Result CheckedLang DefFault) → form_refusal Ls d ≡ language_refusal Ls base l0 d g → form_language Ls d ≡ option_map (language_over base) g → DefinesOver Ls base l0 d g x → DefinesBy Ls d x
-by_parts Ls base l0 d g (Ok c) e f a = record { passes = e ∙ a.passes; means = f ∙ a.means; free = a.free }
-by_parts Ls base l0 d g (Err NoMemory) e f a = tt
-by_parts Ls base l0 d g (Err (Refused r)) e f (language_by_check h) = by_check (e ∙ h)
-by_parts Ls base l0 d g (Err (Refused r)) e f (language_by_recursion L x h k i j) = by_recursion L x (e ∙ h) (f ∙ k) i j
+by_parts : (K : Known) (base : Language) (l0 : Option Sexp) (d : Sexp) (g : Option GrammarForm) (x : Result CheckedLang DefFault) → form_refusal K d ≡ language_refusal K base l0 d g → form_definition K d ≡ option_map language (option_map (language_over base) g) → DefinesOver K base l0 d g x → DefinesBy K d x
+by_parts K base l0 d g (Ok c) e f a = record { passes = e ∙ a.passes; means = f ∙ ap (option_map language) a.means; sound = a.free }
+by_parts K base l0 d g (Err NoMemory) e f a = tt
+by_parts K base l0 d g (Err (Refused r)) e f (language_by_check h) = by_check (e ∙ h)
+by_parts K base l0 d g (Err (Refused r)) e f (language_by_recursion L x h k i j) = by_recursion L x (e ∙ h) (f ∙ ap (option_map language) k) i j
 
 -- what is said of its parts is said of a `define-language` form
-pub by_language : (Ls : List Language) (d : Sexp) (x : Result CheckedLang DefFault) → form_kind d ≡ Some kind.Language → DefinesOver Ls empty_language None d (language_form d) x → DefinesBy Ls d x
-by_language Ls d x e a = by_parts Ls empty_language None d (language_form d) x (ap (refusal_by_kind Ls d) e) (ap (language_by_kind Ls d) e) a
+pub by_language : (K : Known) (d : Sexp) (x : Result CheckedLang DefFault) → form_kind d ≡ Some (defines kind.language) → DefinesOver K empty_language None d (language_form d) x → DefinesBy K d x
+by_language K d x e a = by_parts K empty_language None d (language_form d) x (ap (refusal_by_kind K d) e) (ap (definition_by_kind K d) e) a
 
 -- what is said of its parts, over the base that it names, is said of a `define-extended-language` form
-pub by_extension : (Ls : List Language) (base : Language) (l0 : Option Sexp) (d : Sexp) (x : Result CheckedLang DefFault) → form_kind d ≡ Some kind.Extension → base_name d ≡ l0 → named_base Ls l0 ≡ base → DefinesOver Ls base l0 d (extension_form d) x → DefinesBy Ls d x
-by_extension Ls base l0 d x e f h a =
-    by_parts Ls base l0 d (extension_form d) x
-    (ap (refusal_by_kind Ls d) e ∙ λ i. language_refusal Ls ((ap (named_base Ls) f ∙ h) i) (f i) d (extension_form d))
-    (ap (language_by_kind Ls d) e ∙ λ i. option_map (language_over ((ap (named_base Ls) f ∙ h) i)) (extension_form d)) a
+pub by_extension : (K : Known) (base : Language) (l0 : Option Sexp) (d : Sexp) (x : Result CheckedLang DefFault) → form_kind d ≡ Some (defines kind.extension) → base_name d ≡ l0 → named_base K l0 ≡ base → DefinesOver K base l0 d (extension_form d) x → DefinesBy K d x
+by_extension K base l0 d x e f h a =
+    by_parts K base l0 d (extension_form d) x
+    (ap (refusal_by_kind K d) e ∙ λ i. language_refusal K ((ap (named_base K) f ∙ h) i) (f i) d (extension_form d))
+    (ap (definition_by_kind K d) e ∙ λ i. option_map language (option_map (language_over ((ap (named_base K) f ∙ h) i)) (extension_form d))) a

@@ -1,29 +1,28 @@
 -- Steps of a file, as the code takes them.
-use Rattle.std.proofs.Common.{◌≡◌, ◌++◌, ℕ, List, [], ◌∷◌, length, map, take, drop, refl, sym, ◌∙◌, ap, subst}
-use Rattle.std.proofs.lemmas.List.{length-map, map-append, take_at}
+use Rattle.std.proofs.Common.{◌≡◌, ◌++◌, List, [], ◌∷◌, map, refl, ◌∙◌, ap}
+use Rattle.std.proofs.lemmas.List.{map-append}
 use Rattle.rdx_lang.specs.Checked.{language_in}
 use Rattle.rdx_lang.specs.declared.checked.CheckedLang.{CheckedLang}
 use Rattle.rdx_sexp.specs.Sexp.{Sexp}
+use Rattle.rdx_query.specs.Definitions as defined
 use Rattle.rdx_query.specs.File.{Defines}
-use Rattle.rdx_query.specs.FormReadings as model
-use Rattle.rdx_query.specs.Steps.{Step, step_defines, step_asks, AsksKnown}
-use Rattle.rdx_query.specs.Views.{query_of}
+use Rattle.rdx_query.specs.Inside.Steps.{Step, step_defines, step_asks, AsksKnown}
+use Rattle.rdx_query.specs.Known.{with_language}
+use Rattle.rdx_query.specs.Queries as model
+use Rattle.rdx_query.specs.Views.{known_of, query_of}
+use Rattle.rdx_query.specs.declared.file.Program.{Program}
 use Rattle.rdx_query.specs.declared.file.Query.{Query}
 
--- a language is added; the form was read behind the same languages, as zs
-pub language_step : (xs ys zs : List CheckedLang) (l : CheckedLang) (qs : List model.Query) (d : Sexp) → zs ≡ xs → ys ≡ xs ++ l ∷ [] → Defines (map language_in zs) d (language_in l) → Step (map language_in xs) qs d (map language_in ys) qs
-language_step xs ys zs l qs d v e f =
-    step_defines (language_in l) (subst (λ (ls : List CheckedLang). Defines (map language_in ls) d (language_in l)) v f)
-    (ap (map language_in) e ∙ map-append language_in xs (l ∷ [])) refl
+-- a program with one more language
+known_of-push : (p r : Program) (l : CheckedLang) → r.languages.items ≡ p.languages.items ++ l ∷ [] → known_of r ≡ with_language (known_of p) (language_in l)
+known_of-push p r l e =
+    let f : map language_in r.languages.items ≡ map language_in p.languages.items ++ language_in l ∷ [] = ap (map language_in) e ∙ map-append language_in p.languages.items (l ∷ []) in
+    λ i. record { languages = f i }
 
--- as many elements as there were, written back, are the list
-written_back : {A : Type 0} (n : ℕ) (xs ys : List A) → n ≡ length xs → length ys ≡ length xs → take n (ys ++ drop (length ys) xs) ≡ ys
-written_back n xs ys e f = take_at ys (drop (length ys) xs) n (f ∙ sym e)
+-- a language is added
+pub language_step : (p r : Program) (l : CheckedLang) (qs : List model.Query) (d : Sexp) → r.languages.items ≡ p.languages.items ++ l ∷ [] → Defines (known_of p) d (defined.language (language_in l)) → Step (known_of p) qs d (known_of r) qs
+language_step p r l qs d e f = step_defines (defined.language (language_in l)) f (known_of-push p r l e) refl
 
--- a query is added; it was read behind the same languages, as zs, and ys are those that came back
-pub query_step : (n : ℕ) (xs ys zs : List CheckedLang) (us vs : List Query) (q : Query) (d : Sexp) → n ≡ length xs → zs ≡ xs → map language_in ys ≡ map language_in zs → vs ≡ us ++ q ∷ [] → AsksKnown (map language_in zs) d (query_of q) → Step (map language_in xs) (map query_of us) d (map language_in (take n (ys ++ drop (length ys) xs))) (map query_of vs)
-query_step n xs ys zs us vs q d e v s p f =
-    let a : AsksKnown (map language_in xs) d (query_of q) = subst (λ (ls : List CheckedLang). AsksKnown (map language_in ls) d (query_of q)) v f in
-    let same : map language_in ys ≡ map language_in xs = s ∙ ap (map language_in) v in
-    let long : length ys ≡ length xs = sym (length-map ys language_in) ∙ ap length same ∙ length-map xs language_in in
-    step_asks (query_of q) a.asks a.known (ap (map language_in) (written_back n xs ys e long) ∙ same) (ap (map query_of) p ∙ map-append query_of us (q ∷ []))
+-- a query is added
+pub query_step : (p r : Program) (us vs : List Query) (q : Query) (d : Sexp) → known_of r ≡ known_of p → vs ≡ us ++ q ∷ [] → AsksKnown (known_of p) d (query_of q) → Step (known_of p) (map query_of us) d (known_of r) (map query_of vs)
+query_step p r us vs q d s e a = step_asks (query_of q) a.asks a.known s (ap (map query_of) e ∙ map-append query_of us (q ∷ []))

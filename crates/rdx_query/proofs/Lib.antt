@@ -1,6 +1,7 @@
 pub mod Upto
 pub mod OneReading
 pub mod OneText
+pub mod AllMet
 pub mod Keywords
 pub mod ReadTerms
 pub mod LanguageChecks
@@ -11,3 +12,7 @@ pub mod Replaced
 pub mod FileRead
 pub mod FormSteps
 pub mod Examples
+pub mod Recursion
+pub mod AcceptedOrRefused
+pub mod Listings
+pub mod SomeText

@@ -4,11 +4,11 @@ use Rattle.std.specs.Prelude.{◌||◌, codes, if◌then◌else◌}
 use Rattle.rdx_sexp.specs.Sexp.{Sexp, leaf, list, nil, cons}
 use Rattle.rdx_grammar.specs.Parts.{is_word}
 use Rattle.rdx_grammar.specs.Refusal.{Refusal, unnamed}
-use Rattle.rdx_grammar.specs.Refused.{unbuilt_at}
+use Rattle.rdx_grammar.specs.Unbuilt.{unbuilt_at}
 use Rattle.rdx_grammar.specs.Unbuilt.{has_word_to_come}
-use Rattle.rdx_grammar.specs.declared.fault.DefKind.TheVariants.{Unbuilt}
-use Rattle.rdx_query.specs.FormParts.{QueryParts, query_parts, template_in}
-use Rattle.rdx_query.specs.Sizes.{IsFormSize}
+use Rattle.rdx_grammar.specs.declared.shape.fault.DefKind.TheVariants.{Unbuilt}
+use Rattle.rdx_query.specs.MatchForms.{QueryParts, query_parts, template_in}
+use Rattle.rdx_query.specs.Inside.Sizes.{IsFormSize}
 
 -- ---- sizes
 

@@ -1,11 +1,12 @@
 -- Worked examples: short files, with the text that they write or their refusal. They are proved, as the clauses of `laws::worked_examples`.
-use Rattle.std.specs.Prelude.{ℕ, pos, List, [], ◌∷◌, codes}
+use Rattle.std.specs.Prelude.{ℕ, true, pos, List, [], ◌∷◌, codes}
 use Rattle.rdx_base.specs.declared.place.Span.{Span}
 use Rattle.rdx_sexp.specs.Sexp.{Sexp, symbol, integer, leaf, list, sexps}
-use Rattle.rdx_grammar.specs.Refusal.{named}
-use Rattle.rdx_grammar.specs.declared.fault.DefKind.TheVariants.{UnknownLanguage}
+use Rattle.rdx_grammar.specs.Refusal.{unnamed, named, named_at}
+use Rattle.rdx_grammar.specs.declared.shape.fault.DefKind.TheVariants.{Unbuilt, Shape, UnknownLanguage, Duplicate, LeftRecursive}
 use Rattle.rdx_query.specs.Answering.{Writes}
 use Rattle.rdx_query.specs.File.{Refuses}
+use Rattle.rdx_query.specs.Known.{nothing}
 
 -- ---- data with this span
 
@@ -21,9 +22,13 @@ number s n = leaf (integer (pos n)) s
 abbrev pub form : Span → List Sexp → Sexp
 form s ds = list (sexps ds) s
 
+-- `(define-language l (e p))`
+abbrev pub defines : Span → Sexp → Sexp → Sexp
+defines s l p = form s (word s (codes "define-language") ∷ l ∷ form s (word s (codes "e") ∷ p ∷ []) ∷ [])
+
 -- `(define-language L (e 1))`
 abbrev pub defines_L : Span → Sexp
-defines_L s = form s (word s (codes "define-language") ∷ word s (codes "L") ∷ form s (word s (codes "e") ∷ number s 1 ∷ []) ∷ [])
+defines_L s = defines s (word s (codes "L")) (number s 1)
 
 -- `(define-extended-language M l (e ....))`
 abbrev pub extends : Span → Sexp → Sexp
@@ -32,6 +37,10 @@ extends s l = form s (word s (codes "define-extended-language") ∷ word s (code
 -- `(redex-match l p (term t))`
 abbrev pub asks : Span → Sexp → Sexp → Sexp → Sexp
 asks s l p t = form s (word s (codes "redex-match") ∷ l ∷ p ∷ form s (word s (codes "term") ∷ t ∷ []) ∷ [])
+
+-- `(redex-match? x e (term n))`
+abbrev pub asks_e : Span → List ℕ → ℕ → Sexp
+asks_e s x n = form s (word s (codes "redex-match?") ∷ word s x ∷ word s (codes "e") ∷ form s (word s (codes "term") ∷ number s n ∷ []) ∷ [])
 
 -- ---- what files write
 
@@ -42,7 +51,16 @@ abbrev pub AnswersInOrder : Type 0
 AnswersInOrder = (s : Span) →
     Writes (defines_L s ∷ asks s (word s (codes "L")) (form s (word s (codes "any_y") ∷ word s (codes "any_x") ∷ [])) (form s (number s 1 ∷ number s 2 ∷ []))
     ∷ asks s (word s (codes "L")) (number s 1) (number s 1) ∷ [])
-    (codes "match 1\n  any_x = 2, any_y = 1\nmatch 1\n  -\n")
+    (codes "match 1\n  any_x = 2, any_y = 1\nmatch 1\n  -\n") true
+
+-- A file with its whole answer: `(define-language L (e 1)) (redex-match? L e (term 1)) (redex-match? L e (term 2))`.
+abbrev pub WholeAnswer : Type 0
+WholeAnswer = (s : Span) → Writes (defines_L s ∷ asks_e s (codes "L") 1 ∷ asks_e s (codes "L") 2 ∷ []) (codes "matches #t\nmatches #f\n") true
+
+-- At `....` stand the alternatives of the language that is extended: `(define-language L (e 1)) (define-extended-language M L (e ....))
+-- (redex-match? M e (term 1))`.
+abbrev pub Inherited : Type 0
+Inherited = (s : Span) → Writes (defines_L s ∷ extends s (word s (codes "L")) ∷ asks_e s (codes "M") 1 ∷ []) (codes "matches #t\n") true
 
 -- ---- why files are refused
 
@@ -50,9 +68,31 @@ AnswersInOrder = (s : Span) →
 -- `(define-language L (e 1)) (redex-match M 1 (term 1)) 7` it is M that is not known, and not that 7 is no form so far.
 abbrev pub FirstRefusedForm : Type 0
 FirstRefusedForm = (s m : Span) →
-    Refuses [] (defines_L s ∷ asks s (word m (codes "M")) (number s 1) (number s 1) ∷ number s 7 ∷ []) (named UnknownLanguage (word m (codes "M")))
+    Refuses nothing (defines_L s ∷ asks s (word m (codes "M")) (number s 1) (number s 1) ∷ number s 7 ∷ []) (named UnknownLanguage (word m (codes "M")))
 
 -- An extension sees the languages before it, and no later one: `(define-extended-language M L (e ....)) (define-language L (e 1))` is
 -- refused at L, which is not known there.
 abbrev pub EarlierLanguagesOnly : Type 0
-EarlierLanguagesOnly = (s l : Span) → Refuses [] (extends s (word l (codes "L")) ∷ defines_L s ∷ []) (named UnknownLanguage (word l (codes "L")))
+EarlierLanguagesOnly = (s l : Span) → Refuses nothing (extends s (word l (codes "L")) ∷ defines_L s ∷ []) (named UnknownLanguage (word l (codes "L")))
+
+-- A file that is refused at its second form: `(define-language L (e 1)) (define-language L (e 1))` takes the name L again.
+abbrev pub TakenName : Type 0
+TakenName = (s l : Span) → Refuses nothing (defines_L s ∷ defines s (word l (codes "L")) (number s 1) ∷ []) (named Duplicate (word l (codes "L")))
+
+-- The fourth item of a query is `(term t)`, others are not built yet: `(redex-match L 1 1)`.
+abbrev pub HostExpression : Type 0
+HostExpression = (s : Span) →
+    let query : Sexp = form s (word s (codes "redex-match") ∷ word s (codes "L") ∷ number s 1 ∷ number s 1 ∷ []) in
+    Refuses nothing (query ∷ []) (unnamed Unbuilt query)
+
+-- A query has four items: `(redex-match L 1)`.
+abbrev pub FewItems : Type 0
+FewItems = (s : Span) →
+    let query : Sexp = form s (word s (codes "redex-match") ∷ word s (codes "L") ∷ number s 1 ∷ []) in
+    Refuses nothing (query ∷ []) (unnamed Shape query)
+
+-- A language may not be left-recursive: `(define-language L (e e))`.
+abbrev pub LeftRecursion : Type 0
+LeftRecursion = (s : Span) →
+    let language : Sexp = defines s (word s (codes "L")) (word s (codes "e")) in
+    Refuses nothing (language ∷ []) (named_at LeftRecursive language (codes "e"))

@@ -1,28 +1,57 @@
 -- What follows from the definitions, stated for the contracts of the module of laws.
-use Rattle.std.specs.Prelude.{◌≡◌, ℕ, List, []}
+use Rattle.std.specs.Prelude.{◌≡◌, ◌⊎◌, ℕ, Bool, IsTrue, List}
 use Rattle.rdx_sexp.specs.Sexp.{Sexp}
-use Rattle.rdx_lang.specs.Patterns.{Language}
 use Rattle.rdx_grammar.specs.Refusal.{Refusal}
 use Rattle.rdx_query.specs.Answering.{Writes}
 use Rattle.rdx_query.specs.File.{Accepts, Refuses}
-use Rattle.rdx_query.specs.FormReadings.{Query}
+use Rattle.rdx_query.specs.Known.{Known, nothing}
+use Rattle.rdx_query.specs.Queries.{Query}
 
--- data that are accepted define the same languages and ask the same queries, however their forms are read
+-- data that are accepted define the same and ask the same, however their forms are read
 abbrev pub OneMeaning : Type 0
-OneMeaning = (ds : List Sexp) (Ls Ms : List Language) (qs rs : List Query) → Accepts [] ds Ls qs → Accepts [] ds Ms rs → (Ls ≡ Ms) × (qs ≡ rs)
+OneMeaning = (ds : List Sexp) (K J : Known) (qs rs : List Query) → Accepts nothing ds K qs → Accepts nothing ds J rs → (K ≡ J) × (qs ≡ rs)
 
--- data write one text at most
+-- data write one text at most, and all that they state is met or not
 abbrev pub OneText : Type 0
-OneText = (ds : List Sexp) (t u : List ℕ) → Writes ds t → Writes ds u → t ≡ u
+OneText = (ds : List Sexp) (t u : List ℕ) (m n : Bool) → Writes ds t m → Writes ds u n → (t ≡ u) × (m ≡ n)
+
+-- no kind of query states anything so far, so all that data state is met
+abbrev pub AlwaysMet : Type 0
+AlwaysMet = (ds : List Sexp) (text : List ℕ) (met : Bool) → Writes ds text met → IsTrue met
 
 -- data have one refusal at most
 abbrev pub OneRefusal : Type 0
-OneRefusal = (ds : List Sexp) (r q : Refusal) → Refuses [] ds r → Refuses [] ds q → r ≡ q
+OneRefusal = (ds : List Sexp) (r q : Refusal) → Refuses nothing ds r → Refuses nothing ds q → r ≡ q
 
 -- data that are accepted are not refused
-abbrev pub AcceptedOrRefused : Type 0
-AcceptedOrRefused = (ds : List Sexp) (Ls : List Language) (qs : List Query) (r : Refusal) → Accepts [] ds Ls qs → Refuses [] ds r → ⊥
+abbrev pub NeverBothAcceptedAndRefused : Type 0
+NeverBothAcceptedAndRefused = (ds : List Sexp) (K : Known) (qs : List Query) (r : Refusal) → Accepts nothing ds K qs → Refuses nothing ds r → ⊥
 
 -- data that are refused write nothing
-abbrev pub TextOrRefusal : Type 0
-TextOrRefusal = (ds : List Sexp) (t : List ℕ) (r : Refusal) → Writes ds t → Refuses [] ds r → ⊥
+abbrev pub NeverBothTextAndRefusal : Type 0
+NeverBothTextAndRefusal = (ds : List Sexp) (text : List ℕ) (met : Bool) (r : Refusal) → Writes ds text met → Refuses nothing ds r → ⊥
+
+-- the data are accepted
+pub record AreAccepted (ds : List Sexp) : Type 0 where
+  pub known : Known
+  pub queries : List Query
+  pub accepted : Accepts nothing ds known queries
+
+-- the data are refused
+pub record AreRefused (ds : List Sexp) : Type 0 where
+  pub refusal : Refusal
+  pub refused : Refuses nothing ds refusal
+
+-- data are accepted or refused
+abbrev pub NeverNeither : Type 0
+NeverNeither = (ds : List Sexp) → AreAccepted ds ⊎ AreRefused ds
+
+-- the data write something
+pub record DoWrite (ds : List Sexp) : Type 0 where
+  pub text : List ℕ
+  pub met : Bool
+  pub written : Writes ds text met
+
+-- data write some text or are refused: each query that is accepted has an answer
+abbrev pub SomeTextOrRefusal : Type 0
+SomeTextOrRefusal = (ds : List Sexp) → DoWrite ds ⊎ AreRefused ds

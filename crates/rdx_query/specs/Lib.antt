@@ -1,18 +1,15 @@
--- ---- what public contracts cite
-pub mod FormParts
+pub mod Definitions
 pub mod Known
-pub mod FormChecks
-pub mod FormReadings
+pub mod FormKinds
+pub mod LanguageForms
+pub mod Queries
+pub mod MatchForms
+pub mod Forms
 pub mod File
 pub mod AnswerText
+pub mod MatchAnswers
 pub mod Answering
 pub mod Views
 pub mod Laws
 pub mod Examples
--- ---- what only contracts inside the crate cite
-pub mod PartViews
-pub mod Sizes
-pub mod Defining
-pub mod Asking
-pub mod Steps
-pub mod Appending
+pub mod Inside

@@ -1,6 +1,6 @@
 // Ellipses in terms.
 ghost use Rattle.std.specs.Prelude.{◌≡◌};
-ghost use Rattle.rdx_query.specs.FormParts as forms;
+ghost use Rattle.rdx_query.specs.MatchForms as forms;
 
 use rdx_grammar::names::begins_with_dots;
 use rdx_sexp::{Datum, Form};

@@ -1,8 +1,9 @@
 // The forms of a file.
 ghost use Rattle.rdx_sexp.specs.Size.{IsOfFileSize};
-ghost use Rattle.std.specs.Prelude.{[], IfOk, IfErr};
+ghost use Rattle.std.specs.Prelude.{IfOk, IfErr};
 ghost use Rattle.rdx_query.specs.File.{Accepts};
-ghost use Rattle.rdx_query.specs.Views.{AreNamed, IsFileFault, languages_of, queries_of};
+ghost use Rattle.rdx_query.specs.Known.{nothing};
+ghost use Rattle.rdx_query.specs.Views.{AllNamesKnown, IsFileFault, known_in, queries_of};
 
 use crate::forms::read_form;
 use rdx_grammar::DefFault;
@@ -38,17 +39,16 @@ pub struct CheckedFile {
 /// What the forms of a file mean, or the refusal of the first form that is refused.
 pub fn check_file(alloc: Global, forms: &[Datum]) -> Result<CheckedFile, DefFault>
     requires { IsOfFileSize forms.now }
-    ensures accepted { IfOk result (λ f. Accepts [] forms.now (languages_of f) (queries_of f)) }
+    ensures accepted { IfOk result (λ f. Accepts nothing forms.now (known_in f) (queries_of f)) }
     ensures refused { IfErr result (IsFileFault forms.now) }
-    ensures named { IfOk result (λ f. AreNamed (languages_of f) (queries_of f)) }
+    ensures named { IfOk result (λ f. AllNamesKnown (known_in f) (queries_of f)) }
 {
-    let mut languages = Vec::new(alloc);
+    let mut program = Program {
+        languages: Vec::new(alloc),
+    };
     let mut queries = Vec::new(alloc);
     for form in forms {
-        read_form(alloc, &mut languages, &mut queries, form)?;
+        read_form(alloc, &mut program, &mut queries, form)?;
     }
-    Ok(CheckedFile {
-        program: Program { languages },
-        queries,
-    })
+    Ok(CheckedFile { program, queries })
 }

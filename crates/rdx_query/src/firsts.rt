@@ -1,14 +1,14 @@
 // The first datum in another that a check refuses.
 ghost use Rattle.std.specs.Prelude.{◌≡◌, ◌++◌, option_map};
-ghost use Rattle.rdx_grammar.specs.Checks.{shape_faults};
+ghost use Rattle.rdx_grammar.specs.PatternChecks.{keyword_faults};
 ghost use Rattle.rdx_grammar.specs.Refusal.{first};
-ghost use Rattle.rdx_grammar.specs.Stands.{keys, stands};
+ghost use Rattle.rdx_grammar.specs.Occurrences.{keys, occurrences};
 
 use rdx_sexp::{Datum, Form};
 
 /// The first keyword in a datum.
 pub(crate) fn first_key(d: &Datum) -> Option<&Datum>
-    ensures { option_map (λ d. d.now) result ≡ first (shape_faults (keys d.now)) }
+    ensures { option_map (λ d. d.now) result ≡ first (keyword_faults (keys d.now)) }
 {
     match &d.form {
         Form::Int(_) | Form::Bool(_) | Form::Str(_) | Form::Sym(_) => None,
@@ -26,7 +26,7 @@ pub(crate) fn first_key(d: &Datum) -> Option<&Datum>
 
 /// The first keyword in the pattern or in the term of a query.
 pub(crate) fn first_key_in<'a>(pattern: &'a Datum, term: &'a Datum) -> Option<&'a Datum>
-    ensures { option_map (λ d. d.now) result ≡ first (shape_faults (stands pattern.now ++ keys term.now)) }
+    ensures { option_map (λ d. d.now) result ≡ first (keyword_faults (occurrences pattern.now ++ keys term.now)) }
 {
     match first_key(pattern) {
         Some(key) => Some(key),

@@ -1,43 +1,64 @@
-// What a form is by its head.
-ghost use Rattle.std.specs.Prelude.{◌≡◌};
-ghost use Rattle.rdx_query.specs.FormParts as forms;
+// What a form does, by its head.
+ghost use Rattle.std.specs.Prelude.{◌≡◌, option_map};
+ghost use Rattle.rdx_query.specs.FormKinds as forms;
+ghost use Rattle.rdx_query.specs.Inside.KindViews.{kind_of};
 
-use rdx_grammar::shape::{is_word, items};
-use rdx_sexp::Datum;
+use rdx_grammar::shape::items;
+use rdx_sexp::{Datum, Form};
 
-/// What a form is by its head.
+/// What a form defines.
 #[derive(Clone, Copy, Debug, PartialEq, Eq)]
-pub enum FormKind {
-    /// `define-language`
+pub enum DefinitionKind {
+    /// A language by itself: `define-language`.
     Language,
-    /// `define-extended-language`
+    /// A language that extends another: `define-extended-language`.
     Extension,
-    /// `redex-match`
+}
+
+/// What a form asks.
+#[derive(Clone, Copy, Debug, PartialEq, Eq)]
+pub enum QueryKind {
+    /// The bindings by which a pattern matches a term: `redex-match`.
     Match,
-    /// `redex-match?`
+    /// Whether there are some: `redex-match?`.
     Whether,
 }
 
-// What a form with this head is.
-fn kind_by_head(head: &Datum) -> Option<FormKind>
-    ensures { result ≡ forms.kind_by_head head.now }
+/// What a form does.
+#[derive(Clone, Copy, Debug, PartialEq, Eq)]
+pub enum FormKind {
+    /// It defines something.
+    Defines(DefinitionKind),
+    /// It asks something.
+    Asks(QueryKind),
+}
+
+// The table of heads.
+fn kind_by_text(head: &str) -> Option<FormKind>
+    ensures { option_map kind_of result ≡ forms.kind_in forms.heads head.now }
 {
-    if is_word(head, "define-language") {
-        Some(FormKind::Language)
-    } else if is_word(head, "define-extended-language") {
-        Some(FormKind::Extension)
-    } else if is_word(head, "redex-match") {
-        Some(FormKind::Match)
-    } else if is_word(head, "redex-match?") {
-        Some(FormKind::Whether)
-    } else {
-        None
+    match head {
+        "define-language" => Some(FormKind::Defines(DefinitionKind::Language)),
+        "define-extended-language" => Some(FormKind::Defines(DefinitionKind::Extension)),
+        "redex-match" => Some(FormKind::Asks(QueryKind::Match)),
+        "redex-match?" => Some(FormKind::Asks(QueryKind::Whether)),
+        _ => None,
     }
 }
 
-/// What the form is, if it has one of these heads.
+// What a form with this head does.
+fn kind_by_head(head: &Datum) -> Option<FormKind>
+    ensures { option_map kind_of result ≡ forms.kind_by_head head.now }
+{
+    match &head.form {
+        Form::Int(_) | Form::Bool(_) | Form::Str(_) | Form::Key(_) | Form::List(_) => None,
+        Form::Sym(text) => kind_by_text(text.as_str()),
+    }
+}
+
+/// What the form does, if it has a head of the table.
 pub(crate) fn form_kind(form: &Datum) -> Option<FormKind>
-    ensures { result ≡ forms.form_kind form.now }
+    ensures { option_map kind_of result ≡ forms.form_kind form.now }
 {
     match items(form)? {
         [head, ..] => kind_by_head(head),

@@ -1,17 +1,20 @@
-// The languages that earlier forms define, looked up by name.
+// What the forms before a form define, looked up by name.
 ghost use Rattle.std.specs.Prelude.{◌≡◌, ◌<◌, length, get_or, map, Some, None, is_some, IfSome, IfNone};
 ghost use Rattle.rdx_lang.specs.Checked.{language_in};
 ghost use Rattle.rdx_lang.specs.declared.checked.CheckedLang.{CheckedLang};
-ghost use Rattle.rdx_query.specs.Known.{language_named};
+ghost use Rattle.rdx_query.specs.Known.{language_among, language_named};
+ghost use Rattle.rdx_query.specs.Views.{known_of};
 
+use crate::Program;
 use rdx_lang::CheckedLang;
 
-/// The place of the language of this name.
-pub(crate) fn place_named(languages: &[CheckedLang], name: &str) -> Option<usize>
+// The place among these of the language of this name.
+fn place_among(languages: &[CheckedLang], name: &str) -> Option<usize>
     ensures within { IfSome result (λ i. i < length languages.now) }
-    ensures some { IfSome result (λ i. (l : CheckedLang) → l ≡ get_or languages.now i l → language_named (map language_in languages.now) name.now ≡ Some (language_in l)) }
-    ensures known { is_some result ≡ is_some (language_named (map language_in languages.now) name.now) }
-    ensures none { IfNone result (language_named (map language_in languages.now) name.now ≡ None) }
+    ensures some { IfSome result (λ i. (l : CheckedLang) → l ≡ get_or languages.now i l
+        → language_among (map language_in languages.now) name.now ≡ Some (language_in l)) }
+    ensures known { is_some result ≡ is_some (language_among (map language_in languages.now) name.now) }
+    ensures none { IfNone result (language_among (map language_in languages.now) name.now ≡ None) }
 {
     for (place, language) in languages.iter().enumerate() {
         if language.language().name.text() == name {
@@ -19,4 +22,15 @@ pub(crate) fn place_named(languages: &[CheckedLang], name: &str) -> Option<usize
         }
     }
     None
+}
+
+/// The place of the language of this name.
+pub(crate) fn place_named(program: &Program, name: &str) -> Option<usize>
+    ensures within { IfSome result (λ i. i < length program.now.languages.items) }
+    ensures some { IfSome result (λ i. (l : CheckedLang) → l ≡ get_or program.now.languages.items i l
+        → language_named (known_of program.now) name.now ≡ Some (language_in l)) }
+    ensures known { is_some result ≡ is_some (language_named (known_of program.now) name.now) }
+    ensures none { IfNone result (language_named (known_of program.now) name.now ≡ None) }
+{
+    place_among(&program.languages, name)
 }

@@ -1,5 +1,5 @@
 //! Laws of the definitions: functions that do nothing, whose contracts are the laws.
-ghost use Rattle.rdx_query.specs.Laws.{OneMeaning, OneText, OneRefusal, AcceptedOrRefused, TextOrRefusal};
+ghost use Rattle.rdx_query.specs.Laws.{OneMeaning, OneText, AlwaysMet, OneRefusal, NeverBothAcceptedAndRefused, NeverBothTextAndRefusal, NeverNeither, SomeTextOrRefusal};
 ghost use Rattle.rdx_query.specs.Examples as example;
 
 /// The data of a file define one list of languages and ask one list of queries at most.
@@ -14,24 +14,45 @@ pub fn one_text()
     rdx_lang::laws::one_listing();
 }
 
+/// Whatever a file writes, all is met that it states.
+pub fn always_met()
+    ensures { AlwaysMet }
+{}
+
 /// The data of a file have one refusal at most.
 pub fn one_refusal()
     ensures { OneRefusal }
 {}
 
 /// Data that are accepted are not refused.
-pub fn accepted_or_refused()
-    ensures { AcceptedOrRefused }
+pub fn never_both_accepted_and_refused()
+    ensures { NeverBothAcceptedAndRefused }
 {}
 
 /// Data that are refused write nothing.
-pub fn text_or_refusal()
-    ensures { TextOrRefusal }
+pub fn never_both_text_and_refusal()
+    ensures { NeverBothTextAndRefusal }
+{}
+
+/// Data are accepted or refused.
+pub fn never_neither()
+    ensures { NeverNeither }
+{}
+
+/// Data write some text or are refused.
+pub fn some_text_or_refusal()
+    ensures { SomeTextOrRefusal }
 {}
 
 /// The examples of `specs/Examples.antt` hold.
 pub fn worked_examples()
     ensures answers_in_order { example.AnswersInOrder }
+    ensures whole_answer { example.WholeAnswer }
+    ensures inherited { example.Inherited }
     ensures first_refused_form { example.FirstRefusedForm }
     ensures earlier_languages_only { example.EarlierLanguagesOnly }
+    ensures taken_name { example.TakenName }
+    ensures host_expression { example.HostExpression }
+    ensures few_items { example.FewItems }
+    ensures left_recursion { example.LeftRecursion }
 {}

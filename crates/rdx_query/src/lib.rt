@@ -1,25 +1,27 @@
 //! Files: what their forms mean, and the answers to their queries.
 //!
-//! [`check_file`] reads the forms of a file one after the other, and refuses the file at the first form that is refused. [`answer`] writes
-//! the answers to the queries of an accepted file. What a file means, and why it is refused, is in `specs/File.antt`; the text of the answers,
-//! from the rules of matching alone, in `specs/Answering.antt`.
+//! A form defines something or asks something. [`check_file`] reads the forms of a file one after the other, and refuses the file at the
+//! first form that is refused. [`answer`] writes the answers to the queries of an accepted file. What a file means, and why it is refused,
+//! is in `specs/File.antt`; the answers, from the rules of matching alone, in `specs/Answering.antt`.
 #![tactic(auto)]
 
 mod answers;
-mod definitions;
 mod dots;
 mod file;
 mod firsts;
 mod forms;
 mod kind;
 mod known;
+mod language_forms;
 pub mod laws;
+mod match_answers;
+mod match_forms;
 mod parts;
-mod queries;
 mod refusals;
 mod terms;
 #[cfg(test)]
 mod tests;
+mod texts;
 
 pub use answers::{Answered, answer};
 pub use file::{CheckedFile, Program, Query, check_file};

@@ -1,8 +1,9 @@
 // The parts of data and of forms.
 ghost use Rattle.std.specs.Prelude.{◌≡◌, option_map};
 ghost use Rattle.rdx_grammar.specs.Parts as parts;
-ghost use Rattle.rdx_query.specs.FormParts as forms;
-ghost use Rattle.rdx_query.specs.PartViews.{parts_of, second_item};
+ghost use Rattle.rdx_query.specs.Inside.PartViews.{parts_of, second_item};
+ghost use Rattle.rdx_query.specs.LanguageForms.{base_name};
+ghost use Rattle.rdx_query.specs.MatchForms.{query_parts, template_in};
 
 use rdx_grammar::shape::{is_word, items};
 use rdx_sexp::Datum;
@@ -27,7 +28,7 @@ pub(crate) fn second_item(d: &Datum) -> Option<&Datum>
 
 /// The name of the language that an extension extends.
 pub(crate) fn base_name(d: &Datum) -> Option<&Datum>
-    ensures { option_map (λ d. d.now) result ≡ forms.base_name d.now }
+    ensures { option_map (λ d. d.now) result ≡ base_name d.now }
 {
     match items(d)? {
         [_, _, name, ..] => Some(name),
@@ -37,7 +38,7 @@ pub(crate) fn base_name(d: &Datum) -> Option<&Datum>
 
 /// The term of `(term t)`.
 pub(crate) fn template(d: &Datum) -> Option<&Datum>
-    ensures { option_map (λ d. d.now) result ≡ forms.template_in d.now }
+    ensures { option_map (λ d. d.now) result ≡ template_in d.now }
 {
     match items(d)? {
         [head, term] => {
@@ -53,7 +54,7 @@ pub(crate) fn template(d: &Datum) -> Option<&Datum>
 
 /// The parts of a query.
 pub(crate) fn query_parts(d: &Datum) -> Option<QueryParts<'_>>
-    ensures { option_map parts_of result ≡ forms.query_parts d.now }
+    ensures { option_map parts_of result ≡ query_parts d.now }
 {
     match items(d)? {
         [_, language, pattern, host] => Some(QueryParts {

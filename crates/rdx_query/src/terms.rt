@@ -7,8 +7,8 @@ ghost use Rattle.rdx_term.specs.Spelling.{is_symbol_spelling};
 ghost use Rattle.rdx_term.specs.Building.{list_of};
 ghost use Rattle.rdx_term.specs.Tree.{trees_depth, trees_nodes};
 ghost use Rattle.rdx_term.specs.View.{tree_of, trees_of};
-ghost use Rattle.rdx_query.specs.FormReadings.{tree_or_hole};
-ghost use Rattle.rdx_query.specs.Sizes.{IsFormSize};
+ghost use Rattle.rdx_query.specs.Inside.Sizes.{IsFormSize};
+ghost use Rattle.rdx_query.specs.MatchForms.{tree_or_hole};
 
 use rdx_sexp::{Datum, Form};
 use rdx_term::{Build, Name, NoMemory, Term, list};

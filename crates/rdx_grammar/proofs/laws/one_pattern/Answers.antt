@@ -1,4 +1,4 @@
-use Rattle.rdx_grammar.proofs.OneReading.{one_pattern, one_pattern_refusal, pattern_or_refusal}
+use Rattle.rdx_grammar.proofs.OneReading.{one_pattern, one_pattern_refusal, never_both_pattern, never_neither_pattern}
 use Rattle.rdx_grammar.proofs.laws.one_pattern.Goals as goal
 
 pub returns-clause-pattern : goal.returns-clause-pattern
@@ -7,5 +7,8 @@ returns-clause-pattern c = one_pattern
 pub returns-clause-refusal : goal.returns-clause-refusal
 returns-clause-refusal c = one_pattern_refusal
 
-pub returns-clause-either : goal.returns-clause-either
-returns-clause-either c = pattern_or_refusal
+pub returns-clause-never_both : goal.returns-clause-never_both
+returns-clause-never_both c = never_both_pattern
+
+pub returns-clause-never_neither : goal.returns-clause-never_neither
+returns-clause-never_neither c = never_neither_pattern

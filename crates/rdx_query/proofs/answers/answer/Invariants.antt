@@ -1,7 +1,7 @@
 use Rattle.std.proofs.Common.{drop}
+use Rattle.rdx_query.specs.Views.{known_in}
 use Rattle.rdx_query.proofs.Upto.{Upto}
-use Rattle.rdx_query.specs.Views.{languages_of}
 use Rattle.rdx_query.proofs.answers.answer.Given as goal
 
 abbrev pub invariant-loop-query : goal.invariant-loop-query
-invariant-loop-query l = Upto (languages_of l.file) l.file.queries.items (drop l.query-index l.file.queries.items) l.transcript.items
+invariant-loop-query l = Upto (known_in l.file) l.file.queries.items (drop l.query-index l.file.queries.items) l.transcript.items l.met

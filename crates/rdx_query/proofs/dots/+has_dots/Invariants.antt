@@ -1,6 +1,6 @@
 use Rattle.std.proofs.Common.{◌≡◌, drop}
 use Rattle.rdx_sexp.specs.Sexp.{sexps}
-use Rattle.rdx_query.specs.FormParts.{have_dots}
+use Rattle.rdx_query.specs.MatchForms.{have_dots}
 use Rattle.rdx_query.proofs.dots.+has_dots.Given as goal
 
 abbrev pub invariant-loop-item : goal.invariant-loop-item

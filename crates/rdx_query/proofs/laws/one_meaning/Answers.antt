@@ -1,6 +1,6 @@
-use Rattle.std.proofs.Common.{[]}
+use Rattle.rdx_query.specs.Known.{nothing}
 use Rattle.rdx_query.proofs.OneReading.{accepts-one}
 use Rattle.rdx_query.proofs.laws.one_meaning.Goals as goal
 
 pub returns : goal.returns
-returns c ds Ls Ms qs rs a b = let s = accepts-one [] ds Ls Ms qs rs a b in (s.languages, s.queries)
+returns c ds K J qs rs a b = let s = accepts-one nothing ds K J qs rs a b in (s.known, s.queries)

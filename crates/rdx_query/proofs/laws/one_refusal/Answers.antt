@@ -1,6 +1,6 @@
-use Rattle.std.proofs.Common.{[]}
+use Rattle.rdx_query.specs.Known.{nothing}
 use Rattle.rdx_query.proofs.OneReading.{refuses-one}
 use Rattle.rdx_query.proofs.laws.one_refusal.Goals as goal
 
 pub returns : goal.returns
-returns c ds r q = refuses-one [] ds r q
+returns c ds r q = refuses-one nothing ds r q

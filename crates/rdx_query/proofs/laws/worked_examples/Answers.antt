@@ -1,11 +1,29 @@
-use Rattle.rdx_query.proofs.Examples.{answers_in_order, first_refused_form, earlier_languages_only}
+use Rattle.rdx_query.proofs.Examples.{answers_in_order, whole_answer, inherited, first_refused_form, earlier_languages_only, taken_name, host_expression, few_items, left_recursion}
 use Rattle.rdx_query.proofs.laws.worked_examples.Goals as goal
 
 pub returns-clause-answers_in_order : goal.returns-clause-answers_in_order
 returns-clause-answers_in_order c = answers_in_order
+
+pub returns-clause-whole_answer : goal.returns-clause-whole_answer
+returns-clause-whole_answer c = whole_answer
+
+pub returns-clause-inherited : goal.returns-clause-inherited
+returns-clause-inherited c = inherited
 
 pub returns-clause-first_refused_form : goal.returns-clause-first_refused_form
 returns-clause-first_refused_form c = first_refused_form
 
 pub returns-clause-earlier_languages_only : goal.returns-clause-earlier_languages_only
 returns-clause-earlier_languages_only c = earlier_languages_only
+
+pub returns-clause-taken_name : goal.returns-clause-taken_name
+returns-clause-taken_name c = taken_name
+
+pub returns-clause-host_expression : goal.returns-clause-host_expression
+returns-clause-host_expression c = host_expression
+
+pub returns-clause-few_items : goal.returns-clause-few_items
+returns-clause-few_items c = few_items
+
+pub returns-clause-left_recursion : goal.returns-clause-left_recursion
+returns-clause-left_recursion c = left_recursion

@@ -1,9 +1,0 @@
-use Rattle.std.proofs.Common.{◌≡◌, ◌++◌, drop, map}
-use Rattle.rdx_lang.specs.PatternView.{definition_of}
-use Rattle.rdx_grammar.specs.Languages as languages
-use Rattle.rdx_grammar.proofs.extension.add_redefined.Given as goal
-
-abbrev pub invariant-loop-nonterminal : goal.invariant-loop-nonterminal
-invariant-loop-nonterminal l =
-    map definition_of l.out.items ++ map (languages.redefined (map definition_of l.new)) (map definition_of (drop l.nonterminal-index l.base))
-    ≡ map definition_of l.fn.out.items ++ map (languages.redefined (map definition_of l.new)) (map definition_of l.base)

@@ -1,0 +1,9 @@
+pub mod HeadView
+pub mod OccurrenceView
+pub mod StandView
+pub mod PartViews
+pub mod BaseView
+pub mod Repeats
+pub mod Found
+pub mod AreNames
+pub mod CheckedForms

@@ -1,0 +1,17 @@
+-- The things in patterns that values of the code stand for.
+use Rattle.std.specs.Prelude.{List, map}
+use Rattle.rdx_grammar.specs.Occurrences.{Occurrence, key, binder, single, excepted, malformed}
+use Rattle.rdx_grammar.specs.declared.patterns.occurrences.Occurrence as code_occurrence
+use Rattle.rdx_grammar.specs.declared.patterns.occurrences.Occurrence.TheVariants as variants
+
+-- what an occurrence of the code is
+abbrev pub occurrence_of : code_occurrence.Occurrence → Occurrence
+occurrence_of (variants.Key d) = key d.now
+occurrence_of (variants.Binder d) = binder d.now
+occurrence_of (variants.Single d) = single d.now
+occurrence_of (variants.Excepted d) = excepted d.now
+occurrence_of (variants.Malformed d) = malformed d.now
+
+-- and what several are, in their order
+abbrev pub occurrences_of : List code_occurrence.Occurrence → List Occurrence
+occurrences_of os = map occurrence_of os

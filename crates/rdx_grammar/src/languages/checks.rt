@@ -1,0 +1,149 @@
+// The checks of a form that defines a language one by one.
+ghost use Rattle.std.specs.Prelude.{◌≡◌, [], option_map};
+ghost use Rattle.rdx_grammar.specs.Checks as model;
+ghost use Rattle.rdx_grammar.specs.Inside.BaseView.{base_in};
+ghost use Rattle.rdx_grammar.specs.Inside.Repeats.{seen_behind};
+ghost use Rattle.rdx_grammar.specs.Inside.StandView.{stand_of, stands_of};
+ghost use Rattle.rdx_grammar.specs.Refusal.{first};
+
+use crate::languages::bases::all_inherit;
+use crate::languages::stands::Stand;
+use crate::patterns::checks::{first_bad_binder, first_bad_occurrence, first_keyword, when};
+use crate::patterns::kinds::kind;
+use crate::shape::names::{begins_with_dots, has_suffix, is_bad_name, is_kept};
+use crate::shape::text;
+use rdx_lang::CheckedLang;
+use rdx_sexp::Datum;
+use rdx_term::Name;
+
+fn shape_fault<'a>(s: &Stand<'a>) -> Option<&'a Datum>
+    ensures { option_map (λ d. d.now) result ≡ first (model.shape_fault (stand_of s.now)) }
+{
+    match s {
+        Stand::Misshaped(d) => Some(*d),
+        Stand::Alternative(found) => first_keyword(found),
+        Stand::Defined(_) | Stand::Nonterminal(_) | Stand::Inherited(_, _, _) => None,
+    }
+}
+
+/// The first form or definition that has not its shape, or keyword in a pattern.
+pub(crate) fn first_shape_fault<'a>(found: &[Stand<'a>]) -> Option<&'a Datum>
+    ensures { option_map (λ d. d.now) result ≡ first (model.shape_faults (stands_of found.now)) }
+{
+    for s in found {
+        if let Some(d) = shape_fault(s) {
+            return Some(d);
+        }
+    }
+    None
+}
+
+// Whether this is the name of a nonterminal with the text of the symbol.
+fn names_same(s: &Stand, d: &Datum) -> bool
+    ensures { result ≡ model.is_seen (model.seen_with [] (stand_of s.now)) d.now }
+{
+    match s {
+        Stand::Nonterminal(e) => text(d) == text(e),
+        Stand::Misshaped(_)
+        | Stand::Defined(_)
+        | Stand::Alternative(_)
+        | Stand::Inherited(_, _, _) => false,
+    }
+}
+
+// Whether a nonterminal with the text of the symbol stands among these.
+fn is_seen(earlier: &[Stand], d: &Datum) -> bool
+    ensures { result ≡ model.is_seen (seen_behind [] (stands_of earlier.now)) d.now }
+{
+    for s in earlier {
+        if names_same(s, d) {
+            return true;
+        }
+    }
+    false
+}
+
+fn repeated<'a>(earlier: &[Stand<'a>], s: &Stand<'a>) -> Option<&'a Datum>
+    ensures { option_map (λ d. d.now) result
+        ≡ first (model.repeated (seen_behind [] (stands_of earlier.now)) (stand_of s.now)) }
+{
+    match s {
+        Stand::Nonterminal(d) => when(is_seen(earlier, d), d),
+        Stand::Misshaped(_)
+        | Stand::Defined(_)
+        | Stand::Alternative(_)
+        | Stand::Inherited(_, _, _) => None,
+    }
+}
+
+/// The first nonterminal that is defined for the second time.
+pub(crate) fn first_repeated<'a>(found: &[Stand<'a>]) -> Option<&'a Datum>
+    ensures { option_map (λ d. d.now) result ≡ first (model.repeats [] (stands_of found.now)) }
+{
+    for i in 0..found.len() {
+        if let Some(d) = repeated(&found[..i], &found[i]) {
+            return Some(d);
+        }
+    }
+    None
+}
+
+// Whether no nonterminal may have this name.
+fn is_bad_nonterminal(text: &str) -> bool
+    ensures { result ≡ model.is_bad_nonterminal text.now }
+{
+    kind(text).is_some() || is_kept(text) || has_suffix(text) || begins_with_dots(text)
+}
+
+fn bad_name<'a>(s: &Stand<'a>) -> Option<&'a Datum>
+    ensures { option_map (λ d. d.now) result ≡ first (model.bad_name (stand_of s.now)) }
+{
+    match s {
+        Stand::Nonterminal(d) => when(is_bad_nonterminal(text(d)), d),
+        Stand::Defined(d) => when(is_bad_name(text(d)), d),
+        Stand::Alternative(found) => first_bad_binder(found),
+        Stand::Misshaped(_) | Stand::Inherited(_, _, _) => None,
+    }
+}
+
+/// The first name that may not be defined or bound.
+pub(crate) fn first_bad_name<'a>(found: &[Stand<'a>]) -> Option<&'a Datum>
+    ensures { option_map (λ d. d.now) result ≡ first (model.bad_names (stands_of found.now)) }
+{
+    for s in found {
+        if let Some(d) = bad_name(s) {
+            return Some(d);
+        }
+    }
+    None
+}
+
+fn bad_pattern<'a>(base: Option<&CheckedLang>, names: &[Name], s: &Stand<'a>) -> Option<&'a Datum>
+    ensures { option_map (λ d. d.now) result
+        ≡ first (model.bad_pattern (base_in (option_map (λ c. c.now) base.entry)) names.now
+        (stand_of s.now)) }
+{
+    match s {
+        Stand::Alternative(found) => first_bad_occurrence(names, found),
+        Stand::Inherited(d, of, again) => when(*again || !all_inherit(base, of), d),
+        Stand::Misshaped(_) | Stand::Defined(_) | Stand::Nonterminal(_) => None,
+    }
+}
+
+/// The first pattern that means nothing, over these nonterminals.
+pub(crate) fn first_bad_pattern<'a>(
+    base: Option<&CheckedLang>,
+    names: &[Name],
+    found: &[Stand<'a>],
+) -> Option<&'a Datum>
+    ensures { option_map (λ d. d.now) result
+        ≡ first (model.bad_patterns (base_in (option_map (λ c. c.now) base.entry)) names.now
+        (stands_of found.now)) }
+{
+    for s in found {
+        if let Some(d) = bad_pattern(base, names, s) {
+            return Some(d);
+        }
+    }
+    None
+}

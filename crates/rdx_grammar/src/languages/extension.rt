@@ -1,0 +1,105 @@
+// The definitions of an extension.
+ghost use Rattle.std.specs.Prelude.{◌≡◌, ◌++◌, IfOk, OnOk, [], ◌∷◌, map, option_map};
+ghost use Rattle.rdx_lang.specs.PatternView.{definition_of, patterns_of};
+ghost use Rattle.rdx_grammar.specs.Inside.BaseView.{base_in};
+ghost use Rattle.rdx_grammar.specs.Inside.Found.{found_among};
+ghost use Rattle.rdx_grammar.specs.Extension as model;
+
+use crate::languages::definitions::add_shared;
+use rdx_lang::{CheckedLang, Pat, Ref};
+use rdx_term::NoMemory;
+use std::alloc::Global;
+
+// The alternatives of a nonterminal, where it is defined.
+fn find<'a>(definitions: &'a [(Ref, Vec<Pat>)], nonterminal: &Ref) -> Option<&'a [Pat]>
+    ensures { option_map (λ pats. patterns_of pats.now) result
+        ≡ found_among (map definition_of definitions.now) nonterminal.now }
+{
+    for (defined, alternatives) in definitions {
+        if nonterminal.same(defined) {
+            return Some(alternatives);
+        }
+    }
+    None
+}
+
+// Puts the same definition behind those that are there.
+fn add_same(
+    alloc: Global,
+    nonterminal: &Ref,
+    alternatives: &[Pat],
+    out: &mut Vec<(Ref, Vec<Pat>)>,
+) -> Result<(), NoMemory>
+    ensures { OnOk result (
+        map definition_of out.new.items
+        ≡ map definition_of out.old.items ++ (nonterminal.now, patterns_of alternatives.now) ∷ []) }
+{
+    let mut shared = Vec::new(alloc);
+    add_shared(alloc, alternatives, &mut shared)?;
+    out.push((nonterminal.share()?, shared))?;
+    Ok(())
+}
+
+// Puts the definitions of a base behind those that are there, with the new alternatives where it has some.
+fn add_redefined(
+    alloc: Global,
+    new: &[(Ref, Vec<Pat>)],
+    base: &[(Ref, Vec<Pat>)],
+    out: &mut Vec<(Ref, Vec<Pat>)>,
+) -> Result<(), NoMemory>
+    ensures { OnOk result (
+        map definition_of out.new.items
+        ≡ map definition_of out.old.items
+        ++ map (model.redefined (map definition_of new.now)) (map definition_of base.now)) }
+{
+    for (nonterminal, alternatives) in base {
+        match find(new, nonterminal) {
+            Some(others) => add_same(alloc, nonterminal, others, out)?,
+            None => add_same(alloc, nonterminal, alternatives, out)?,
+        }
+    }
+    Ok(())
+}
+
+// Puts the new definitions that the base has not behind those that are there.
+fn add_added(
+    alloc: Global,
+    new: &[(Ref, Vec<Pat>)],
+    base: &[(Ref, Vec<Pat>)],
+    out: &mut Vec<(Ref, Vec<Pat>)>,
+) -> Result<(), NoMemory>
+    ensures { OnOk result (
+        map definition_of out.new.items
+        ≡ map definition_of out.old.items
+        ++ model.added (map definition_of base.now) (map definition_of new.now)) }
+{
+    for (nonterminal, alternatives) in new {
+        if find(base, nonterminal).is_none() {
+            add_same(alloc, nonterminal, alternatives, out)?;
+        }
+    }
+    Ok(())
+}
+
+/// The definitions of the base, with the new ones.
+pub(crate) fn extended(
+    alloc: Global,
+    base: Option<&CheckedLang>,
+    new: Vec<(Ref, Vec<Pat>)>,
+) -> Result<Vec<(Ref, Vec<Pat>)>, NoMemory>
+    ensures { IfOk result (λ all.
+        map definition_of all.items
+        ≡ model.extended (base_in (option_map (λ c. c.now) base.entry))
+        (map definition_of new.items)) }
+{
+    match base {
+        None => Ok(new),
+        Some(base) => {
+            let inherited = &base.language().nts;
+            let mut all = Vec::new(alloc);
+            add_redefined(alloc, &new, inherited, &mut all)?;
+            add_added(alloc, &new, inherited, &mut all)?;
+            Ok(all)
+        }
+    }
+}

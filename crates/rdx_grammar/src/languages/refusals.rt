@@ -1,0 +1,86 @@
+// Why a form that defines a language is refused.
+ghost use Rattle.std.specs.Prelude.{◌≡◌, [], ◌∷◌, IfOk, option_map};
+ghost use Rattle.rdx_grammar.specs.Inside.BaseView.{base_in};
+ghost use Rattle.rdx_grammar.specs.Inside.CheckedForms.{AreNamedIn, AreSpelledIn};
+ghost use Rattle.rdx_grammar.specs.Inside.PartViews.{parts_of};
+ghost use Rattle.rdx_grammar.specs.Inside.StandView.{stands_of};
+ghost use Rattle.rdx_grammar.specs.Refusal.{refusal_of, first_refusal};
+ghost use Rattle.rdx_grammar.specs.Refused as model;
+
+use crate::languages::checks::{
+    first_bad_name, first_bad_pattern, first_repeated, first_shape_fault,
+};
+use crate::languages::form_parts::FormParts;
+use crate::languages::nonterminals::form_names;
+use crate::languages::stands::{Stand, form_stands};
+use crate::shape::refusal::{named, unnamed};
+use crate::shape::unbuilt::has_word_to_come;
+use crate::shape::{DefKind, DefRefusal};
+use rdx_lang::CheckedLang;
+use rdx_sexp::Datum;
+use rdx_term::{Name, NoMemory};
+use std::alloc::Global;
+
+// The refusal by the shape of what stands in a form, or by names there, if one refuses it.
+fn refuse_early(alloc: Global, found: &[Stand]) -> Result<Option<DefRefusal>, NoMemory>
+    ensures { IfOk result (λ r.
+        option_map refusal_of r
+        ≡ first_refusal (model.shape_at (stands_of found.now) ∷ model.duplicate_at (stands_of found.now)
+        ∷ model.bad_name_at (stands_of found.now) ∷ [])) }
+{
+    if let Some(d) = first_shape_fault(found) {
+        return Ok(Some(unnamed(DefKind::Shape, d)));
+    }
+    if let Some(d) = first_repeated(found) {
+        return Ok(Some(named(alloc, DefKind::Duplicate, d)?));
+    }
+    if let Some(d) = first_bad_name(found) {
+        return Ok(Some(named(alloc, DefKind::BadName, d)?));
+    }
+    Ok(None)
+}
+
+// The nonterminals of a form with these parts.
+fn names_over(
+    alloc: Global,
+    base: Option<&CheckedLang>,
+    parts: Option<FormParts<'_>>,
+) -> Result<Vec<Name>, NoMemory>
+    requires { AreNamedIn (option_map parts_of parts) }
+    ensures { IfOk result (λ names.
+        names.items
+        ≡ model.names_over (base_in (option_map (λ c. c.now) base.entry))
+        (option_map parts_of parts.entry)) }
+{
+    match parts {
+        None => Ok(Vec::new(alloc)),
+        Some(parts) => form_names(alloc, base, parts.definitions),
+    }
+}
+
+/// The refusal by the check with the least number that refuses a form with these parts over a base, but for left recursion.
+pub(crate) fn refuse_form(
+    alloc: Global,
+    base: Option<&CheckedLang>,
+    form: &Datum,
+    parts: Option<FormParts<'_>>,
+) -> Result<Option<DefRefusal>, NoMemory>
+    requires { AreSpelledIn (option_map parts_of parts) }
+    ensures { IfOk result (λ r.
+        option_map refusal_of r
+        ≡ model.refusal_over (base_in (option_map (λ c. c.now) base.entry)) form.now
+        (option_map parts_of parts.entry)) }
+{
+    if has_word_to_come(form) {
+        return Ok(Some(unnamed(DefKind::Unbuilt, form)));
+    }
+    let found = form_stands(alloc, form, parts)?;
+    if let Some(refusal) = refuse_early(alloc, &found)? {
+        return Ok(Some(refusal));
+    }
+    let names = names_over(alloc, base, parts)?;
+    if let Some(d) = first_bad_pattern(base, &names, &found) {
+        return Ok(Some(unnamed(DefKind::BadPattern, d)));
+    }
+    Ok(None)
+}

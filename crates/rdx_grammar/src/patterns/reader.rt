@@ -1,0 +1,35 @@
+// Patterns outside grammars.
+ghost use Rattle.std.specs.Prelude.{◌≡◌, IfOk};
+ghost use Rattle.rdx_lang.specs.Checked.{language_in};
+ghost use Rattle.rdx_grammar.specs.Answers.{IsWellFormedIn, ReadsPattern};
+ghost use Rattle.rdx_grammar.specs.Nonterminals.{names_of};
+
+use crate::patterns::nonterminals::language_names;
+use crate::patterns::position::Position;
+use crate::patterns::readings::read_datum;
+use crate::patterns::refusals::refuse_pattern;
+use crate::shape::DefFault;
+use rdx_lang::{CheckedLang, CheckedPat};
+use rdx_sexp::Datum;
+use std::alloc::Global;
+
+/// The pattern of a datum outside grammars, over a language.
+pub fn read_pattern(
+    alloc: Global,
+    language: &mut CheckedLang,
+    d: &Datum,
+) -> Result<CheckedPat, DefFault>
+    ensures reads { ReadsPattern (names_of (language_in language.old)) d.now result }
+    ensures same { language_in language.new ≡ language_in language.old }
+    ensures well_formed { IfOk result (λ c. IsWellFormedIn (language_in language.new) c) }
+{
+    let names = language_names(alloc, language)?;
+    if let Some(refusal) = refuse_pattern(alloc, &names, d)? {
+        return Err(DefFault::Refused(refusal));
+    }
+    let pattern = read_datum(alloc, &names, Position::Query, d)?;
+    match CheckedPat::new(language, pattern)? {
+        Some(pattern) => Ok(pattern),
+        None => unreachable!(),
+    }
+}

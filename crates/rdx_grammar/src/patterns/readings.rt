@@ -1,0 +1,164 @@
+// The patterns of data.
+ghost use Rattle.std.specs.Prelude.{◌≡◌, ◌++◌, IfOk, OnOk, option_map};
+ghost use Rattle.std.specs.Rc.{rc_str_bytes};
+ghost use Rattle.rdx_lang.specs.PatternView.{pattern_of};
+ghost use Rattle.rdx_sexp.specs.Sexp.{sexps};
+ghost use Rattle.rdx_grammar.specs.Inside.HeadView.{role_view, roles_view};
+ghost use Rattle.rdx_grammar.specs.Reading as model;
+
+use crate::patterns::assembly::{assembled, named};
+use crate::patterns::heads::{Role, Roles, fits, head_among, next, rest, roles_of};
+use crate::patterns::kinds::kind;
+use crate::patterns::position::Position;
+use crate::shape::names::{front, has_suffix};
+use crate::shape::symbol;
+use rdx_lang::{Item, Pat, Ref};
+use rdx_sexp::{Datum, Form};
+use rdx_term::{Name, NoMemory, Term};
+use std::alloc::Global;
+use std::rc::RcStr;
+
+// The built-in name or the nonterminal of this text.
+fn base(names: &[Name], text: &str) -> Result<Option<Pat>, NoMemory>
+    ensures { IfOk result (λ found. option_map pattern_of found ≡ model.base names.now text.now) }
+{
+    if let Some(kind) = kind(text) {
+        return Ok(Some(Pat::Kind(kind)));
+    }
+    for name in names {
+        if name.text() == text {
+            return Ok(Some(Pat::Nt(Ref::Nt(name.share()?))));
+        }
+    }
+    Ok(None)
+}
+
+// A symbol that is neither a built-in name nor a nonterminal.
+fn read_other(alloc: Global, names: &[Name], name: Name) -> Result<Pat, NoMemory>
+    ensures { IfOk result (λ pat. pattern_of pat ≡ model.other_symbol names.now name) }
+{
+    if !has_suffix(name.text()) {
+        return Ok(Pat::Lit(Term::Sym(name)));
+    }
+    match base(names, front(name.text()))? {
+        Some(inner) => named(alloc, name, inner),
+        None => Ok(Pat::Wild),
+    }
+}
+
+// A symbol that is a name.
+fn read_name(alloc: Global, names: &[Name], position: Position, name: Name) -> Result<Pat, NoMemory>
+    ensures { IfOk result (λ pat.
+        pattern_of pat ≡ model.by_base names.now position name (model.base names.now name)) }
+{
+    match base(names, name.text())? {
+        Some(inner) => match position {
+            Position::Grammar => Ok(inner),
+            Position::Query => named(alloc, name, inner),
+        },
+        None => read_other(alloc, names, name),
+    }
+}
+
+fn read_symbol(
+    alloc: Global,
+    names: &[Name],
+    position: Position,
+    text: &RcStr,
+) -> Result<Pat, NoMemory>
+    ensures { IfOk result (λ pat.
+        pattern_of pat ≡ model.symbol_reading names.now position (rc_str_bytes text.now)) }
+{
+    if text.as_str() == "_" {
+        return Ok(Pat::Wild);
+    }
+    match Name::new(text.clone()?) {
+        Some(name) => read_name(alloc, names, position, name),
+        None => Ok(Pat::Wild),
+    }
+}
+
+// Puts the name that a symbol is, where it is one, behind those that are there.
+fn add_name(d: &Datum, out: &mut Vec<Name>) -> Result<(), NoMemory>
+    ensures { OnOk result (out.new.items ≡ out.old.items ++ model.name_in d.now) }
+{
+    let Some(text) = symbol(d) else {
+        return Ok(());
+    };
+    match Name::new(text.clone()?) {
+        Some(name) => Ok(out.push(name)?),
+        None => Ok(()),
+    }
+}
+
+// Puts what an item in this role gives as a name behind the names that are there.
+fn add_role_name(role: Option<Role>, d: &Datum, out: &mut Vec<Name>) -> Result<(), NoMemory>
+    ensures { OnOk result (
+        out.new.items ≡ out.old.items ++ model.role_names (option_map role_view role) d.now) }
+{
+    match role {
+        Some(Role::Bound | Role::Spelt) => add_name(d, out),
+        Some(Role::Word | Role::Pattern) | None => Ok(()),
+    }
+}
+
+// The names among items in these roles.
+fn names_among(alloc: Global, roles: Roles, items: &[Datum]) -> Result<Vec<Name>, NoMemory>
+    ensures { IfOk result (λ names.
+        names.items ≡ model.names_among (roles_view roles) (sexps items.now)) }
+{
+    let mut names = Vec::new(alloc);
+    let mut left = roles;
+    for item in items {
+        let role = next(left);
+        left = rest(left);
+        add_role_name(role, item, &mut names)?;
+    }
+    Ok(names)
+}
+
+// Whether an item in this role is a pattern.
+fn is_pattern(role: Option<Role>) -> bool
+    ensures { result ≡ model.is_pattern (option_map role_view role) }
+{
+    match role {
+        Some(Role::Pattern) => true,
+        Some(Role::Word | Role::Bound | Role::Spelt) | None => false,
+    }
+}
+
+/// The pattern of a datum over these nonterminals.
+pub(crate) fn read_datum(
+    alloc: Global,
+    names: &[Name],
+    position: Position,
+    d: &Datum,
+) -> Result<Pat, NoMemory>
+    ensures { IfOk result (λ pat. pattern_of pat ≡ model.reading names.now position d.now) }
+{
+    match &d.form {
+        Form::Int(n) => Ok(Pat::Lit(Term::Int(*n))),
+        Form::Bool(b) => Ok(Pat::Lit(Term::Bool(*b))),
+        Form::Str(text) => Ok(Pat::Lit(Term::Str(text.clone()?))),
+        Form::Sym(text) => read_symbol(alloc, names, position, text),
+        Form::Key(_) => Ok(Pat::Wild),
+        Form::List(parts) => {
+            let head = head_among(parts);
+            let mut left = roles_of(head);
+            if !fits(left, parts) {
+                return Ok(Pat::Wild);
+            }
+            let found = names_among(alloc, left, parts)?;
+            let mut items = Vec::new(alloc);
+            for part in parts {
+                let role = next(left);
+                left = rest(left);
+                if !is_pattern(role) {
+                    continue;
+                }
+                items.push(Item::One(read_datum(alloc, names, position, part)?))?;
+            }
+            assembled(alloc, head, found, items)
+        }
+    }
+}

@@ -1,0 +1,68 @@
+// Why a form is refused.
+ghost use Rattle.std.specs.Prelude.{◌≡◌};
+ghost use Rattle.rdx_grammar.specs.declared.shape.fault.DefFault.TheVariants as fault;
+
+use rdx_base::Place;
+use rdx_term::NoMemory;
+use std::alloc::{AllocError, AllocFailed};
+use std::rc::RcStr;
+
+/// The checks of a form. The one with the least number that refuses it is reported.
+#[derive(Clone, Copy, Debug, PartialEq, Eq)]
+pub enum DefKind {
+    /// The form, or a word in it, is not built yet. The place is the form's.
+    Unbuilt,
+    /// A form or a definition has not its shape, or a keyword stands in a pattern. The place is the innermost such datum's.
+    Shape,
+    /// No earlier form defines the language. The place and the name are those of the name.
+    UnknownLanguage,
+    /// A language has the name of an earlier one, or a nonterminal is defined twice in one form. The place and the name are the second's.
+    Duplicate,
+    /// A name may not be that of a nonterminal, or of what else it is to name. The place and the name are its own.
+    BadName,
+    /// What stands as a pattern means nothing as one. The place is its own.
+    BadPattern,
+    /// The language is left-recursive. The place is the form's, and the name that of the first nonterminal that reaches itself.
+    LeftRecursive,
+}
+
+/// A form that is refused: why, where, and the name at which it is, where there is one.
+#[derive(Debug, Drop)]
+pub struct DefRefusal {
+    pub kind: DefKind,
+    pub place: Place,
+    pub name: Option<RcStr>,
+}
+
+/// Why a form is not read.
+#[derive(Debug, Drop)]
+pub enum DefFault {
+    /// It is refused.
+    Refused(DefRefusal),
+    /// Memory ran out.
+    NoMemory,
+}
+
+impl From<NoMemory> for DefFault {
+    ghost from_gives = { λ _ given. given ≡ fault.NoMemory };
+
+    fn from(_: NoMemory) -> DefFault {
+        DefFault::NoMemory
+    }
+}
+
+impl From<AllocError> for DefFault {
+    ghost from_gives = { λ _ given. given ≡ fault.NoMemory };
+
+    fn from(_: AllocError) -> DefFault {
+        DefFault::NoMemory
+    }
+}
+
+impl<T: Drop> From<AllocFailed<T>> for DefFault {
+    ghost from_gives = { λ _ given. given ≡ fault.NoMemory };
+
+    fn from(_: AllocFailed<T>) -> DefFault {
+        DefFault::NoMemory
+    }
+}

@@ -1,0 +1,64 @@
+//! Forms and words that are not built yet.
+ghost use Rattle.std.specs.Prelude.{◌≡◌, codes};
+ghost use Rattle.rdx_grammar.specs.Names.{is_one_of};
+ghost use Rattle.rdx_grammar.specs.Unbuilt as unbuilt;
+
+use crate::shape::names::begins_with_dots;
+use rdx_sexp::{Datum, Form};
+
+// Whether forms to come are written with this word.
+fn is_form_word(text: &str) -> bool
+    ensures { result ≡ is_one_of unbuilt.words_to_come text.now }
+{
+    matches!(
+        text,
+        "hole"
+            | "in-hole"
+            | "hide-hole"
+            | "reduction-relation"
+            | "where"
+            | "unquote"
+            | "unquote-splicing"
+            | "side-condition"
+            | "judgment-holds"
+            | "context-closure"
+            | "compatible-closure"
+            | "cross"
+            | "with"
+            | "fresh"
+    )
+}
+
+// Whether this is a name that stands for different terms wherever it comes.
+fn is_mismatch(text: &str) -> bool
+    ensures { result ≡ unbuilt.occurs_in (codes "_!_") text.now }
+{
+    text.contains("_!_")
+}
+
+// Whether a form to come gives the symbol a meaning.
+fn is_word_to_come(text: &str) -> bool
+    ensures { result ≡ unbuilt.is_word_to_come text.now }
+{
+    let is_dotted = begins_with_dots(text);
+    is_form_word(text) || (is_dotted && text != "....") || (is_mismatch(text) && !is_dotted)
+}
+
+/// Whether such a word stands in the datum, however deep.
+pub fn has_word_to_come(d: &Datum) -> bool
+    ensures { result ≡ unbuilt.has_word_to_come d.now }
+{
+    match &d.form {
+        Form::Int(_) | Form::Bool(_) | Form::Str(_) => false,
+        Form::Sym(text) => is_word_to_come(text.as_str()),
+        Form::Key(text) => text.as_str() == "binding-forms",
+        Form::List(items) => {
+            for item in items {
+                if has_word_to_come(item) {
+                    return true;
+                }
+            }
+            false
+        }
+    }
+}

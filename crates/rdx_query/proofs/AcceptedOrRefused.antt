@@ -1,0 +1,143 @@
+-- Each form of a file is accepted or refused, and so is the file.
+use Rattle.std.proofs.Common.{◌≡◌, ◌⊎◌, inl, inr, List, [], ◌∷◌, Option, Some, None, refl, ◌∙◌, ap}
+use Rattle.std.specs.Prelude.{option_map}
+use Rattle.rdx_sexp.specs.Sexp.{Sexp}
+use Rattle.rdx_lang.specs.Edges.{IsFree, IsFirstRecursive}
+use Rattle.rdx_lang.specs.Patterns.{Language}
+use Rattle.rdx_lang.specs.declared.pattern.Ref.{Ref}
+use Rattle.rdx_lang.specs.declared.pattern.Ref.TheVariants.{Nt}
+use Rattle.rdx_grammar.specs.Forms.{GrammarForm, language_form, extension_form}
+use Rattle.rdx_grammar.specs.Languages.{empty_language, language_over}
+use Rattle.rdx_grammar.specs.Refusal.{Refusal, unnamed, or_else}
+use Rattle.rdx_grammar.specs.Unbuilt.{unbuilt_at}
+use Rattle.rdx_grammar.specs.Refused.{recursion_at}
+use Rattle.rdx_grammar.specs.declared.shape.fault.DefKind.TheVariants.{Shape}
+use Rattle.rdx_query.specs.Definitions.{Defined, language}
+use Rattle.rdx_query.specs.File.{Defines, Asks, IsRefusedForm, by_check, by_recursion, Accepts, accepts_none, accepts_definition, accepts_query, Refuses, refuses_here, refuses_behind_definition, refuses_behind_query}
+use Rattle.rdx_query.specs.FormKinds.{DefinitionKind, QueryKind, FormKind, defines, asks, form_kind}
+use Rattle.rdx_query.specs.FormKinds as kind
+use Rattle.rdx_query.specs.Forms.{form_refusal, form_definition, refusal_by_kind, definition_by_kind, query_by_kind, definition_refusal, definition_of, question_refusal, asked_query}
+use Rattle.rdx_query.specs.Known.{Known, nothing, with_definition}
+use Rattle.rdx_query.specs.LanguageForms.{base_name, named_base, language_refusal}
+use Rattle.rdx_query.specs.Laws.{AreAccepted, AreRefused}
+use Rattle.rdx_query.specs.MatchForms.{QueryParts, query_parts, query_refusal, query_over}
+use Rattle.rdx_query.specs.Queries.{Query, matches, whether}
+use Rattle.rdx_query.proofs.Recursion.{HasFirst, free_or_recursive}
+
+-- there is a value
+record HasValue (A : Type 0) (o : Option A) : Type 0 where
+  pub value : A
+  pub is : o ≡ Some value
+
+-- what a function gives, where there is a value
+mapped : {A B : Type 0} (f : A → B) (o : Option A) → HasValue A o → HasValue B (option_map f o)
+mapped f o h = record { value = f h.value; is = ap (option_map f) h.is }
+
+-- ---- what passes has its parts
+
+-- where a check refuses, all are not passed, whatever comes before it
+not_passed : (o : Option Refusal) (r : Refusal) → or_else o (Some r) ≡ None → ⊥
+not_passed None r e = absurd cc
+not_passed (Some q) r e = absurd cc
+
+-- a form that defines a language has the parts of one
+language-parts : (K : Known) (base : Language) (l0 : Option Sexp) (d : Sexp) (g : Option GrammarForm) → language_refusal K base l0 d g ≡ None → HasValue GrammarForm g
+language-parts K base l0 d None e = absurd (not_passed (unbuilt_at d) (unnamed Shape d) e)
+language-parts K base l0 d (Some g) e = record { value = g; is = refl }
+
+-- so it defines a language
+record DefinesLanguage (K : Known) (d : Sexp) (k : DefinitionKind) : Type 0 where
+  pub value : Language
+  pub is : definition_of K d k ≡ Some (language value)
+
+definition-means : (K : Known) (d : Sexp) (k : DefinitionKind) → definition_refusal K d k ≡ None → DefinesLanguage K d k
+definition-means K d kind.language e =
+    let m = mapped (language_over empty_language) (language_form d) (language-parts K empty_language None d (language_form d) e) in
+    record { value = m.value; is = ap (option_map language) m.is }
+definition-means K d kind.extension e =
+    let base = named_base K (base_name d) in
+    let m = mapped (language_over base) (extension_form d) (language-parts K base (base_name d) d (extension_form d) e) in
+    record { value = m.value; is = ap (option_map language) m.is }
+
+-- a query has the parts of one
+query-parts : (K : Known) (d : Sexp) (q : Option QueryParts) → query_refusal K d q ≡ None → HasValue QueryParts q
+query-parts K d None e = absurd (not_passed (unbuilt_at d) (unnamed Shape d) e)
+query-parts K d (Some q) e = record { value = q; is = refl }
+
+question-means : (K : Known) (d : Sexp) (k : QueryKind) → question_refusal K d k ≡ None → HasValue Query (asked_query K d k)
+question-means K d kind.matches e = mapped (query_over K matches) (query_parts d) (query-parts K d (query_parts d) e)
+question-means K d kind.whether e = mapped (query_over K whether) (query_parts d) (query-parts K d (query_parts d) e)
+
+-- ---- forms
+
+-- what becomes of a form
+data Outcome (K : Known) (d : Sexp) : Type 0 where
+  defined : (x : Defined) → Defines K d x → Outcome K d
+  asked : (q : Query) → Asks K d q → Outcome K d
+  refused : (r : Refusal) → IsRefusedForm K d r → Outcome K d
+
+-- a language that the form defines is free of left recursion, or the form is refused
+by_freedom : (K : Known) (d : Sexp) (L : Language) → form_refusal K d ≡ None → form_definition K d ≡ Some (language L) → IsFree L ⊎ HasFirst L → Outcome K d
+by_freedom K d L p m (inl f) = defined (language L) (record { passes = p; means = m; sound = f })
+by_freedom K d L p m (inr h) = by_name h.nonterminal h.is_first
+  where
+    by_name : (x : Ref) → IsFirstRecursive L x → Outcome K d
+    by_name (Nt x) f = refused (recursion_at d x) (by_recursion L x p m f refl)
+
+-- a form that passes its checks
+by_kind : (K : Known) (d : Sexp) (k : Option FormKind) → form_kind d ≡ k → refusal_by_kind K d k ≡ None → Outcome K d
+by_kind K d None f e = absurd cc
+by_kind K d (Some (defines k)) f e =
+    let m = definition-means K d k e in
+    by_freedom K d m.value (ap (refusal_by_kind K d) f ∙ e) (ap (definition_by_kind K d) f ∙ m.is) (free_or_recursive m.value)
+by_kind K d (Some (asks k)) f e =
+    let m = question-means K d k e in
+    asked m.value (record { passes = ap (refusal_by_kind K d) f ∙ e; means = ap (query_by_kind K d) f ∙ m.is })
+
+-- a form
+by_checks : (K : Known) (d : Sexp) (o : Option Refusal) → form_refusal K d ≡ o → Outcome K d
+by_checks K d None e = by_kind K d (form_kind d) refl e
+by_checks K d (Some r) e = refused r (by_check e)
+
+-- ---- files
+
+-- behind forms that define K, the data are accepted
+record AcceptedBehind (K : Known) (ds : List Sexp) : Type 0 where
+  pub known : Known
+  pub queries : List Query
+  pub accepted : Accepts K ds known queries
+
+-- or refused
+record RefusedBehind (K : Known) (ds : List Sexp) : Type 0 where
+  pub refusal : Refusal
+  pub refused : Refuses K ds refusal
+
+-- a form that defines something
+behind_definition : (K : Known) (d : Sexp) (ds : List Sexp) (x : Defined) → Defines K d x → AcceptedBehind (with_definition K x) ds ⊎ RefusedBehind (with_definition K x) ds
+    → AcceptedBehind K (d ∷ ds) ⊎ RefusedBehind K (d ∷ ds)
+behind_definition K d ds x a (inl b) = inl (record { known = b.known; queries = b.queries; accepted = accepts_definition a b.accepted })
+behind_definition K d ds x a (inr b) = inr (record { refusal = b.refusal; refused = refuses_behind_definition a b.refused })
+
+-- one that asks something
+behind_query : (K : Known) (d : Sexp) (ds : List Sexp) (q : Query) → Asks K d q → AcceptedBehind K ds ⊎ RefusedBehind K ds → AcceptedBehind K (d ∷ ds) ⊎ RefusedBehind K (d ∷ ds)
+behind_query K d ds q a (inl b) = inl (record { known = b.known; queries = q ∷ b.queries; accepted = accepts_query a b.accepted })
+behind_query K d ds q a (inr b) = inr (record { refusal = b.refusal; refused = refuses_behind_query a b.refused })
+
+-- one form, and then the others, whatever is known behind it
+by_outcome : (K : Known) (d : Sexp) (ds : List Sexp) → Outcome K d → ((J : Known) → AcceptedBehind J ds ⊎ RefusedBehind J ds) → AcceptedBehind K (d ∷ ds) ⊎ RefusedBehind K (d ∷ ds)
+by_outcome K d ds (defined x a) f = behind_definition K d ds x a (f (with_definition K x))
+by_outcome K d ds (asked q a) f = behind_query K d ds q a (f K)
+by_outcome K d ds (refused r a) f = inr (record { refusal = r; refused = refuses_here a })
+
+-- data are accepted or refused
+behind : (ds : List Sexp) (K : Known) → AcceptedBehind K ds ⊎ RefusedBehind K ds
+behind [] K = inl (record { known = K; queries = []; accepted = accepts_none })
+behind (d ∷ ds) K = by_outcome K d ds (by_checks K d (form_refusal K d) refl) (behind ds)
+
+-- a file is
+pub accepted_or_refused : (ds : List Sexp) → AreAccepted ds ⊎ AreRefused ds
+accepted_or_refused ds = whole (behind ds nothing)
+  where
+    whole : AcceptedBehind nothing ds ⊎ RefusedBehind nothing ds → AreAccepted ds ⊎ AreRefused ds
+    whole (inl a) = inl (record { known = a.known; queries = a.queries; accepted = a.accepted })
+    whole (inr r) = inr (record { refusal = r.refusal; refused = r.refused })

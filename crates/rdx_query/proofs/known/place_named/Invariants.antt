@@ -1,7 +1,0 @@
-use Rattle.std.proofs.Common.{◌≡◌, drop, map}
-use Rattle.rdx_lang.specs.Checked.{language_in}
-use Rattle.rdx_query.specs.Known.{language_named}
-use Rattle.rdx_query.proofs.known.place_named.Given as goal
-
-abbrev pub invariant-loop-place : goal.invariant-loop-place
-invariant-loop-place l = language_named (map language_in (drop l.place l.languages)) l.name ≡ language_named (map language_in l.languages) l.name

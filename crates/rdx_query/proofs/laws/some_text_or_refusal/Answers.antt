@@ -1,0 +1,5 @@
+use Rattle.rdx_query.proofs.SomeText.{some_text_or_refusal}
+use Rattle.rdx_query.proofs.laws.some_text_or_refusal.Goals as goal
+
+pub returns : goal.returns
+returns c ds = some_text_or_refusal ds

@@ -1,0 +1,8 @@
+-- What only clauses inside the crate cite.
+pub mod KindViews
+pub mod PartViews
+pub mod Sizes
+pub mod Defining
+pub mod Asking
+pub mod Steps
+pub mod Appending

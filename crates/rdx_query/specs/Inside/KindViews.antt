@@ -1,0 +1,23 @@
+-- What the kinds of the code stand for.
+use Rattle.rdx_query.specs.FormKinds as model
+use Rattle.rdx_query.specs.declared.kind.DefinitionKind.{DefinitionKind}
+use Rattle.rdx_query.specs.declared.kind.DefinitionKind.TheVariants.{Language, Extension}
+use Rattle.rdx_query.specs.declared.kind.FormKind.{FormKind}
+use Rattle.rdx_query.specs.declared.kind.FormKind.TheVariants.{Defines, Asks}
+use Rattle.rdx_query.specs.declared.kind.QueryKind.{QueryKind}
+use Rattle.rdx_query.specs.declared.kind.QueryKind.TheVariants.{Match, Whether}
+
+-- what a form defines
+abbrev pub definition_kind_of : DefinitionKind → model.DefinitionKind
+definition_kind_of Language = model.language
+definition_kind_of Extension = model.extension
+
+-- what a form asks
+abbrev pub query_kind_of : QueryKind → model.QueryKind
+query_kind_of Match = model.matches
+query_kind_of Whether = model.whether
+
+-- what a form does
+abbrev pub kind_of : FormKind → model.FormKind
+kind_of (Defines k) = model.defines (definition_kind_of k)
+kind_of (Asks k) = model.asks (query_kind_of k)

@@ -1,0 +1,28 @@
+-- The answers to queries that match a pattern against a term, from the rules of matching alone.
+use Rattle.std.specs.Prelude.{◌≡◌, ℕ, List, Bool, Some, IsTrue}
+use Rattle.rdx_term.specs.Tree.{Tree}
+use Rattle.rdx_lang.specs.Bindings.{Binding}
+use Rattle.rdx_lang.specs.Listing.{Matches}
+use Rattle.rdx_lang.specs.Patterns.{Pattern, Language}
+use Rattle.rdx_query.specs.AnswerText.{matches_text, whether_text}
+use Rattle.rdx_query.specs.Known.{Known, language_named}
+
+-- found is the listing of the bindings by which p matches t, in the language of this name
+pub record Finds (K : Known) (name : List ℕ) (p : Pattern) (t : Tree) (found : List Binding) : Type 0 where
+  pub language : Language
+  pub known : language_named K name ≡ Some language
+  pub listing : Matches language p t found
+
+-- `redex-match` writes each binding that is found; nothing is stated that could be unmet
+pub record IsMatchesAnswer (K : Known) (name : List ℕ) (p : Pattern) (t : Tree) (text : List ℕ) (met : Bool) : Type 0 where
+  pub found : List Binding
+  pub finds : Finds K name p t found
+  pub printed : text ≡ matches_text found
+  pub is_met : IsTrue met
+
+-- `redex-match?` writes whether one is found; nothing is stated that could be unmet
+pub record IsWhetherAnswer (K : Known) (name : List ℕ) (p : Pattern) (t : Tree) (text : List ℕ) (met : Bool) : Type 0 where
+  pub found : List Binding
+  pub finds : Finds K name p t found
+  pub printed : text ≡ whether_text found
+  pub is_met : IsTrue met
