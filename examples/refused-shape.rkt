@@ -1,0 +1,4 @@
+; A definition needs an alternative.
+(define-language L
+  (e number)
+  (v))

@@ -1,0 +1,3 @@
+; The bracket of the definition of e is never closed: its place is told.
+(define-language L
+  (e (e e) number)
