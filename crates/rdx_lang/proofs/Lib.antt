@@ -15,3 +15,5 @@ pub mod Examples
 pub mod Collecting
 pub mod Keys
 pub mod RuleSteps
+pub mod Recursion
+pub mod SomeListings

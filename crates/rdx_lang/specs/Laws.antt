@@ -1,11 +1,11 @@
 -- What follows from the definitions, stated for the contracts of the module of laws.
-use Rattle.std.specs.Prelude.{◌≡◌, ◌<◌, ℕ, List}
+use Rattle.std.specs.Prelude.{◌≡◌, ◌<◌, ◌⊎◌, ℕ, List}
 use Rattle.rdx_term.specs.Tree.{Tree}
 use Rattle.rdx_lang.specs.Ascending.{IsAscending}
 use Rattle.rdx_lang.specs.Bindings.{Binding, name_cmp, bound_names, HasAscendingNames}
 use Rattle.rdx_lang.specs.Join.{IsJoin, Agree}
 use Rattle.rdx_lang.specs.Listing.{Matches}
-use Rattle.rdx_lang.specs.Edges.{Edge, IsFree}
+use Rattle.rdx_lang.specs.Edges.{Edge, IsFree, IsFirstRecursive}
 use Rattle.rdx_lang.specs.Names.{names}
 use Rattle.rdx_lang.specs.Patterns.{Pattern, Language}
 use Rattle.rdx_lang.specs.Ranks.{AreRanks}
@@ -17,6 +17,24 @@ use Rattle.rdx_lang.specs.declared.pattern.Ref.{Ref}
 -- a pattern has one listing of its bindings at most
 abbrev pub OneListing : Type 0
 OneListing = (L : Language) (p : Pattern) (t : Tree) (bs cs : List Binding) → Matches L p t bs → Matches L p t cs → bs ≡ cs
+
+-- the listing of the bindings by which p matches t
+pub record HasListing (L : Language) (p : Pattern) (t : Tree) : Type 0 where
+  pub found : List Binding
+  pub listing : Matches L p t found
+
+-- in a language that is free of left recursion each pattern has one
+abbrev pub SomeListing : Type 0
+SomeListing = (L : Language) → IsFree L → (p : Pattern) (t : Tree) → HasListing L p t
+
+-- the first nonterminal that reaches itself
+pub record HasFirstRecursive (L : Language) : Type 0 where
+  pub nonterminal : Ref
+  pub is_first : IsFirstRecursive L nonterminal
+
+-- a language is free of left recursion or has one
+abbrev pub FreeOrRecursive : Type 0
+FreeOrRecursive = (L : Language) → IsFree L ⊎ HasFirstRecursive L
 
 -- two bindings have one join at most
 abbrev pub OneJoin : Type 0

@@ -3,7 +3,7 @@ ghost use Rattle.std.specs.Cmp.{IsTotalOrder};
 ghost use Rattle.rdx_lang.specs.Order.{value_cmp, binding_cmp};
 ghost use Rattle.rdx_lang.specs.Order.{TellsApart};
 ghost use Rattle.rdx_lang.specs.Examples.{TwoEqual, TwoDifferent, TwoMarks, NameAround, NameAroundItself, Forgotten, OnceForTwo, Mentioned, ExceptMentionsNone, NonterminalsAreNotMentioned, PrefixFirst, ItemsDecide, FirstPairDecides, NameKeepsTheTerm, ListTakesOff};
-ghost use Rattle.rdx_lang.specs.Laws.{OneListing, OneJoin, JoinAgrees, JoinExists, NamesAscend, BindsAMap, BindsItsNames, RanksFall, EdgesFall, RankedIsFree};
+ghost use Rattle.rdx_lang.specs.Laws.{OneListing, SomeListing, OneJoin, JoinAgrees, JoinExists, NamesAscend, BindsAMap, BindsItsNames, FreeOrRecursive, RanksFall, EdgesFall, RankedIsFree};
 
 /// The order of values is total, and values that it doesn't tell apart are equal.
 pub fn values_are_ordered()
@@ -21,6 +21,16 @@ pub fn bindings_are_ordered()
 /// list is fixed by its members.
 pub fn one_listing()
     ensures { OneListing }
+{}
+
+/// In a language that is free of left recursion each pattern has a listing for each term.
+pub fn some_listing()
+    ensures { SomeListing }
+{}
+
+/// A language is free of left recursion, or has a first nonterminal that reaches itself.
+pub fn free_or_recursive()
+    ensures { FreeOrRecursive }
 {}
 
 /// Two bindings have one join at most.

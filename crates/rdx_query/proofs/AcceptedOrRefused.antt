@@ -22,7 +22,8 @@ use Rattle.rdx_query.specs.LanguageForms.{base_name, named_base, language_refusa
 use Rattle.rdx_query.specs.Laws.{AreAccepted, AreRefused}
 use Rattle.rdx_query.specs.MatchForms.{QueryParts, query_parts, query_refusal, query_over}
 use Rattle.rdx_query.specs.Queries.{Query, matches, whether}
-use Rattle.rdx_query.proofs.Recursion.{HasFirst, free_or_recursive}
+use Rattle.rdx_lang.proofs.Recursion.{free_or_recursive}
+use Rattle.rdx_lang.specs.Laws.{HasFirstRecursive}
 
 -- there is a value
 record HasValue (A : Type 0) (o : Option A) : Type 0 where
@@ -77,7 +78,7 @@ data Outcome (K : Known) (d : Sexp) : Type 0 where
   refused : (r : Refusal) → IsRefusedForm K d r → Outcome K d
 
 -- a language that the form defines is free of left recursion, or the form is refused
-by_freedom : (K : Known) (d : Sexp) (L : Language) → form_refusal K d ≡ None → form_definition K d ≡ Some (language L) → IsFree L ⊎ HasFirst L → Outcome K d
+by_freedom : (K : Known) (d : Sexp) (L : Language) → form_refusal K d ≡ None → form_definition K d ≡ Some (language L) → IsFree L ⊎ HasFirstRecursive L → Outcome K d
 by_freedom K d L p m (inl f) = defined (language L) (record { passes = p; means = m; sound = f })
 by_freedom K d L p m (inr h) = by_name h.nonterminal h.is_first
   where

@@ -12,7 +12,5 @@ pub mod Replaced
 pub mod FileRead
 pub mod FormSteps
 pub mod Examples
-pub mod Recursion
 pub mod AcceptedOrRefused
-pub mod Listings
 pub mod SomeText

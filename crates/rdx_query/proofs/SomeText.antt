@@ -28,7 +28,7 @@ use Rattle.rdx_query.specs.Queries.{Query, matches, whether, NamesKnown}
 use Rattle.rdx_query.specs.Views.{AllNamesKnown}
 use Rattle.rdx_query.proofs.AcceptedOrRefused.{accepted_or_refused}
 use Rattle.rdx_query.proofs.FileRead.{names_known-more}
-use Rattle.rdx_query.proofs.Listings.{has_listing}
+use Rattle.rdx_lang.proofs.SomeListings.{has_listing}
 
 -- ---- what is known is free of left recursion
 

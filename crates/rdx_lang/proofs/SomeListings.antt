@@ -19,6 +19,7 @@ use Rattle.rdx_lang.specs.Join.{IsJoin, Agree}
 use Rattle.rdx_lang.proofs.JoinLaws.{one_join, join_agrees}
 use Rattle.rdx_lang.proofs.Joins.{join_exists}
 use Rattle.rdx_lang.proofs.NameLaws.{match-ascends}
+use Rattle.rdx_lang.specs.Laws.{HasListing}
 use Rattle.rdx_lang.specs.Listing.{IsListing}
 use Rattle.rdx_lang.specs.Members.{In, here, there}
 use Rattle.rdx_lang.specs.Order.{binding_cmp}
@@ -29,7 +30,7 @@ use Rattle.rdx_lang.specs.Patterns.{Pattern, wild, of_kind, except, prefix, lit,
 use Rattle.rdx_lang.specs.Rules.{Match, MatchItems, IsAlternative, is_of_kind, is_one_of, match_wild, match_kind, match_except, match_prefix, match_lit, match_nt, match_named, match_seq, match_none, match_one}
 use Rattle.rdx_lang.specs.declared.pattern.Kind.{Kind}
 use Rattle.rdx_lang.specs.declared.pattern.Ref.{Ref}
-use Rattle.rdx_query.proofs.Recursion.{Decided, same-by}
+use Rattle.rdx_lang.proofs.Recursion.{Decided, same-by}
 use Rattle.rdx_lang.specs.References.{is_same}
 
 -- ---- what has finitely many
@@ -188,19 +189,12 @@ module _ {A : Type 0} (cmp : A → A → Ordering) (o : IsTotalOrder cmp) (tells
   to-sorted z (x ∷ xs) (here e) = to-insert x z (sorted xs) (inl e)
   to-sorted z (x ∷ xs) (there i) = to-insert x z (sorted xs) (inr (to-sorted z xs i))
 
-  -- a listing
-  pub record HasListing (R : A → Type 0) : Type 0 where
-    pub found : List A
-    pub listing : IsListing cmp found R
-
-  pub listed : (R : A → Type 0) → Finite R → HasListing R
+  -- in their order they are a listing
+  pub listed : (R : A → Type 0) (f : Finite R) → IsListing cmp (sorted f.members) R
   listed R f = record {
-    found = sorted f.members;
-    listing = record {
-      ascending = sorted-ascends f.members;
-      sound = λ x i. f.sound x (from-sorted x f.members i);
-      complete = λ x r. to-sorted x f.members (f.complete x r);
-    };
+    ascending = sorted-ascends f.members;
+    sound = λ x i. f.sound x (from-sorted x f.members i);
+    complete = λ x r. to-sorted x f.members (f.complete x r);
   }
 
 -- ---- joins
@@ -532,5 +526,10 @@ module _ (L : Language) where
     finite_items free (tree.cons t ts) (one p ps) = finite_one_more p ps t ts (finite_match free t p) (finite_items free ts ps)
 
   -- each pattern has a listing
-  pub has_listing : IsFree L → (p : Pattern) (t : Tree) → HasListing binding_cmp binding_cmp-total binding_cmp-tells (Match L p t)
-  has_listing free p t = listed binding_cmp binding_cmp-total binding_cmp-tells (Match L p t) (finite_match free t p)
+  pub has_listing : IsFree L → (p : Pattern) (t : Tree) → HasListing L p t
+  has_listing free p t =
+      let f : Finite (Match L p t) = finite_match free t p in
+      record {
+        found = sorted binding_cmp binding_cmp-total binding_cmp-tells f.members;
+        listing = listed binding_cmp binding_cmp-total binding_cmp-tells (Match L p t) f;
+      }

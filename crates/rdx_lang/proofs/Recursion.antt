@@ -1,7 +1,8 @@
 -- Whether a language is left-recursive can be decided: either no nonterminal reaches itself, or there is a first that does.
 use Rattle.std.proofs.Common.{◌≡◌, Bool, true, false, ◌⊎◌, inl, inr, List, [], ◌∷◌, ◌++◌, refl, sym, ap, subst}
-use Rattle.rdx_lang.specs.Edges.{Edge, edge_nt, edge_named, Reaches, at_once, further, IsRecursive, IsFree, IsFirstRecursive}
+use Rattle.rdx_lang.specs.Edges.{Edge, edge_nt, edge_named, Reaches, at_once, further, IsRecursive, IsFree}
 use Rattle.rdx_lang.proofs.LookupLaws.{is_same-equal, equal-is_same}
+use Rattle.rdx_lang.specs.Laws.{HasFirstRecursive}
 use Rattle.rdx_lang.specs.Members.{In, here, there}
 use Rattle.rdx_lang.specs.Patterns.{Pattern, wild, of_kind, except, prefix, lit, nt, named, seq, Definition, Language}
 use Rattle.rdx_lang.specs.Rules.{IsAlternative}
@@ -344,12 +345,7 @@ module _ (L : Language) where
   none-free : NoneIn L.nonterminals → IsFree L
   none-free n x r = let d = via-defined all x x (recursive-via x r) in n (x, d.0) d.1 r
 
-  -- the language has a first nonterminal that reaches itself
-  pub record HasFirst : Type 0 where
-    pub nonterminal : Ref
-    pub is_first : IsFirstRecursive L nonterminal
-
-  by_first : FirstIn L.nonterminals ⊎ NoneIn L.nonterminals → IsFree L ⊎ HasFirst
+  by_first : FirstIn L.nonterminals ⊎ NoneIn L.nonterminals → IsFree L ⊎ HasFirstRecursive L
   by_first (inl f) = inr (record {
     nonterminal = f.nonterminal;
     is_first = record { before = f.before; alternatives = f.alternatives; behind = f.behind; defined = f.splits; recursive = f.recursive; first = f.first };
@@ -357,5 +353,5 @@ module _ (L : Language) where
   by_first (inr n) = inl (none-free n)
 
   -- a language is free of left recursion, or has one
-  pub free_or_recursive : IsFree L ⊎ HasFirst
+  pub free_or_recursive : IsFree L ⊎ HasFirstRecursive L
   free_or_recursive = by_first (first-in L.nonterminals)
