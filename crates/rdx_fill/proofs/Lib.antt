@@ -1,0 +1,5 @@
+pub mod Contexts
+pub mod Measures
+pub mod Marks
+pub mod Places
+pub mod Associates
