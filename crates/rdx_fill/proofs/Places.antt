@@ -1,49 +1,25 @@
--- Filling by the places of items: of lists of trees, and of the terms in a list.
-use Rattle.std.specs.Prelude.{◌≡◌, ℕ, zero, suc, ◌<◌, ◌≤◌, ◌+◌, ◌∷◌, true, false, IsTrue, List, [], Some, None, length, map}
-use Rattle.std.proofs.Common.{get_or, refl, sym, ◌∙◌, ap, subst, arith}
+-- Filling by the places of the terms in a list.
+use Rattle.std.specs.Prelude.{◌≡◌, ℕ, zero, suc, ◌<◌, ◌≤◌, ◌+◌, ◌∷◌, true, false, IsTrue, List, [], Some, length, map}
+use Rattle.std.proofs.Common.{get_or, refl, sym, ◌∙◌, ap, arith}
 use Rattle.std.proofs.Math.ListN.{set}
-use Rattle.rdx_term.specs.Tree.{Tree, list, Trees, cons, trees, Contents, contents_tree, tree_depth, trees_depth, tree_nodes, trees_nodes}
+use Rattle.rdx_term.specs.Tree.{Tree, list, cons, trees, Contents, contents_tree, tree_depth, trees_depth, tree_nodes, trees_nodes}
 use Rattle.rdx_term.specs.Context.{is_context, is_context_at}
 use Rattle.rdx_term.specs.Terms.{IsTerm}
 use Rattle.rdx_term.specs.declared.term.Term.{Term}
 use Rattle.rdx_term.specs.View.{tree_of, trees_of}
-use Rattle.rdx_fill.specs.Fill.{marked_at, fill_of, fill_at}
-use Rattle.rdx_fill.specs.Path.{path, path_at}
-use Rattle.rdx_fill.specs.Limits.{KeepsLimits}
+use Rattle.rdx_term.specs.Fill.{marked_at, fill_of, fill_at}
+use Rattle.rdx_term.specs.Path.{path, path_at}
+use Rattle.rdx_term.specs.Limits.{KeepsLimits}
 use Rattle.std.proofs.lemmas.List.{map-set}
 use Rattle.rdx_term.specs.Building.{list_of}
-use Rattle.rdx_term.specs.Bare.{bare, bare_all}
-use Rattle.rdx_term.proofs.Bare.{bare_all-set}
-use Rattle.rdx_fill.proofs.Marks.{bare-marked_at}
-use Rattle.rdx_fill.proofs.Contexts.{marked_at-context, marked_at-none}
-use Rattle.rdx_fill.proofs.Measures.{tree_depth-marked_at, tree_nodes-marked_at, path_le-depth}
-
--- the item that replaces another is filled in its place
-pub fill_at-set : (ts : List Tree) (k : ℕ) (u t : Tree) → k < length ts → fill_at (trees (set ts k u)) k t ≡ trees (set ts k (fill_of u t))
-fill_at-set [] k u t h = absurd (omega arith)
-fill_at-set (w ∷ ts) zero u t h = refl
-fill_at-set (w ∷ ts) (suc k) u t h = ap (cons w) (fill_at-set ts k u t (omega arith))
-
--- and its path is the path at the place
-pub path_at-set : (ts : List Tree) (k : ℕ) (u : Tree) → k < length ts → path_at (trees (set ts k u)) k ≡ path u
-path_at-set [] k u h = absurd (omega arith)
-path_at-set (w ∷ ts) zero u h = refl
-path_at-set (w ∷ ts) (suc k) u h = path_at-set ts k u (omega arith)
-
--- a list whose item is a filled context but for marks is a filled context but for marks
-pub bare-set : (ts : List Tree) (k : ℕ) (c t u : Tree) → k < length ts → bare (fill_of c t) ≡ bare u
-    → bare (fill_of (list (Some k) (trees (set ts k c))) t) ≡ bare (list None (trees (set ts k u)))
-bare-set ts k c t u h e =
-    bare-marked_at k (fill_at (trees (set ts k c)) k t) ∙ ap (λ (us : Trees). list None (bare_all us)) (fill_at-set ts k c t h)
-    ∙ ap (list None) (bare_all-set ts k (fill_of c t) ∙ ap (λ (w : Tree). trees (set (map bare ts) k w)) e ∙ sym (bare_all-set ts k u))
+use Rattle.rdx_term.proofs.Contexts.{marked_at-context, marked_at-none}
+use Rattle.rdx_term.proofs.Measures.{tree_depth-marked_at, tree_nodes-marked_at, path_le-depth, limits_of}
 
 -- the term that replaces another stands at its place
 pub is_context_at-set_term : (xs : List Term) (k : ℕ) (x : Term) → k < length xs → is_context_at (trees_of (set xs k x)) k ≡ is_context (tree_of x)
 is_context_at-set_term [] k x h = absurd (omega arith)
 is_context_at-set_term (y ∷ xs) zero x h = refl
 is_context_at-set_term (y ∷ xs) (suc k) x h = is_context_at-set_term xs k x (omega arith)
-
--- ---- the terms in a list
 
 -- where an item is a context, one stands at its place
 pub context_stands_at : (xs : List Term) (k : ℕ) (d : Term) → k < length xs → is_context_at (trees_of xs) k ≡ is_context (tree_of (get_or xs k d))
@@ -72,10 +48,6 @@ pub set-context : (xs : List Term) (k : ℕ) (x y : Term) → k < length xs → 
     → marked_at k (trees_of (set xs k x)) ≡ list (Some k) (trees_of (set xs k y))
 set-context xs k x y h c e =
     ap (marked_at k) (set-same_item xs k x y e) ∙ marked_at-context k (trees_of (set xs k y)) (is_context_at-set_term xs k y h ∙ c)
-
--- what is equal to what is within the limits is so too
-pub limits_of : (t u : Tree) → t ≡ u → KeepsLimits u → KeepsLimits t
-limits_of t u e v = subst KeepsLimits (sym e) v
 
 filled_items : (xs : List Term) (k : ℕ) (d x : Term) (t : Tree) → k < length xs → tree_of x ≡ fill_of (tree_of (get_or xs k d)) t → trees_of (set xs k x) ≡ fill_at (trees_of xs) k t
 filled_items [] k d x t h e = absurd (omega arith)

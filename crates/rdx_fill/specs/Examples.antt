@@ -1,8 +1,8 @@
 -- Worked examples: a few small contexts filled. They are proved, as the clauses of `laws::worked_examples`.
 use Rattle.std.specs.Prelude.{◌≡◌, ℕ, pos, Some, None, [], ◌∷◌}
 use Rattle.rdx_term.specs.Tree.{Tree, hole, integer, list, nil, cons}
-use Rattle.rdx_fill.specs.Fill.{fill_of}
-use Rattle.rdx_fill.specs.Path.{path}
+use Rattle.rdx_term.specs.Fill.{fill_of}
+use Rattle.rdx_term.specs.Path.{path}
 
 -- the list of two, marked at this place
 abbrev pub pair_at : ℕ → Tree → Tree → Tree

@@ -4,7 +4,7 @@ use Rattle.std.specs.Bool.{IsFalse}
 use Rattle.rdx_term.specs.Tree.{Tree, tree_holes}
 use Rattle.rdx_term.specs.Context.{is_context}
 use Rattle.rdx_term.specs.Terms.{IsTooDeep, IsTooLarge}
-use Rattle.rdx_fill.specs.Fill.{fill_of}
+use Rattle.rdx_term.specs.Fill.{fill_of}
 
 -- no context, with so many holes
 abbrev pub IsNoContext : Tree → ℕ → Type 0

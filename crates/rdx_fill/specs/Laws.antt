@@ -4,9 +4,9 @@ use Rattle.rdx_term.specs.Tree.{Tree, hole, list, trees, tree_depth, tree_nodes,
 use Rattle.rdx_term.specs.Context.{is_context}
 use Rattle.rdx_term.specs.Terms.{IsTerm}
 use Rattle.rdx_term.specs.Bare.{bare}
-use Rattle.rdx_fill.specs.Fill.{fill_of, marked_at}
-use Rattle.rdx_fill.specs.Path.{path}
-use Rattle.rdx_fill.specs.Limits.{KeepsLimits}
+use Rattle.rdx_term.specs.Fill.{fill_of, marked_at}
+use Rattle.rdx_term.specs.Path.{path}
+use Rattle.rdx_term.specs.Limits.{KeepsLimits}
 
 -- to fill a context with a context, and then that with a part, is to fill the first with the second filled
 abbrev pub FillAssociates : Type 0

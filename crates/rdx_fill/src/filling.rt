@@ -4,8 +4,8 @@ ghost use Rattle.rdx_term.specs.Tree.{tree_depth, tree_nodes};
 ghost use Rattle.rdx_term.specs.Context.{is_context};
 ghost use Rattle.rdx_term.specs.Terms.{IsTooDeep, IsTooLarge};
 ghost use Rattle.rdx_term.specs.View.{tree_of};
-ghost use Rattle.rdx_fill.specs.Fill.{fill_of};
-ghost use Rattle.rdx_fill.specs.Limits.{KeepsLimits};
+ghost use Rattle.rdx_term.specs.Fill.{fill_of};
+ghost use Rattle.rdx_term.specs.Limits.{KeepsLimits};
 ghost use Rattle.rdx_fill.specs.Faults.{IsNoContext, FillsTooDeep, FillsTooLarge};
 
 use crate::error::FillFault;

@@ -3,8 +3,8 @@ ghost use Rattle.std.specs.Prelude.{◌≡◌, ◌<◌, ◌↔◌, IsTrue, IfOk,
 ghost use Rattle.rdx_term.specs.Context.{is_context};
 ghost use Rattle.rdx_term.specs.Terms.{IsTooDeep, IsTooLarge};
 ghost use Rattle.rdx_term.specs.View.{tree_of, trees_of, marked_list};
-ghost use Rattle.rdx_fill.specs.Fill.{marked_at};
-ghost use Rattle.rdx_fill.specs.Limits.{KeepsLimits};
+ghost use Rattle.rdx_term.specs.Fill.{marked_at};
+ghost use Rattle.rdx_term.specs.Limits.{KeepsLimits};
 
 use rdx_term::{Build, NoMemory, Term, list, marked_list};
 use std::alloc::Global;

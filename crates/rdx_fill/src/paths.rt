@@ -3,7 +3,7 @@ ghost use Rattle.std.specs.Prelude.{◌≡◌, ◌↔◌, ◌≤◌, ◌++◌, l
 ghost use Rattle.std.specs.Bool.{IsFalse};
 ghost use Rattle.rdx_term.specs.Context.{is_context};
 ghost use Rattle.rdx_term.specs.View.{tree_of};
-ghost use Rattle.rdx_fill.specs.Path.{path};
+ghost use Rattle.rdx_term.specs.Path.{path};
 
 use rdx_term::{NoMemory, Term};
 use std::alloc::Global;

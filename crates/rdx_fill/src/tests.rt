@@ -79,6 +79,7 @@ fn paths(rt: HostRuntime) -> Result<(), Fail> {
     let alloc = rt.alloc();
     let outer = with_hole(alloc, &two_holes(alloc)?, 1, &Term::Hole)?;
     let inner = with_hole(alloc, &two_holes(alloc)?, 0, &Term::Hole)?;
+    assert!(rt; path_of(alloc, &outer)?.is_some_and(|places| places.as_slice() == [1].as_slice()));
     let context = fill(alloc, &outer, &inner)?;
     assert!(rt;
         path_of(alloc, &context)?.is_some_and(|places| places.as_slice() == [1, 0].as_slice())

@@ -3,6 +3,11 @@ pub mod Context
 pub mod Spelling
 pub mod Terms
 pub mod Building
+pub mod Fill
+pub mod Path
+pub mod Limits
+pub mod Items
+pub mod AtPaths
 pub mod View
 pub mod Order
 pub mod Bare

@@ -1,4 +1,4 @@
-use Rattle.rdx_fill.proofs.Contexts.{is_context-fill_of, path-fill_of, fill_of-hole}
+use Rattle.rdx_term.proofs.Contexts.{is_context-fill_of, path-fill_of, fill_of-hole}
 use Rattle.rdx_fill.proofs.laws.filled_contexts.Goals as goal
 
 pub returns-clause-context : goal.returns-clause-context

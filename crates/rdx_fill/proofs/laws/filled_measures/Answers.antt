@@ -1,4 +1,4 @@
-use Rattle.rdx_fill.proofs.Measures.{tree_depth-fill_of, tree_nodes-fill_of, tree_holes-fill_of}
+use Rattle.rdx_term.proofs.Measures.{tree_depth-fill_of, tree_nodes-fill_of, tree_holes-fill_of}
 use Rattle.rdx_fill.proofs.laws.filled_measures.Goals as goal
 
 pub returns-clause-depth : goal.returns-clause-depth

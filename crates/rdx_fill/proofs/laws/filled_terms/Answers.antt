@@ -1,4 +1,4 @@
-use Rattle.rdx_fill.proofs.Marks.{IsTerm-fill_of, bare-fill_of}
+use Rattle.rdx_term.proofs.Marks.{IsTerm-fill_of, bare-fill_of}
 use Rattle.rdx_fill.proofs.laws.filled_terms.Goals as goal
 
 pub returns-clause-term : goal.returns-clause-term

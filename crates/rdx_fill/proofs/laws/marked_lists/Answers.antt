@@ -1,7 +1,6 @@
 use Rattle.std.proofs.Common.{◌∷◌, ap, ◌∙◌}
-use Rattle.rdx_term.proofs.Places.{is_context_at-set}
-use Rattle.rdx_fill.specs.Fill.{marked_at}
-use Rattle.rdx_fill.proofs.Places.{path_at-set, fill_at-set, bare-set}
+use Rattle.rdx_term.proofs.Places.{is_context_at-set, path_at-set, fill_at-set, bare-set}
+use Rattle.rdx_term.specs.Fill.{marked_at}
 use Rattle.rdx_fill.proofs.laws.marked_lists.Goals as goal
 
 pub returns-clause-context : goal.returns-clause-context

@@ -4,8 +4,8 @@ use mathlib.Core.Bool.{true≢false}
 use Rattle.rdx_term.specs.Tree.{Tree, hole, integer, truth, text, symbol, list, Trees, nil, cons}
 use Rattle.rdx_term.specs.Context.{is_context, is_context_at}
 use Rattle.rdx_term.specs.Building.{list_of}
-use Rattle.rdx_fill.specs.Fill.{marked_at, fill_of, fill_at}
-use Rattle.rdx_fill.specs.Path.{path, path_at}
+use Rattle.rdx_term.specs.Fill.{marked_at, fill_of, fill_at}
+use Rattle.rdx_term.specs.Path.{path, path_at}
 
 -- where the item is a context, the list is marked at it
 pub marked_at-context : (k : ℕ) (ts : Trees) → IsTrue (is_context_at ts k) → marked_at k ts ≡ list (Some k) ts

@@ -6,8 +6,8 @@ use Rattle.rdx_term.specs.Terms.{IsSpelled, AreSpelled, IsTerm}
 use Rattle.rdx_term.specs.Building.{list_of}
 use Rattle.rdx_term.specs.Bare.{bare, bare_all}
 use Rattle.rdx_term.proofs.Trees.{mark_for-fits}
-use Rattle.rdx_fill.specs.Fill.{marked_at, fill_of, fill_at}
-use Rattle.rdx_fill.specs.Limits.{KeepsLimits}
+use Rattle.rdx_term.specs.Fill.{marked_at, fill_of, fill_at}
+use Rattle.rdx_term.specs.Limits.{KeepsLimits}
 
 -- ---- terms
 

@@ -1,11 +1,12 @@
--- The depth, the nodes and the holes of filled contexts, and the length of paths.
-use Rattle.std.proofs.Common.{◌≡◌, ℕ, zero, suc, ◌+◌, ◌≤◌, max, Bool, true, false, if◌then◌else◌, IsTrue, Some, None, length, refl, sym, arith}
+-- The depth, the nodes and the holes of filled contexts, the length of paths, and the limits.
+use Rattle.std.proofs.Common.{◌≡◌, ℕ, zero, suc, ◌+◌, ◌≤◌, max, Bool, true, false, if◌then◌else◌, IsTrue, Some, None, length, refl, sym, subst, arith}
 use mathlib.Core.Bool.{true≢false}
 use Rattle.rdx_term.specs.Tree.{Tree, hole, integer, truth, text, symbol, list, Trees, nil, cons, tree_depth, trees_depth, tree_nodes, trees_nodes, tree_holes, trees_holes}
 use Rattle.rdx_term.specs.Context.{is_context, is_context_at}
 use Rattle.rdx_term.specs.Building.{list_of}
-use Rattle.rdx_fill.specs.Fill.{marked_at, fill_of, fill_at}
-use Rattle.rdx_fill.specs.Path.{path, path_at}
+use Rattle.rdx_term.specs.Fill.{marked_at, fill_of, fill_at}
+use Rattle.rdx_term.specs.Path.{path, path_at}
+use Rattle.rdx_term.specs.Limits.{KeepsLimits}
 
 -- ---- of a list that is marked at a place if it can be, which are those of its items
 
@@ -98,3 +99,9 @@ mutual
   path_at_le-depth nil k = omega arith
   path_at_le-depth (cons t ts) zero = omega (arith, path_le-depth t)
   path_at_le-depth (cons t ts) (suc k) = omega (arith, path_at_le-depth ts k)
+
+-- ---- the limits
+
+-- what is equal to what is within the limits is so too
+pub limits_of : (t u : Tree) → t ≡ u → KeepsLimits u → KeepsLimits t
+limits_of t u e v = subst KeepsLimits (sym e) v

@@ -3,8 +3,8 @@ use Rattle.std.proofs.Common.{◌≡◌, ℕ, zero, suc, IsTrue, Some, None, ref
 use mathlib.Core.Bool.{true≢false}
 use Rattle.rdx_term.specs.Tree.{Tree, hole, integer, truth, text, symbol, list, Trees, nil, cons}
 use Rattle.rdx_term.specs.Context.{is_context, is_context_at}
-use Rattle.rdx_fill.specs.Fill.{marked_at, fill_of, fill_at}
-use Rattle.rdx_fill.proofs.Contexts.{marked_at-context, is_context_at-fill_at}
+use Rattle.rdx_term.specs.Fill.{marked_at, fill_of, fill_at}
+use Rattle.rdx_term.proofs.Contexts.{marked_at-context, is_context_at-fill_at}
 
 mutual
   pub fill_of-fill_of : (c d t : Tree) → IsTrue (is_context c) → IsTrue (is_context d) → fill_of (fill_of c d) t ≡ fill_of c (fill_of d t)
