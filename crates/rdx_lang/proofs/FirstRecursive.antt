@@ -35,5 +35,5 @@ pub first_recursive-one : (L : Language) (x y : List ℕ) → IsFirstRecursive L
 first_recursive-one L x y a b = let e : Nt x ≡ Nt y = first_recursive-same L (Nt x) (Nt y) a b in cc
 
 -- where one is the first, the language isn't free
-pub first_recursive-free : (L : Language) (x : List ℕ) → IsFree L → IsFirstRecursive L (Nt x) → ⊥
-first_recursive-free L x f a = f (Nt x) a.recursive
+pub first_recursive-free : (L : Language) (x : Ref) → IsFree L → IsFirstRecursive L x → ⊥
+first_recursive-free L x f a = f x a.recursive

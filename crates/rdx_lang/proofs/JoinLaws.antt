@@ -1,9 +1,9 @@
--- Two bindings have one join at most, and none unless the names that both bind have equal values.
+-- Two bindings have one join at most, and none unless the names that both bind have equal values; the binding of no name adds nothing.
 use Rattle.std.proofs.Common.{◌≡◌, ℕ, List, [], ◌∷◌, sym, ◌∙◌, ap, subst, inl, inr}
 use Rattle.std.specs.declared.cmp.Ordering.TheVariants.{Less}
 use Rattle.std.specs.Ordering.{ordering_then}
 use Rattle.rdx_lang.specs.Ascending.{IsBelow, IsAscending}
-use Rattle.rdx_lang.specs.Bindings.{Value, Pair, Binding, name_cmp, bound_names, HasAscendingNames}
+use Rattle.rdx_lang.specs.Bindings.{Value, Pair, Binding, no_names, name_cmp, bound_names, HasAscendingNames}
 use Rattle.rdx_lang.specs.Join.{IsJoin, Agree}
 use Rattle.rdx_lang.specs.Members.{In, here, there}
 use Rattle.rdx_lang.specs.Order.{pair_cmp, value_cmp}
@@ -33,6 +33,31 @@ within a b c d j k p h = elim (j.sound p h) [ inl l ↦ k.left p l | inr r ↦ k
 pub one_join : (a b c d : Binding) → IsJoin a b c → IsJoin a b d → c ≡ d
 one_join a b c d j k = fixed_by_members pair_cmp pair_cmp-total c d (pairs_ascend c j.map) (pairs_ascend d k.map) (within a b c d j k) (within a b d c k j)
 
+-- ---- joins with no name
+
+-- no name, joined with a binding, is that binding
+pub unit_left : (b : Binding) → HasAscendingNames b → IsJoin no_names b b
+unit_left b a = record { map = a; sound = λ p i. inr i; left = λ p i. elim i [ ]; right = λ p i. i }
+
+-- a binding, joined with no name, is that binding
+pub unit_right : (b : Binding) → HasAscendingNames b → IsJoin b no_names b
+unit_right b a = record { map = a; sound = λ p i. inl i; left = λ p i. i; right = λ p i. elim i [ ] }
+
+-- and no other
+pub unit_left-only : {b c : Binding} → HasAscendingNames b → IsJoin no_names b c → c ≡ b
+unit_left-only {b} {c} a j = one_join no_names b c b j (unit_left b a)
+
+pub unit_right-only : {b c : Binding} → HasAscendingNames b → IsJoin b no_names c → c ≡ b
+unit_right-only {b} {c} a j = one_join b no_names c b j (unit_right b a)
+
+-- a binding, joined with itself, is itself
+pub joined_itself : (b : Binding) → HasAscendingNames b → IsJoin b b b
+joined_itself b a = record { map = a; sound = λ p i. inl i; left = λ p i. i; right = λ p i. i }
+
+-- and no other
+pub joined_itself-only : {b c : Binding} → HasAscendingNames b → IsJoin b b c → c ≡ b
+joined_itself-only {b} {c} a j = one_join b b c b j (joined_itself b a)
+
 -- ---- a map gives a name one value
 
 -- the name of a pair is bound
@@ -52,6 +77,10 @@ one_value x v w (p ∷ b) a (here e) (there k) = absurd (first_alone x v w p b a
 one_value x v w (p ∷ b) a (there h) (here f) = absurd (first_alone x w v p b a.0 f h)
 one_value x v w (p ∷ b) a (there h) (there k) = one_value x v w b a.1 h k
 
+-- bindings all of whose pairs one map has agree
+pub agree_within : (a b r : Binding) → HasAscendingNames r → ((p : Pair) → In p a → In p r) → ((p : Pair) → In p b → In p r) → Agree a b
+agree_within a b r h f g x v w i k = one_value x v w r h (f (x, v) i) (g (x, w) k)
+
 -- bindings that have a join agree
 pub join_agrees : (a b c : Binding) → IsJoin a b c → Agree a b
-join_agrees a b c j x v w h k = one_value x v w c j.map (j.left (x, v) h) (j.right (x, w) k)
+join_agrees a b c j = agree_within a b c j.map j.left j.right

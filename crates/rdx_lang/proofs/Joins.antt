@@ -1,11 +1,11 @@
--- Finite maps that agree have a join.
+-- Finite maps that agree have a join, and three of them have the same join however they are grouped.
 use Rattle.std.proofs.Common.{◌≡◌, ℕ, List, [], ◌∷◌, refl, sym, ◌∙◌, subst, ◌⊎◌, inl, inr}
 use Rattle.std.specs.declared.cmp.Ordering.{Ordering}
 use Rattle.std.specs.declared.cmp.Ordering.TheVariants.{Less, Equal, Greater}
 use Rattle.rdx_lang.specs.Ascending.{IsBelow}
 use Rattle.rdx_lang.specs.Bindings.{Value, Pair, Binding, name_cmp, bound_names, HasAscendingNames}
 use Rattle.rdx_lang.specs.Join.{IsJoin, Agree}
-use Rattle.rdx_lang.proofs.JoinLaws.{one_value}
+use Rattle.rdx_lang.proofs.JoinLaws.{one_value, agree_within}
 use Rattle.rdx_lang.specs.Members.{In, here, there}
 use Rattle.rdx_lang.proofs.NameLaws.{above_first, below_all, with_name-below, bound_names-join}
 use Rattle.rdx_lang.proofs.OrderLaws.{name_cmp-tells}
@@ -96,3 +96,33 @@ join_exists (p ∷ a) b h k g = with_rest (join_exists a b h.1 k (λ x v w m n. 
 
     with_rest : HasJoin a b → HasJoin (p ∷ a) b
     with_rest j = let c : HasJoin (p ∷ []) j.0 = pair_join p j.0 j.1.map (agree j) in (c.0, further p a b j.0 c.0 j.1 c.1)
+
+-- ---- three bindings
+
+-- the first with the join of the others: then so has the join of the first two with the third
+pub joined_first : (a b c d r : Binding) → HasAscendingNames a → HasAscendingNames b → IsJoin b c d → IsJoin a d r
+    → (e : Binding) × IsJoin a b e × IsJoin e c r
+joined_first a b c d r h k j l = (e.0, e.1, record { map = l.map; sound = sound; left = left; right = λ p i. l.right p (j.right p i) })
+  where
+    e : HasJoin a b
+    e = join_exists a b h k (agree_within a b r l.map l.left (λ p i. l.right p (j.left p i)))
+
+    sound : (p : Pair) → In p r → In p e.0 ⊎ In p c
+    sound p i = elim (l.sound p i) [ inl m ↦ inl (e.1.left p m) | inr m ↦ elim (j.sound p m) [ inl n ↦ inl (e.1.right p n) | inr n ↦ inr n ] ]
+
+    left : (p : Pair) → In p e.0 → In p r
+    left p i = elim (e.1.sound p i) [ inl m ↦ l.left p m | inr m ↦ l.right p (j.left p m) ]
+
+-- and the other way
+pub joined_last : (a b c e r : Binding) → HasAscendingNames b → HasAscendingNames c → IsJoin a b e → IsJoin e c r
+    → (d : Binding) × IsJoin b c d × IsJoin a d r
+joined_last a b c e r h k j l = (d.0, d.1, record { map = l.map; sound = sound; left = λ p i. l.left p (j.left p i); right = right })
+  where
+    d : HasJoin b c
+    d = join_exists b c h k (agree_within b c r l.map (λ p i. l.left p (j.right p i)) l.right)
+
+    sound : (p : Pair) → In p r → In p a ⊎ In p d.0
+    sound p i = elim (l.sound p i) [ inl m ↦ elim (j.sound p m) [ inl n ↦ inl n | inr n ↦ inr (d.1.left p n) ] | inr m ↦ inr (d.1.right p m) ]
+
+    right : (p : Pair) → In p d.0 → In p r
+    right p i = elim (d.1.sound p i) [ inl m ↦ l.left p (j.right p m) | inr m ↦ l.right p m ]

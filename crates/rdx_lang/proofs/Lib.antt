@@ -9,6 +9,8 @@ pub mod JoinLaws
 pub mod NameLaws
 pub mod Values
 pub mod Joins
+pub mod Emptiness
+pub mod SplitLaws
 pub mod RankLaws
 pub mod FirstRecursive
 pub mod Examples
@@ -16,4 +18,7 @@ pub mod Collecting
 pub mod Keys
 pub mod RuleSteps
 pub mod Recursion
+pub mod Finite
+pub mod FiniteJoins
+pub mod FinitePatterns
 pub mod SomeListings

@@ -1,6 +1,6 @@
 -- Equal nonterminals are the same, and where no two definitions are of the same nonterminal, what is looked up are the alternatives.
 use Rattle.std.proofs.Common.{◌≡◌, Bool, true, false, List, [], ◌∷◌, map, refl, ap, subst, if◌then◌else◌}
-use Rattle.std.specs.Prelude.{◌↔◌, not, ◌||◌}
+use Rattle.std.specs.Prelude.{◌↔◌, not, ◌&&◌, ◌||◌, bytes_eq}
 use Rattle.std.specs.Cmp.{first_so, second_so}
 use Rattle.std.specs.Cmp.Lexicographic.{bytes_decides}
 use Rattle.rdx_lang.specs.Lookup.{alternatives_among, alternatives_of}
@@ -10,17 +10,31 @@ use Rattle.rdx_lang.specs.Rules.{IsAlternative}
 use Rattle.rdx_lang.specs.References.{is_same, is_among, are_distinct}
 use Rattle.rdx_lang.specs.WellFormed.{defined}
 use Rattle.rdx_lang.specs.declared.pattern.Ref.{Ref}
-use Rattle.rdx_lang.specs.declared.pattern.Ref.TheVariants.{Nt}
+use Rattle.rdx_lang.specs.declared.pattern.Ref.TheVariants.{Nt, Cross}
 
 -- ---- tests
+
+-- what both parts make true
+both_so : (a b : Bool) → a ≡ true → b ≡ true → (a && b) ≡ true
+both_so true b h k = k
+both_so false b h k = h
 
 -- what is the same is equal
 pub is_same-equal : (x y : Ref) → is_same x y ≡ true → x ≡ y
 is_same-equal (Nt x) (Nt y) h = ap Nt ((bytes_decides x y).0 h)
+is_same-equal (Nt x) (Cross y z) h = absurd cc
+is_same-equal (Cross x w) (Nt y) h = absurd cc
+is_same-equal (Cross x w) (Cross y z) h =
+    let e : x ≡ y = (bytes_decides x y).0 (first_so (bytes_eq x y) (bytes_eq w z) h) in
+    let f : w ≡ z = (bytes_decides w z).0 (second_so (bytes_eq x y) (bytes_eq w z) h) in
+    (λ i. Cross (e i) (f i))
 
 -- equals are the same
 pub equal-is_same : (x y : Ref) → x ≡ y → is_same x y ≡ true
 equal-is_same (Nt x) (Nt y) h = (bytes_decides x y).1 cc
+equal-is_same (Nt x) (Cross y z) h = absurd cc
+equal-is_same (Cross x w) (Nt y) h = absurd cc
+equal-is_same (Cross x w) (Cross y z) h = both_so (bytes_eq x y) (bytes_eq w z) ((bytes_decides x y).1 cc) ((bytes_decides w z).1 cc)
 
 -- what its second part makes true
 or_right : (a b : Bool) → b ≡ true → (a || b) ≡ true

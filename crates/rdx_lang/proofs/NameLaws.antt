@@ -1,4 +1,4 @@
--- The names of a pattern ascend, and a match binds exactly them.
+-- The names of a pattern ascend, and a match binds exactly them, as a split does.
 use Rattle.std.proofs.Common.{◌≡◌, ℕ, List, [], ◌∷◌, refl, sym, ◌∙◌, ap, subst, ◌⊎◌, inl, inr}
 use Rattle.std.specs.declared.cmp.Ordering.{Ordering}
 use Rattle.std.specs.declared.cmp.Ordering.TheVariants.{Less, Equal, Greater}
@@ -11,8 +11,9 @@ use Rattle.rdx_lang.specs.Join.{IsJoin}
 use Rattle.rdx_lang.specs.Members.{In, here, there}
 use Rattle.rdx_lang.specs.Names.{placed, with_name, add_names, names, item_names}
 use Rattle.rdx_lang.specs.Model.TotalOrders.{name_cmp-total}
-use Rattle.rdx_lang.specs.Patterns.{Pattern, wild, of_kind, except, prefix, lit, nt, named, seq, Items, nil, one, Language}
-use Rattle.rdx_lang.specs.Rules.{Match, MatchItems, match_wild, match_kind, match_except, match_prefix, match_lit, match_nt, match_named, match_seq, match_none, match_one}
+use Rattle.rdx_lang.specs.Patterns.{Pattern, wild, of_kind, except, prefix, hole, lit, nt, named, in_hole, hide_hole, closed, seq, Items, nil, one, Language}
+use Rattle.rdx_lang.specs.Rules.{Match, MatchItems, match_wild, match_kind, match_except, match_prefix, match_hole, match_lit, match_nt, match_named, match_in_hole, match_hide_hole, match_closed, match_seq, match_none, match_one}
+use Rattle.rdx_lang.specs.Rules.{Split, SplitItems, split_hole, split_nt, split_named, split_in_hole, split_closed, split_seq, split_here, split_behind}
 use Rattle.rdx_lang.proofs.JoinLaws.{bound_names-member}
 use Rattle.rdx_lang.proofs.MemberLaws.{in-map}
 use Rattle.rdx_lang.proofs.OrderLaws.{name_cmp-tells, fixed_by_members}
@@ -112,9 +113,13 @@ mutual
   names-ascend (of_kind k) = tt
   names-ascend (except rs) = tt
   names-ascend (prefix r) = tt
+  names-ascend hole = tt
   names-ascend (lit u) = tt
   names-ascend (nt x) = tt
   names-ascend (named x q) = add_names-ascends (names q) (x ∷ []) (tt, tt)
+  names-ascend (in_hole q r) = add_names-ascends (names q) (names r) (names-ascend r)
+  names-ascend (hide_hole q) = names-ascend q
+  names-ascend (closed q) = tt
   names-ascend (seq ps) = item_names-ascend ps
 
   -- the names of items ascend
@@ -158,7 +163,7 @@ turned_join a b c j = record {
   right = j.left;
 }
 
--- ---- the names of a match
+-- ---- the names of a match, and of a split
 
 mutual
   -- a match binds a finite map
@@ -167,15 +172,33 @@ mutual
   match-ascends (match_kind h) = tt
   match-ascends (match_except h) = tt
   match-ascends (match_prefix h) = tt
+  match-ascends match_hole = tt
   match-ascends (match_lit h) = tt
   match-ascends (match_nt a h) = tt
   match-ascends (match_named h j) = j.map
+  match-ascends (match_in_hole h g j) = j.map
+  match-ascends (match_hide_hole h) = match-ascends h
+  match-ascends (match_closed h) = tt
   match-ascends (match_seq h) = items-ascends h
 
   -- so do items that match
-  items-ascends : {L : Language} {ps : Items} {ts : Trees} {b : Binding} → MatchItems L ps ts b → HasAscendingNames b
+  pub items-ascends : {L : Language} {ps : Items} {ts : Trees} {b : Binding} → MatchItems L ps ts b → HasAscendingNames b
   items-ascends match_none = tt
   items-ascends (match_one h g j) = j.map
+
+-- so do items of which one splits
+pub split_items-ascends : {L : Language} {ps : Items} {ts : Trees} {k : ℕ} {D s : Tree} {b : Binding} → SplitItems L ps ts k D s b → HasAscendingNames b
+split_items-ascends (split_here h g j) = j.map
+split_items-ascends (split_behind h g j) = j.map
+
+-- a split binds a finite map
+pub split-ascends : {L : Language} {p : Pattern} {t C s : Tree} {b : Binding} → Split L p t C s b → HasAscendingNames b
+split-ascends split_hole = tt
+split-ascends (split_nt a h) = tt
+split-ascends (split_named h j) = j.map
+split-ascends (split_in_hole h g e j) = j.map
+split-ascends (split_closed h) = tt
+split-ascends (split_seq h e) = split_items-ascends h
 
 -- a join binds the names of both, by what they are known to bind
 joined : (a b : Binding) {c : Binding} {xs ys : List (List ℕ)} → HasAscendingNames b → IsJoin a b c → bound_names a ≡ xs → bound_names b ≡ ys → bound_names c ≡ add_names xs ys
@@ -188,12 +211,30 @@ mutual
   match-names (match_kind h) = refl
   match-names (match_except h) = refl
   match-names (match_prefix h) = refl
+  match-names match_hole = refl
   match-names (match_lit h) = refl
   match-names (match_nt a h) = refl
   match-names (match_named {x = x} {t = t} {c = c} h j) = joined c (one_name x (one_term t)) (tt, tt) j (match-names h) refl
+  match-names (match_in_hole {c = c} {d = d} h g j) = joined c d (match-ascends g) j (split-names h) (match-names g)
+  match-names (match_hide_hole h) = match-names h
+  match-names (match_closed h) = refl
   match-names (match_seq h) = items-names h
 
   -- items that match bind exactly their names
-  items-names : {L : Language} {ps : Items} {ts : Trees} {b : Binding} → MatchItems L ps ts b → bound_names b ≡ item_names ps
+  pub items-names : {L : Language} {ps : Items} {ts : Trees} {b : Binding} → MatchItems L ps ts b → bound_names b ≡ item_names ps
   items-names match_none = refl
   items-names (match_one {c = c} {d = d} h g j) = joined c d (items-ascends g) j (match-names h) (items-names g)
+
+  -- so does a split
+  pub split-names : {L : Language} {p : Pattern} {t C s : Tree} {b : Binding} → Split L p t C s b → bound_names b ≡ names p
+  split-names split_hole = refl
+  split-names (split_nt a h) = refl
+  split-names (split_named {x = x} {C = C} {c = c} h j) = joined c (one_name x (one_term C)) (tt, tt) j (split-names h) refl
+  split-names (split_in_hole {c = c} {d = d} h g e j) = joined c d (split-ascends g) j (split-names h) (split-names g)
+  split-names (split_closed h) = refl
+  split-names (split_seq h e) = split_items-names h
+
+  -- so do items of which one splits
+  pub split_items-names : {L : Language} {ps : Items} {ts : Trees} {k : ℕ} {D s : Tree} {b : Binding} → SplitItems L ps ts k D s b → bound_names b ≡ item_names ps
+  split_items-names (split_here {c = c} {d = d} h g j) = joined c d (items-ascends g) j (split-names h) (items-names g)
+  split_items-names (split_behind {c = c} {d = d} h g j) = joined c d (split_items-ascends g) j (match-names h) (split_items-names g)

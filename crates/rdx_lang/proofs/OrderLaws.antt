@@ -1,4 +1,4 @@
--- Values and bindings that their orders do not tell apart are equal; and strictly ascending lists are fixed by their members.
+-- Values, bindings and decompositions that their orders do not tell apart are equal; and strictly ascending lists are fixed by their members.
 use Rattle.std.specs.Prelude.{◌≡◌, List, [], ◌∷◌}
 use Rattle.std.proofs.Common.{refl, sym, ◌∙◌, ap, subst}
 use Rattle.std.specs.declared.cmp.Ordering.{Ordering}
@@ -8,11 +8,12 @@ use Rattle.std.specs.Cmp.{IsTotalOrder}
 use Rattle.std.specs.Cmp.Lexicographic.{slice_cmp, texts_ties, bytes_decides}
 use Rattle.std.proofs.lemmas.Cmp.{tied_itself}
 use Rattle.rdx_term.proofs.OrderLaws.{tree_cmp-equal}
+use Rattle.rdx_term.specs.Order.{tree_cmp}
 use Rattle.rdx_lang.specs.Ascending.{IsBelow, IsAscending}
 use Rattle.rdx_lang.specs.Bindings.{one, name_cmp}
 use Rattle.rdx_lang.specs.Listing.{IsListing}
 use Rattle.rdx_lang.specs.Members.{In, here, there}
-use Rattle.rdx_lang.specs.Order.{value_cmp, pair_cmp, binding_cmp, TellsApart}
+use Rattle.rdx_lang.specs.Order.{value_cmp, pair_cmp, binding_cmp, decomposition_cmp, TellsApart}
 
 -- ---- orders made of others
 
@@ -58,6 +59,17 @@ pair_cmp-tells p q h =
 -- bindings that tie are equal
 pub binding_cmp-tells : TellsApart binding_cmp
 binding_cmp-tells = lists_tell pair_cmp pair_cmp-tells
+
+-- decompositions that tie are equal
+pub decomposition_cmp-tells : TellsApart decomposition_cmp
+decomposition_cmp-tells d e h =
+    let behind : ordering_then (tree_cmp d.part e.part) (binding_cmp d.binding e.binding) ≡ Equal =
+    second_Equal (tree_cmp d.context e.context) (ordering_then (tree_cmp d.part e.part) (binding_cmp d.binding e.binding)) h in
+    let c : d.context ≡ e.context =
+    tree_cmp-equal d.context e.context (first_Equal (tree_cmp d.context e.context) (ordering_then (tree_cmp d.part e.part) (binding_cmp d.binding e.binding)) h) in
+    let p : d.part ≡ e.part = tree_cmp-equal d.part e.part (first_Equal (tree_cmp d.part e.part) (binding_cmp d.binding e.binding) behind) in
+    let b : d.binding ≡ e.binding = binding_cmp-tells d.binding e.binding (second_Equal (tree_cmp d.part e.part) (binding_cmp d.binding e.binding) behind) in
+    λ i. record { context = c i; part = p i; binding = b i }
 
 -- ---- strictly ascending lists
 

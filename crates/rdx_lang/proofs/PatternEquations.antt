@@ -1,7 +1,7 @@
 -- What each form of the code's patterns stands for, for proofs here and in the crates above.
 use Rattle.std.proofs.Common.{◌≡◌, ℕ, List, map, ap, ◌∙◌}
 use Rattle.rdx_term.specs.View.{tree_of}
-use Rattle.rdx_lang.specs.Patterns.{Pattern, wild, of_kind, except, prefix, lit, nt, named, seq}
+use Rattle.rdx_lang.specs.Patterns.{Pattern, wild, of_kind, except, prefix, hole, lit, nt, named, in_hole, hide_hole, closed, seq}
 use Rattle.rdx_lang.specs.PatternView.{pattern_of, pattern_step, slot_of, slot_step, Slot, just, items_of}
 use Rattle.rdx_lang.specs.declared.pattern.Item as code_item
 use Rattle.rdx_lang.specs.declared.pattern.Item.TheOpen as layer
@@ -35,6 +35,10 @@ pattern_except rs = pattern_at _ _ (pattern_variants.outs-Except rs)
 pub pattern_prefix : (r : List ℕ) → pattern_of (code_pattern.Prefix r) ≡ prefix r
 pattern_prefix r = pattern_at _ _ (pattern_variants.outs-Prefix r)
 
+-- the hole
+pub pattern_hole : pattern_of code_pattern.Hole ≡ hole
+pattern_hole = pattern_at _ _ pattern_variants.outs-Hole
+
 -- a literal
 pub pattern_lit : (u : _) → pattern_of (code_pattern.Lit u) ≡ lit (tree_of u)
 pattern_lit u = pattern_at _ _ (pattern_variants.outs-Lit u)
@@ -46,6 +50,18 @@ pattern_nt x = pattern_at _ _ (pattern_variants.outs-Nt x)
 -- a named pattern
 pub pattern_named : (x : List ℕ) (q : _) → pattern_of (code_pattern.Named x q) ≡ named x (pattern_of q.value)
 pattern_named x q = pattern_at _ _ (pattern_variants.outs-Named x q)
+
+-- a pattern in the hole of another
+pub pattern_in_hole : (q r : _) → pattern_of (code_pattern.InHole q r) ≡ in_hole (pattern_of q.value) (pattern_of r.value)
+pattern_in_hole q r = pattern_at _ _ (pattern_variants.outs-InHole q r)
+
+-- a hidden pattern
+pub pattern_hide_hole : (q : _) → pattern_of (code_pattern.HideHole q) ≡ hide_hole (pattern_of q.value)
+pattern_hide_hole q = pattern_at _ _ (pattern_variants.outs-HideHole q)
+
+-- a closed pattern
+pub pattern_closed : (q : _) → pattern_of (code_pattern.Closed q) ≡ closed (pattern_of q.value)
+pattern_closed q = pattern_at _ _ (pattern_variants.outs-Closed q)
 
 -- a list pattern
 pub pattern_seq : (v : _) → pattern_of (code_pattern.Seq v) ≡ seq (items_of (map slot_of v.items))

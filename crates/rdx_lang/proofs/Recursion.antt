@@ -1,13 +1,16 @@
 -- Whether a language is left-recursive can be decided: either no nonterminal reaches itself, or there is a first that does.
-use Rattle.std.proofs.Common.{◌≡◌, Bool, true, false, ◌⊎◌, inl, inr, List, [], ◌∷◌, ◌++◌, refl, sym, ap, subst}
-use Rattle.rdx_lang.specs.Edges.{Edge, edge_nt, edge_named, Reaches, at_once, further, IsRecursive, IsFree}
-use Rattle.rdx_lang.proofs.LookupLaws.{is_same-equal, equal-is_same}
-use Rattle.rdx_lang.specs.Laws.{HasFirstRecursive}
+use Rattle.std.proofs.Common.{◌≡◌, Bool, true, false, ◌⊎◌, inl, inr, List, [], ◌∷◌, ◌++◌, refl, sym, ap, subst, if◌then◌else◌}
+use Rattle.rdx_lang.specs.Edges.{Edge, edge_nt, edge_named, edge_hide_hole, edge_closed, edge_left, edge_right, Reaches, at_once, further, IsRecursive, IsFree}
+use Rattle.rdx_lang.specs.Empty.{is_empty, TellsEmpty}
+use Rattle.rdx_lang.specs.Laws.{HasFirstRecursive, FreeOrRecursive}
 use Rattle.rdx_lang.specs.Members.{In, here, there}
-use Rattle.rdx_lang.specs.Patterns.{Pattern, wild, of_kind, except, prefix, lit, nt, named, seq, Definition, Language}
+use Rattle.rdx_lang.specs.Patterns.{Pattern, wild, of_kind, except, prefix, hole, lit, nt, named, in_hole, hide_hole, closed, seq, Definition, Language}
 use Rattle.rdx_lang.specs.Rules.{IsAlternative}
 use Rattle.rdx_lang.specs.References.{is_same}
 use Rattle.rdx_lang.specs.declared.pattern.Ref.{Ref}
+use Rattle.rdx_lang.proofs.Emptiness.{is_empty-exact, empty_is_decided}
+use Rattle.rdx_lang.proofs.LookupLaws.{is_same-equal, equal-is_same}
+use Rattle.rdx_lang.proofs.MemberLaws.{in-append, append-left, append-right}
 
 -- ---- what can be decided
 
@@ -53,107 +56,94 @@ member x (y ∷ ys) = as_well (from_either x y ys) (to_either x y ys) (either (s
 
 -- ---- what a pattern leads to by left edges, before an alternative is taken
 
--- the nonterminals to which it leads
-abbrev leads : Pattern → List Ref
-leads wild = []
-leads (of_kind k) = []
-leads (except rs) = []
-leads (prefix r) = []
-leads (lit t) = []
-leads (nt x) = x ∷ []
-leads (named x q) = leads q
-leads (seq ps) = []
+-- what is among these where the test says so
+counted : (b : Bool) (xs : List Ref) (z : Ref) → In z (if b then xs else []) → (b ≡ true) × In z xs
+counted true xs z i = (refl, i)
+counted false xs z i = elim i [ ]
 
--- a pattern is such a nonterminal, or left edges lead to one
-leads-reach : (L : Language) (p : Pattern) (y : Ref) (q : Pattern) → Edge L q p → In y (leads p) → Reaches L q (nt y)
-leads-reach L wild y q e i = elim i [ ]
-leads-reach L (of_kind k) y q e i = elim i [ ]
-leads-reach L (except rs) y q e i = elim i [ ]
-leads-reach L (prefix r) y q e i = elim i [ ]
-leads-reach L (lit t) y q e i = elim i [ ]
-leads-reach L (nt x) y q e (here d) = subst (λ (z : Ref). Reaches L q (nt z)) (sym d) (at_once e)
-leads-reach L (nt x) y q e (there i) = elim i [ ]
-leads-reach L (named x p) y q e i = further e (leads-reach L p y (named x p) edge_named i)
-leads-reach L (seq ps) y q e i = elim i [ ]
+to_counted : (b : Bool) (xs : List Ref) (z : Ref) → b ≡ true → In z xs → In z (if b then xs else [])
+to_counted true xs z e i = i
+to_counted false xs z e i = absurd cc
 
--- to those to which the patterns of a list lead
-abbrev all_leads : List Pattern → List Ref
-all_leads [] = []
-all_leads (p ∷ ps) = leads p ++ all_leads ps
+module _ (E : Ref → Bool) where
+  -- the nonterminals to which it leads, where E tells which ones are Empty
+  abbrev leads : Pattern → List Ref
+  leads wild = []
+  leads (of_kind k) = []
+  leads (except rs) = []
+  leads (prefix r) = []
+  leads hole = []
+  leads (lit t) = []
+  leads (nt x) = x ∷ []
+  leads (named x q) = leads q
+  leads (in_hole q r) = leads q ++ (if is_empty E q then leads r else [])
+  leads (hide_hole q) = leads q
+  leads (closed q) = leads q
+  leads (seq ps) = []
 
--- a member of two lists, one behind the other
-in-append : (xs ys : List Ref) (z : Ref) → In z (xs ++ ys) → In z xs ⊎ In z ys
-in-append [] ys z i = inr i
-in-append (x ∷ xs) ys z (here e) = inl (here e)
-in-append (x ∷ xs) ys z (there i) = elim (in-append xs ys z i) [ inl j ↦ inl (there j) | inr j ↦ inr j ]
+  -- to those to which the patterns of a list lead
+  abbrev all_leads : List Pattern → List Ref
+  all_leads [] = []
+  all_leads (p ∷ ps) = leads p ++ all_leads ps
 
-append-left : (xs ys : List Ref) (z : Ref) → In z xs → In z (xs ++ ys)
-append-left [] ys z i = elim i [ ]
-append-left (x ∷ xs) ys z (here e) = here e
-append-left (x ∷ xs) ys z (there i) = there (append-left xs ys z i)
+  -- one of the patterns leads to it
+  record FromPattern (ps : List Pattern) (z : Ref) : Type 0 where
+    pub pattern : Pattern
+    pub among : In pattern ps
+    pub lead : In z (leads pattern)
 
-append-right : (xs ys : List Ref) (z : Ref) → In z ys → In z (xs ++ ys)
-append-right [] ys z i = i
-append-right (x ∷ xs) ys z i = there (append-right xs ys z i)
+  from_pattern : (ps : List Pattern) (z : Ref) → In z (all_leads ps) → FromPattern ps z
+  from_pattern [] z i = elim i [ ]
+  from_pattern (p ∷ ps) z i = elim (in-append (leads p) (all_leads ps) z i) [
+    | inl j ↦ record { pattern = p; among = here refl; lead = j }
+    | inr j ↦ let f = from_pattern ps z j in record { pattern = f.pattern; among = there f.among; lead = f.lead }
+  ]
 
--- one of the patterns leads to it
-record FromPattern (ps : List Pattern) (z : Ref) : Type 0 where
-  pub pattern : Pattern
-  pub among : In pattern ps
-  pub lead : In z (leads pattern)
+  to_pattern : (ps : List Pattern) (p : Pattern) (z : Ref) → In p ps → In z (leads p) → In z (all_leads ps)
+  to_pattern [] p z i j = elim i [ ]
+  to_pattern (q ∷ ps) p z (here e) j = append-left (leads q) (all_leads ps) z (subst (λ (r : Pattern). In z (leads r)) e j)
+  to_pattern (q ∷ ps) p z (there i) j = append-right (leads q) (all_leads ps) z (to_pattern ps p z i j)
 
-from_pattern : (ps : List Pattern) (z : Ref) → In z (all_leads ps) → FromPattern ps z
-from_pattern [] z i = elim i [ ]
-from_pattern (p ∷ ps) z i = elim (in-append (leads p) (all_leads ps) z i) [
-  | inl j ↦ record { pattern = p; among = here refl; lead = j }
-  | inr j ↦ let f = from_pattern ps z j in record { pattern = f.pattern; among = there f.among; lead = f.lead }
-]
+  -- ---- steps between nonterminals
 
-to_pattern : (ps : List Pattern) (p : Pattern) (z : Ref) → In p ps → In z (leads p) → In z (all_leads ps)
-to_pattern [] p z i j = elim i [ ]
-to_pattern (q ∷ ps) p z (here e) j = append-left (leads q) (all_leads ps) z (subst (λ (r : Pattern). In z (leads r)) e j)
-to_pattern (q ∷ ps) p z (there i) j = append-right (leads q) (all_leads ps) z (to_pattern ps p z i j)
+  -- what the definition leads to, where it is one of x
+  abbrev steps_by : Bool → Definition → List Ref
+  steps_by true d = all_leads d.1
+  steps_by false d = []
 
--- ---- steps between nonterminals
+  -- the nonterminals to which the alternatives of x lead
+  abbrev steps : List Definition → Ref → List Ref
+  steps [] x = []
+  steps (d ∷ ds) x = steps_by (is_same x d.0) d ++ steps ds x
 
--- what the definition leads to, where it is one of x
-abbrev steps_by : Bool → Definition → List Ref
-steps_by true d = all_leads d.1
-steps_by false d = []
+  -- a definition of x among these leads to it
+  record FromDefinition (ds : List Definition) (x y : Ref) : Type 0 where
+    pub patterns : List Pattern
+    pub defined : In (x, patterns) ds
+    pub lead : In y (all_leads patterns)
 
--- the nonterminals to which the alternatives of x lead
-abbrev steps : List Definition → Ref → List Ref
-steps [] x = []
-steps (d ∷ ds) x = steps_by (is_same x d.0) d ++ steps ds x
+  from_one : (d : Definition) (ds : List Definition) (x y : Ref) (b : Bool) → is_same x d.0 ≡ b → In y (steps_by b d) → FromDefinition (d ∷ ds) x y
+  from_one d ds x y true e i = record { patterns = d.1; defined = here (λ j. (is_same-equal x d.0 e j, d.1)); lead = i }
+  from_one d ds x y false e i = elim i [ ]
 
--- a definition of x among these leads to it
-record FromDefinition (ds : List Definition) (x y : Ref) : Type 0 where
-  pub patterns : List Pattern
-  pub defined : In (x, patterns) ds
-  pub lead : In y (all_leads patterns)
+  from_definition : (ds : List Definition) (x y : Ref) → In y (steps ds x) → FromDefinition ds x y
+  from_definition [] x y i = elim i [ ]
+  from_definition (d ∷ ds) x y i = elim (in-append (steps_by (is_same x d.0) d) (steps ds x) y i) [
+    | inl j ↦ from_one d ds x y (is_same x d.0) refl j
+    | inr j ↦ let f = from_definition ds x y j in record { patterns = f.patterns; defined = there f.defined; lead = f.lead }
+  ]
 
-from_one : (d : Definition) (ds : List Definition) (x y : Ref) (b : Bool) → is_same x d.0 ≡ b → In y (steps_by b d) → FromDefinition (d ∷ ds) x y
-from_one d ds x y true e i = record { patterns = d.1; defined = here (λ j. (is_same-equal x d.0 e j, d.1)); lead = i }
-from_one d ds x y false e i = elim i [ ]
+  to_one : (d : Definition) (x y : Ref) (ps : List Pattern) → (x, ps) ≡ d → In y (all_leads ps) → In y (steps_by (is_same x d.0) d)
+  to_one d x y ps e i = by_test (is_same x d.0) (equal-is_same x d.0 (ap (λ (c : Definition). c.0) e))
+    where
+      by_test : (b : Bool) → b ≡ true → In y (steps_by b d)
+      by_test true f = subst (λ (c : Definition). In y (all_leads c.1)) e i
+      by_test false f = absurd cc
 
-from_definition : (ds : List Definition) (x y : Ref) → In y (steps ds x) → FromDefinition ds x y
-from_definition [] x y i = elim i [ ]
-from_definition (d ∷ ds) x y i = elim (in-append (steps_by (is_same x d.0) d) (steps ds x) y i) [
-  | inl j ↦ from_one d ds x y (is_same x d.0) refl j
-  | inr j ↦ let f = from_definition ds x y j in record { patterns = f.patterns; defined = there f.defined; lead = f.lead }
-]
-
-to_one : (d : Definition) (x y : Ref) (ps : List Pattern) → (x, ps) ≡ d → In y (all_leads ps) → In y (steps_by (is_same x d.0) d)
-to_one d x y ps e i = by_test (is_same x d.0) (equal-is_same x d.0 (ap (λ (c : Definition). c.0) e))
-  where
-    by_test : (b : Bool) → b ≡ true → In y (steps_by b d)
-    by_test true f = subst (λ (c : Definition). In y (all_leads c.1)) e i
-    by_test false f = absurd cc
-
-to_definition : (ds : List Definition) (x y : Ref) (ps : List Pattern) → In (x, ps) ds → In y (all_leads ps) → In y (steps ds x)
-to_definition [] x y ps h i = elim h [ ]
-to_definition (d ∷ ds) x y ps (here e) i = append-left (steps_by (is_same x d.0) d) (steps ds x) y (to_one d x y ps e i)
-to_definition (d ∷ ds) x y ps (there h) i = append-right (steps_by (is_same x d.0) d) (steps ds x) y (to_definition ds x y ps h i)
+  to_definition : (ds : List Definition) (x y : Ref) (ps : List Pattern) → In (x, ps) ds → In y (all_leads ps) → In y (steps ds x)
+  to_definition [] x y ps h i = elim h [ ]
+  to_definition (d ∷ ds) x y ps (here e) i = append-left (steps_by (is_same x d.0) d) (steps ds x) y (to_one d x y ps e i)
+  to_definition (d ∷ ds) x y ps (there h) i = append-right (steps_by (is_same x d.0) d) (steps ds x) y (to_definition ds x y ps h i)
 
 -- ---- names
 
@@ -170,10 +160,10 @@ in-names (d ∷ ds) x ps (there h) = there (in-names ds x ps h)
 
 -- ---- paths by way of some nonterminals
 
-module _ (L : Language) where
+module _ (L : Language) (E : Ref → Bool) (e : TellsEmpty L E) where
   -- an alternative of x leads to y
   abbrev Step : Ref → Ref → Type 0
-  Step x y = In y (steps L.nonterminals x)
+  Step x y = In y (steps E L.nonterminals x)
 
   -- steps lead from x to y, by way of these alone
   abbrev Via : List Ref → Ref → Ref → Type 0
@@ -182,20 +172,41 @@ module _ (L : Language) where
 
   -- that can be decided
   via-decided : (zs : List Ref) (x y : Ref) → Decided (Via zs x y)
-  via-decided [] x y = member y (steps L.nonterminals x)
+  via-decided [] x y = member y (steps E L.nonterminals x)
   via-decided (z ∷ zs) x y = either (via-decided zs x y) (both (via-decided zs x z) (via-decided zs z y))
 
   -- left edges after left edges
   reaches_on : (p q r : Pattern) → Reaches L p q → Reaches L q r → Reaches L p r
-  reaches_on p q r (at_once e) k = further e k
-  reaches_on p q r (further {q = s} e h) k = further e (reaches_on s q r h k)
+  reaches_on p q r (at_once d) k = further d k
+  reaches_on p q r (further {q = s} d h) k = further d (reaches_on s q r h k)
+
+  -- a pattern is a nonterminal to which it leads, or left edges lead to one
+  leads-reach : (p : Pattern) (y : Ref) (q : Pattern) → Edge L q p → In y (leads E p) → Reaches L q (nt y)
+  leads-reach wild y q d i = elim i [ ]
+  leads-reach (of_kind k) y q d i = elim i [ ]
+  leads-reach (except rs) y q d i = elim i [ ]
+  leads-reach (prefix r) y q d i = elim i [ ]
+  leads-reach hole y q d i = elim i [ ]
+  leads-reach (lit t) y q d i = elim i [ ]
+  leads-reach (nt x) y q d (here f) = subst (λ (z : Ref). Reaches L q (nt z)) (sym f) (at_once d)
+  leads-reach (nt x) y q d (there i) = elim i [ ]
+  leads-reach (named x p) y q d i = further d (leads-reach p y (named x p) edge_named i)
+  leads-reach (in_hole p r) y q d i = elim (in-append (leads E p) (if is_empty E p then leads E r else []) y i) [
+    | inl j ↦ further d (leads-reach p y (in_hole p r) edge_left j)
+    | inr j ↦
+        let k = counted (is_empty E p) (leads E r) y j in
+        further d (leads-reach r y (in_hole p r) (edge_right ((is_empty-exact L E e p).0 k.0)) k.1)
+  ]
+  leads-reach (hide_hole p) y q d i = further d (leads-reach p y (hide_hole p) edge_hide_hole i)
+  leads-reach (closed p) y q d i = further d (leads-reach p y (closed p) edge_closed i)
+  leads-reach (seq ps) y q d i = elim i [ ]
 
   -- a step goes along left edges
   step-reaches : (x y : Ref) → Step x y → Reaches L (nt x) (nt y)
   step-reaches x y i =
-      let d = from_definition L.nonterminals x y i in
-      let p = from_pattern d.patterns y d.lead in
-      leads-reach L p.pattern y (nt x) (edge_nt (record { all = d.patterns; defined = d.defined; among = p.among })) p.lead
+      let d = from_definition E L.nonterminals x y i in
+      let p = from_pattern E d.patterns y d.lead in
+      leads-reach p.pattern y (nt x) (edge_nt (record { all = d.patterns; defined = d.defined; among = p.among })) p.lead
 
   -- and so do paths
   via-reaches : (zs : List Ref) (x y : Ref) → Via zs x y → Reaches L (nt x) (nt y)
@@ -234,7 +245,7 @@ module _ (L : Language) where
 
   -- where a path begins is a definition
   via-defined : (zs : List Ref) (x y : Ref) → Via zs x y → (ps : List Pattern) × In (x, ps) L.nonterminals
-  via-defined [] x y h = let d = from_definition L.nonterminals x y h in (d.patterns, d.defined)
+  via-defined [] x y h = let d = from_definition E L.nonterminals x y h in (d.patterns, d.defined)
   via-defined (z ∷ zs) x y (inl h) = via-defined zs x y h
   via-defined (z ∷ zs) x y (inr h) = via-defined zs x z h.0
 
@@ -243,7 +254,7 @@ module _ (L : Language) where
   -- the pattern leads to y, or to a nonterminal from which a path leads to y
   record LeadsOn (p : Pattern) (y : Ref) : Type 0 where
     pub lead : Ref
-    pub among : In lead (leads p)
+    pub among : In lead (leads E p)
     pub on : (lead ≡ y) ⊎ Via all lead y
 
   -- left edges lead from the pattern to y
@@ -252,9 +263,13 @@ module _ (L : Language) where
   Onward (of_kind k) y = ⊥
   Onward (except rs) y = ⊥
   Onward (prefix r) y = ⊥
+  Onward hole y = ⊥
   Onward (lit t) y = ⊥
   Onward (nt x) y = Via all x y
-  Onward (named x q) y = LeadsOn q y
+  Onward (named x q) y = LeadsOn (named x q) y
+  Onward (in_hole q r) y = LeadsOn (in_hole q r) y
+  Onward (hide_hole q) y = LeadsOn (hide_hole q) y
+  Onward (closed q) y = LeadsOn (closed q) y
   Onward (seq ps) y = ⊥
 
   -- so the pattern leads to it
@@ -263,18 +278,22 @@ module _ (L : Language) where
   onward-leads (of_kind k) y h = absurd h
   onward-leads (except rs) y h = absurd h
   onward-leads (prefix r) y h = absurd h
+  onward-leads hole y h = absurd h
   onward-leads (lit t) y h = absurd h
   onward-leads (nt x) y h = record { lead = x; among = here refl; on = inr h }
-  onward-leads (named x q) y h = record { lead = h.lead; among = h.among; on = h.on }
+  onward-leads (named x q) y h = h
+  onward-leads (in_hole q r) y h = h
+  onward-leads (hide_hole q) y h = h
+  onward-leads (closed q) y h = h
   onward-leads (seq ps) y h = absurd h
 
   -- an alternative's lead is a step
-  lead-step : (x : Ref) (p : Pattern) (z : Ref) → IsAlternative L x p → In z (leads p) → Step x z
-  lead-step x p z a i = to_definition L.nonterminals x z a.all a.defined (to_pattern a.all p z a.among i)
+  lead-step : (x : Ref) (p : Pattern) (z : Ref) → IsAlternative L x p → In z (leads E p) → Step x z
+  lead-step x p z a i = to_definition E L.nonterminals x z a.all a.defined (to_pattern E a.all p z a.among i)
 
   -- a step before a path, or to where it ends
   step-on : (x z y : Ref) → Step x z → (z ≡ y) ⊎ Via all z y → Via all x y
-  step-on x z y s (inl e) = via-step all x y (subst (λ (w : Ref). Step x w) e s)
+  step-on x z y s (inl f) = via-step all x y (subst (λ (w : Ref). Step x w) f s)
   step-on x z y s (inr h) =
       let d = via-defined all z y h in
       via-meet all x z y (in-names L.nonterminals z d.0 d.1) (via-step all x z s) h
@@ -282,13 +301,20 @@ module _ (L : Language) where
   -- a left edge before them
   edge-onward : (p q : Pattern) (y : Ref) → Edge L p q → LeadsOn q y → Onward p y
   edge-onward p q y (edge_nt {x = x} a) l = step-on x l.lead y (lead-step x q l.lead a l.among) l.on
-  edge-onward p q y edge_named l = l
+  edge-onward p q y edge_named l = record { lead = l.lead; among = l.among; on = l.on }
+  edge-onward p q y edge_hide_hole l = record { lead = l.lead; among = l.among; on = l.on }
+  edge-onward p q y edge_closed l = record { lead = l.lead; among = l.among; on = l.on }
+  edge-onward p q y (edge_left {r = r}) l =
+      record { lead = l.lead; among = append-left (leads E q) (if is_empty E q then leads E r else []) l.lead l.among; on = l.on }
+  edge-onward p r y (edge_right {q = q} h) l =
+      let i = to_counted (is_empty E q) (leads E r) l.lead ((is_empty-exact L E e q).1 h) l.among in
+      record { lead = l.lead; among = append-right (leads E q) (if is_empty E q then leads E r else []) l.lead i; on = l.on }
 
   -- what is reached by left edges
   reaches-onward : (p q : Pattern) (y : Ref) → Reaches L p q → q ≡ nt y → Onward p y
-  reaches-onward p q y (at_once e) f =
-      edge-onward p q y e (record { lead = y; among = subst (λ (r : Pattern). In y (leads r)) (sym f) (here refl); on = inl refl })
-  reaches-onward p q y (further {q = r} e h) f = edge-onward p r y e (onward-leads r y (reaches-onward r q y h f))
+  reaches-onward p q y (at_once d) f =
+      edge-onward p q y d (record { lead = y; among = subst (λ (r : Pattern). In y (leads E r)) (sym f) (here refl); on = inl refl })
+  reaches-onward p q y (further {q = r} d h) f = edge-onward p r y d (onward-leads r y (reaches-onward r q y h f))
 
   -- what reaches itself has a path to itself
   recursive-via : (x : Ref) → IsRecursive L x → Via all x x
@@ -352,6 +378,6 @@ module _ (L : Language) where
   })
   by_first (inr n) = inl (none-free n)
 
-  -- a language is free of left recursion, or has one
-  pub free_or_recursive : IsFree L ⊎ HasFirstRecursive L
-  free_or_recursive = by_first (first-in L.nonterminals)
+-- a language is free of left recursion, or has a first nonterminal that reaches itself
+pub free_or_recursive : FreeOrRecursive
+free_or_recursive L = let t = empty_is_decided L in by_first L t.test t.tells (first-in L t.test t.tells L.nonterminals)

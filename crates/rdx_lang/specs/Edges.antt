@@ -5,14 +5,20 @@
 -- their algorithm (APLAS 2011).
 use Rattle.std.specs.Prelude.{◌≡◌, ℕ, List, ◌∷◌, ◌++◌}
 use Rattle.rdx_lang.specs.Members.{In}
-use Rattle.rdx_lang.specs.Patterns.{Pattern, nt, named, Definition, Language}
+use Rattle.rdx_lang.specs.Empty.{IsEmpty}
+use Rattle.rdx_lang.specs.Patterns.{Pattern, nt, named, in_hole, hide_hole, closed, Definition, Language}
 use Rattle.rdx_lang.specs.Rules.{IsAlternative}
 use Rattle.rdx_lang.specs.declared.pattern.Ref.{Ref}
 
--- a left edge: from a nonterminal to each of its alternatives, and from a named pattern to its part
+-- A left edge: from a nonterminal to each of its alternatives; from a pattern with a name, a hidden and a closed one to its part; from
+-- `in-hole` to its left part, and to its right part where the left one is Empty, since then nothing of the term is taken off before.
 pub data Edge (L : Language) : Pattern → Pattern → Type 0 where
   edge_nt : {x : Ref} {p : Pattern} → IsAlternative L x p → Edge L (nt x) p
   edge_named : {x : List ℕ} {q : Pattern} → Edge L (named x q) q
+  edge_hide_hole : {q : Pattern} → Edge L (hide_hole q) q
+  edge_closed : {q : Pattern} → Edge L (closed q) q
+  edge_left : {q r : Pattern} → Edge L (in_hole q r) q
+  edge_right : {q r : Pattern} → IsEmpty L q → Edge L (in_hole q r) r
 
 -- one left edge or more lead from the one pattern to the other
 pub data Reaches (L : Language) : Pattern → Pattern → Type 0 where

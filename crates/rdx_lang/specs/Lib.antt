@@ -6,6 +6,7 @@ pub mod PatternView
 pub mod WellFormed
 pub mod Lookup
 pub mod Bindings
+pub mod Decompositions
 pub mod BindingView
 pub mod Shown
 pub mod Checked
@@ -13,6 +14,7 @@ pub mod Order
 pub mod Join
 pub mod Literals
 pub mod Rules
+pub mod Empty
 pub mod Edges
 pub mod Nodes
 pub mod Ranks

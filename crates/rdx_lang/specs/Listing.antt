@@ -5,9 +5,10 @@ use Rattle.rdx_term.specs.Tree.{Tree}
 use Rattle.rdx_lang.specs.Members.{In}
 use Rattle.rdx_lang.specs.Ascending.{IsAscending}
 use Rattle.rdx_lang.specs.Bindings.{Binding}
-use Rattle.rdx_lang.specs.Order.{binding_cmp}
+use Rattle.rdx_lang.specs.Decompositions.{Decomposition}
+use Rattle.rdx_lang.specs.Order.{binding_cmp, decomposition_cmp}
 use Rattle.rdx_lang.specs.Patterns.{Pattern, Language}
-use Rattle.rdx_lang.specs.Rules.{Match}
+use Rattle.rdx_lang.specs.Rules.{Match, Split}
 
 -- in this order, xs ascends, and its members are exactly those of which R holds
 pub record IsListing {A : Type 0} (cmp : A → A → Ordering) (xs : List A) (R : A → Type 0) : Type 0 where
@@ -18,3 +19,11 @@ pub record IsListing {A : Type 0} (cmp : A → A → Ordering) (xs : List A) (R 
 -- bs lists the bindings by which p matches t in the language L
 abbrev pub Matches : Language → Pattern → Tree → List Binding → Type 0
 Matches L p t bs = IsListing binding_cmp bs (Match L p t)
+
+-- p splits t so
+abbrev pub SplitsInto : Language → Pattern → Tree → Decomposition → Type 0
+SplitsInto L p t d = Split L p t d.context d.part d.binding
+
+-- ds lists the contexts and parts into which p splits t in the language L, with their bindings
+abbrev pub Splits : Language → Pattern → Tree → List Decomposition → Type 0
+Splits L p t ds = IsListing decomposition_cmp ds (SplitsInto L p t)

@@ -2,7 +2,7 @@
 -- "Patterns").
 use Rattle.std.specs.Prelude.{ℕ, Bool, false, ◌||◌, List, [], ◌∷◌, bytes_eq}
 use Rattle.rdx_term.specs.Tree.{Tree, symbol}
-use Rattle.rdx_lang.specs.Patterns.{Pattern, wild, of_kind, except, prefix, lit, nt, named, seq, Items, nil, one, Definition, Language}
+use Rattle.rdx_lang.specs.Patterns.{Pattern, wild, of_kind, except, prefix, hole, lit, nt, named, in_hole, hide_hole, closed, seq, Items, nil, one, Definition, Language}
 
 -- the term is this symbol
 abbrev pub is_symbol : List ℕ → Tree → Bool
@@ -16,9 +16,13 @@ abbrev mutual
   mentions s (of_kind k) = false
   mentions s (except rs) = false
   mentions s (prefix r) = false
+  mentions s hole = false
   mentions s (lit u) = is_symbol s u
   mentions s (nt x) = false
   mentions s (named x q) = mentions s q
+  mentions s (in_hole q r) = mentions s q || mentions s r
+  mentions s (hide_hole q) = mentions s q
+  mentions s (closed q) = mentions s q
   mentions s (seq ps) = items_mention s ps
 
   -- it is a literal in one of the items

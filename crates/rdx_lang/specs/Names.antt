@@ -1,10 +1,10 @@
--- The names that a pattern binds: ascending by their bytes, each once. They are put together as joins are. What names stand for inside a nonterminal's alternatives is
--- forgotten where the nonterminal has matched, so a nonterminal binds none.
+-- The names that a pattern binds: ascending by their bytes, each once. They are put together as joins are. What names stand for inside a
+-- nonterminal's alternatives is forgotten where the nonterminal has matched, so a nonterminal binds none; nor does a closed pattern.
 use Rattle.std.specs.Prelude.{ℕ, List, [], ◌∷◌}
 use Rattle.std.specs.declared.cmp.Ordering.{Ordering}
 use Rattle.std.specs.declared.cmp.Ordering.TheVariants.{Less, Equal, Greater}
 use Rattle.rdx_lang.specs.Bindings.{name_cmp}
-use Rattle.rdx_lang.specs.Patterns.{Pattern, wild, of_kind, except, prefix, lit, nt, named, seq, Items, nil, one}
+use Rattle.rdx_lang.specs.Patterns.{Pattern, wild, of_kind, except, prefix, hole, lit, nt, named, in_hole, hide_hole, closed, seq, Items, nil, one}
 
 -- ascending names y and ys with x put among them: x compares so to y, and further is ys with x put among them
 abbrev pub placed : Ordering → List ℕ → List ℕ → List (List ℕ) → List (List ℕ) → List (List ℕ)
@@ -29,9 +29,13 @@ abbrev mutual
   names (of_kind k) = []
   names (except rs) = []
   names (prefix r) = []
+  names hole = []
   names (lit u) = []
   names (nt x) = []
   names (named x q) = add_names (names q) (x ∷ [])
+  names (in_hole q r) = add_names (names q) (names r)
+  names (hide_hole q) = names q
+  names (closed q) = []
   names (seq ps) = item_names ps
 
   -- the names that the items bind together

@@ -1,7 +1,7 @@
 -- The patterns and languages that the code's values stand for.
 use Rattle.std.specs.Prelude.{List, [], ◌∷◌, map}
 use Rattle.rdx_term.specs.View.{tree_of}
-use Rattle.rdx_lang.specs.Patterns.{Pattern, wild, of_kind, except, prefix, lit, nt, named, seq, Items, nil, one, Definition, Language}
+use Rattle.rdx_lang.specs.Patterns.{Pattern, wild, of_kind, except, prefix, hole, lit, nt, named, in_hole, hide_hole, closed, seq, Items, nil, one, Definition, Language}
 use Rattle.rdx_lang.specs.declared.language.Language as code_language
 use Rattle.rdx_lang.specs.declared.pattern.Item as code_item
 use Rattle.rdx_lang.specs.declared.pattern.Item.TheOpen as layer
@@ -25,9 +25,13 @@ pattern_step layer.Wild = wild
 pattern_step (layer.Kind k) = of_kind k
 pattern_step (layer.Except rs) = except rs.items
 pattern_step (layer.Prefix r) = prefix r
+pattern_step layer.Hole = hole
 pattern_step (layer.Lit u) = lit (tree_of u)
 pattern_step (layer.Nt x) = nt x
 pattern_step (layer.Named x q) = named x q.value
+pattern_step (layer.InHole q r) = in_hole q.value r.value
+pattern_step (layer.HideHole q) = hide_hole q.value
+pattern_step (layer.Closed q) = closed q.value
 pattern_step (layer.Seq slots) = seq (items_of slots.items)
 
 -- a form of items, once its parts are known

@@ -5,15 +5,20 @@ use Rattle.rdx_lang.specs.declared.pattern.Kind.{Kind}
 use Rattle.rdx_lang.specs.declared.pattern.Ref.{Ref}
 
 mutual
-  -- `_`, a built-in name, the symbols but these, the symbols that begin so, a literal term, a nonterminal, a pattern with a name, or a list
+  -- `_`, a built-in name, the symbols but these, the symbols that begin so, the hole, a literal term, a nonterminal, a pattern with a name,
+  -- a pattern for contexts with one for what stands in their hole, a pattern whose contexts are hidden, one whose names are, or a list
   pub data Pattern : Type 0 where
     wild : Pattern
     of_kind : Kind → Pattern
     except : List (List ℕ) → Pattern
     prefix : List ℕ → Pattern
+    hole : Pattern
     lit : Tree → Pattern
     nt : Ref → Pattern
     named : List ℕ → Pattern → Pattern
+    in_hole : Pattern → Pattern → Pattern
+    hide_hole : Pattern → Pattern
+    closed : Pattern → Pattern
     seq : Items → Pattern
 
   -- the items of a list pattern, each by its pattern

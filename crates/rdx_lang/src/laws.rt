@@ -1,9 +1,10 @@
 //! Laws of the definitions: functions that do nothing, whose contracts are the laws.
 ghost use Rattle.std.specs.Cmp.{IsTotalOrder};
-ghost use Rattle.rdx_lang.specs.Order.{value_cmp, binding_cmp};
+ghost use Rattle.rdx_lang.specs.Order.{value_cmp, binding_cmp, decomposition_cmp};
 ghost use Rattle.rdx_lang.specs.Order.{TellsApart};
 ghost use Rattle.rdx_lang.specs.Examples.{TwoEqual, TwoDifferent, TwoMarks, NameAround, NameAroundItself, Forgotten, OnceForTwo, Mentioned, ExceptMentionsNone, NonterminalsAreNotMentioned, PrefixFirst, ItemsDecide, FirstPairDecides, NameKeepsTheTerm, ListTakesOff};
-ghost use Rattle.rdx_lang.specs.Laws.{OneListing, SomeListing, OneJoin, JoinAgrees, JoinExists, NamesAscend, BindsAMap, BindsItsNames, FreeOrRecursive, RanksFall, EdgesFall, RankedIsFree};
+ghost use Rattle.rdx_lang.specs.Examples.{InEachPlace, AtEitherHole, HiddenSplitsNothing, OneItemSplits, NeverAtBoth, ContextInContext, NameOfATerm, EqualContexts, ContextsWithMarks, EmptyThroughAnother, EmptyLeadsOn, ContextTakesOff};
+ghost use Rattle.rdx_lang.specs.Laws.{OneListing, OneSplitsListing, SomeListing, SomeSplitsListing, OneJoin, JoinAgrees, JoinExists, NamesAscend, BindsAMap, BindsItsNames, SplitBindsAMap, SplitBindsItsNames, SplitFills, SplitHasPath, WholeIsEmpty, EmptySplitsAll, EmptyIsDecided, FreeOrRecursive, RanksFall, EdgesFall, RankedIsFree};
 
 /// The order of values is total, and values that it doesn't tell apart are equal.
 pub fn values_are_ordered()
@@ -17,15 +18,23 @@ pub fn bindings_are_ordered()
     ensures equal { TellsApart binding_cmp }
 {}
 
-/// A pattern has one listing of the bindings by which it matches a term, since a strictly ascending
-/// list is fixed by its members.
-pub fn one_listing()
-    ensures { OneListing }
+/// The order of what terms are split into is total, and what it doesn't tell apart is equal.
+pub fn splits_are_ordered()
+    ensures total { IsTotalOrder decomposition_cmp }
+    ensures equal { TellsApart decomposition_cmp }
 {}
 
-/// In a language that is free of left recursion each pattern has a listing for each term.
+/// A pattern has one listing of the bindings by which it matches a term, and one of what it splits
+/// a term into, since a strictly ascending list is fixed by its members.
+pub fn one_listing()
+    ensures matches { OneListing }
+    ensures splits { OneSplitsListing }
+{}
+
+/// In a language that is free of left recursion each pattern has both listings for each term.
 pub fn some_listing()
-    ensures { SomeListing }
+    ensures matches { SomeListing }
+    ensures splits { SomeSplitsListing }
 {}
 
 /// A language is free of left recursion, or has a first nonterminal that reaches itself.
@@ -45,12 +54,31 @@ pub fn join_exists()
     ensures always { JoinExists }
 {}
 
-/// Whatever a pattern matches, its binding is a finite map of the same names, those that are
-/// written in the pattern itself.
+/// Whatever a pattern matches or splits, its binding is a finite map of the same names, those that
+/// are written in the pattern itself.
 pub fn names_of_matches()
     ensures ascending { NamesAscend }
     ensures map { BindsAMap }
     ensures names { BindsItsNames }
+    ensures split_map { SplitBindsAMap }
+    ensures split_names { SplitBindsItsNames }
+{}
+
+/// What a pattern splits a term into is the term: its context is a context, which is the term, but
+/// for marks, where the part is put into it, and neither is deeper or larger than the term. A split
+/// is fixed by the path of its context: the part stands where the path leads, and the context is
+/// the term with the hole in its place.
+pub fn splits_fill()
+    ensures fill { SplitFills }
+    ensures path { SplitHasPath }
+{}
+
+/// A pattern is Empty exactly where it splits some term with the hole itself as context, and then it
+/// splits each term so. Which nonterminals are Empty can be told.
+pub fn empty_patterns()
+    ensures only { WholeIsEmpty }
+    ensures always { EmptySplitsAll }
+    ensures decided { EmptyIsDecided }
 {}
 
 /// Where ranks fall along every left edge, the number of an alternative is below that of its
@@ -79,4 +107,16 @@ pub fn worked_examples()
     ensures first_pair_decides { FirstPairDecides }
     ensures name_keeps_the_term { NameKeepsTheTerm }
     ensures list_takes_off { ListTakesOff }
+    ensures in_each_place { InEachPlace }
+    ensures at_either_hole { AtEitherHole }
+    ensures hidden_splits_nothing { HiddenSplitsNothing }
+    ensures one_item_splits { OneItemSplits }
+    ensures never_at_both { NeverAtBoth }
+    ensures context_in_context { ContextInContext }
+    ensures name_of_a_term { NameOfATerm }
+    ensures equal_contexts { EqualContexts }
+    ensures contexts_with_marks { ContextsWithMarks }
+    ensures empty_through_another { EmptyThroughAnother }
+    ensures empty_leads_on { EmptyLeadsOn }
+    ensures context_takes_off { ContextTakesOff }
 {}

@@ -30,6 +30,7 @@ mod order;
 mod pattern;
 mod reference;
 mod sharing;
+mod split;
 mod well_formed;
 
 pub use binding::{Binding, Value};
@@ -37,3 +38,4 @@ pub use checked::{CheckedLang, CheckedPat};
 pub use language::{Language, Ranks};
 pub use matcher::Matcher;
 pub use pattern::{Item, Kind, Pat, Ref};
+pub use split::Split;

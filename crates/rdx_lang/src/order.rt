@@ -1,10 +1,10 @@
-// The order of values and of bindings.
+// The order of values, of bindings and of splits.
 ghost use Rattle.std.specs.Prelude.{◌≡◌};
-ghost use Rattle.rdx_lang.specs.Order.{value_cmp, pair_cmp, binding_cmp};
+ghost use Rattle.rdx_lang.specs.Order.{value_cmp, pair_cmp, binding_cmp, decomposition_cmp};
 ghost use Rattle.rdx_lang.specs.BindingView.{value_of, pair_of};
-ghost use Rattle.rdx_lang.specs.Shown.{binding_of};
+ghost use Rattle.rdx_lang.specs.Shown.{binding_of, decomposition_of};
 
-use crate::{Binding, Value};
+use crate::{Binding, Split, Value};
 use rdx_term::Name;
 use std::cmp::Ordering;
 
@@ -101,6 +101,79 @@ impl Ord for Binding {
     ghost matches_eq = { λ _ _. refl };
 
     fn cmp(&self, other: &Binding) -> Ordering {
+        self.compare(other)
+    }
+}
+
+impl Split {
+    /// Splits compare by the context, then by the part, then by the binding.
+    pub fn compare(&self, other: &Split) -> Ordering
+        ensures { result ≡ decomposition_cmp (decomposition_of self.now) (decomposition_of other.now) }
+    {
+        self.context
+            .compare(&other.context)
+            .then(self.part.compare(&other.part))
+            .then(self.binding.compare(&other.binding))
+    }
+}
+
+impl PartialEq for Split {
+    ghost use Rattle.std.specs.Ordering.{on, eq_by_cmp};
+    ghost use Rattle.std.specs.Cmp.{partial_equiv_from_equiv, on_equiv, eq_by_cmp_equiv};
+    ghost use Rattle.rdx_lang.specs.Order.{decomposition_cmp};
+    ghost use Rattle.rdx_lang.specs.Model.TotalOrders.{decomposition_cmp-total};
+    ghost use Rattle.rdx_lang.specs.Shown.{decomposition_of};
+
+    ghost eq = { on decomposition_of (eq_by_cmp decomposition_cmp) };
+
+    ghost laws = { partial_equiv_from_equiv (on_equiv decomposition_of (eq_by_cmp_equiv decomposition_cmp-total)) };
+
+    fn eq(&self, other: &Split) -> bool {
+        self.compare(other) == Ordering::Equal
+    }
+}
+
+impl Eq for Split {
+    ghost use Rattle.std.specs.Cmp.{on_equiv, eq_by_cmp_equiv};
+    ghost use Rattle.rdx_lang.specs.Model.TotalOrders.{decomposition_cmp-total};
+    ghost use Rattle.rdx_lang.specs.Shown.{decomposition_of};
+
+    ghost laws = { on_equiv decomposition_of (eq_by_cmp_equiv decomposition_cmp-total) };
+}
+
+impl PartialOrd for Split {
+    ghost use Rattle.std.specs.Ordering.{on, as_partial_cmp};
+    ghost use Rattle.std.specs.Cmp.{on_po, partial_order_from_total};
+    ghost use Rattle.rdx_lang.specs.Order.{decomposition_cmp};
+    ghost use Rattle.rdx_lang.specs.Model.TotalOrders.{decomposition_cmp-total};
+    ghost use Rattle.rdx_lang.specs.Shown.{decomposition_of};
+
+    ghost partial_cmp = { on decomposition_of (as_partial_cmp decomposition_cmp) };
+
+    ghost laws = { on_po decomposition_of (partial_order_from_total decomposition_cmp-total) };
+
+    fn partial_cmp(&self, other: &Split) -> Option<Ordering> {
+        Some(self.compare(other))
+    }
+}
+
+impl Ord for Split {
+    ghost use Rattle.std.proofs.Common.{refl};
+    ghost use Rattle.std.specs.Ordering.{on};
+    ghost use Rattle.std.specs.Cmp.{on_total};
+    ghost use Rattle.rdx_lang.specs.Order.{decomposition_cmp};
+    ghost use Rattle.rdx_lang.specs.Model.TotalOrders.{decomposition_cmp-total};
+    ghost use Rattle.rdx_lang.specs.Shown.{decomposition_of};
+
+    ghost cmp = { on decomposition_of decomposition_cmp };
+
+    ghost total = { on_total decomposition_of decomposition_cmp-total };
+
+    ghost matches_partial_cmp = { λ _ _. refl };
+
+    ghost matches_eq = { λ _ _. refl };
+
+    fn cmp(&self, other: &Split) -> Ordering {
         self.compare(other)
     }
 }

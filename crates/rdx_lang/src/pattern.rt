@@ -31,6 +31,8 @@ pub enum Kind {
 pub enum Ref {
     /// A nonterminal of this name.
     Nt(Name),
+    /// The contexts from the first nonterminal to the second.
+    Cross(Name, Name),
 }
 
 /// A pattern.
@@ -45,12 +47,21 @@ pub enum Pat {
     Except(Vec<Name>),
     /// The symbols that begin so.
     Prefix(Name),
+    /// `hole`: the hole; it splits each term into the hole and the term.
+    Hole,
     /// This term alone, marks forgotten.
     Lit(Term),
     /// What an alternative of the nonterminal matches.
     Nt(Ref),
-    /// What the inner pattern matches; the name stands for it.
+    /// What the inner pattern matches, or what it splits; the name stands for the term, or for the
+    /// context.
     Named(Name, Box<Pat>),
+    /// `in-hole`: what the first pattern splits into a context and a part that the second matches.
+    InHole(Box<Pat>, Box<Pat>),
+    /// `hide-hole`: what the inner pattern matches; it splits nothing.
+    HideHole(Box<Pat>),
+    /// What the inner pattern matches or splits; no name of it stands for anything.
+    Closed(Box<Pat>),
     /// A list, each item by its pattern.
     Seq(Vec<Item>),
 }

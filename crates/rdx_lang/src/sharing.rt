@@ -28,11 +28,25 @@ impl Pat {
             Pat::Kind(kind) => Ok(Pat::Kind(*kind)),
             Pat::Except(names) => Ok(Pat::Except(share_names(alloc, names)?)),
             Pat::Prefix(start) => Ok(Pat::Prefix(start.share()?)),
+            Pat::Hole => Ok(Pat::Hole),
             Pat::Lit(term) => Ok(Pat::Lit(term.share()?)),
             Pat::Nt(name) => Ok(Pat::Nt(name.share()?)),
             Pat::Named(name, inner) => {
                 let inner = inner.share(alloc)?;
                 Ok(Pat::Named(name.share()?, Box::new(alloc, inner)?))
+            }
+            Pat::InHole(left, right) => {
+                let left = left.share(alloc)?;
+                let right = right.share(alloc)?;
+                Ok(Pat::InHole(Box::new(alloc, left)?, Box::new(alloc, right)?))
+            }
+            Pat::HideHole(inner) => {
+                let inner = inner.share(alloc)?;
+                Ok(Pat::HideHole(Box::new(alloc, inner)?))
+            }
+            Pat::Closed(inner) => {
+                let inner = inner.share(alloc)?;
+                Ok(Pat::Closed(Box::new(alloc, inner)?))
             }
             Pat::Seq(items) => Ok(Pat::Seq(share_items(alloc, items)?)),
         }

@@ -14,9 +14,15 @@ fn has_known_nonterminals(language: &Language, pat: &Pat) -> bool
         (pattern_of pat.now) }
 {
     match pat {
-        Pat::Wild | Pat::Kind(_) | Pat::Except(_) | Pat::Prefix(_) | Pat::Lit(_) => true,
+        Pat::Wild | Pat::Kind(_) | Pat::Except(_) | Pat::Prefix(_) | Pat::Hole | Pat::Lit(_) =>
+            true,
         Pat::Nt(name) => is_defined(language, name),
-        Pat::Named(_, inner) => has_known_nonterminals(language, inner),
+        Pat::Named(_, inner) | Pat::HideHole(inner) | Pat::Closed(inner) => {
+            has_known_nonterminals(language, inner)
+        }
+        Pat::InHole(left, right) => {
+            has_known_nonterminals(language, left) && has_known_nonterminals(language, right)
+        }
         Pat::Seq(items) => have_known_nonterminals(language, items),
     }
 }

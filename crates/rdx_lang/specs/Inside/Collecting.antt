@@ -21,3 +21,8 @@ pub data Across {A B : Type 0} (step : A → B → B → Type 0) (start : B) : L
 -- beside the members of old, new has exactly those of which R holds
 abbrev pub Adds : {A : Type 0} → (A → Type 0) → List A → List A → Type 0
 Adds {A} R old new = (x : A) → (In x new ↔ (In x old ⊎ R x))
+
+-- xs has exactly those of which R holds, in whatever order, and however often
+pub record HasExactly {A : Type 0} (xs : List A) (R : A → Type 0) : Type 0 where
+  pub sound : (x : A) → In x xs → R x
+  pub complete : (x : A) → R x → In x xs

@@ -1,4 +1,4 @@
--- The orders of names, values, pairs and bindings are total.
+-- The orders of names, values, pairs, bindings and decompositions are total.
 use Rattle.std.specs.Prelude.{◌≡◌}
 use Rattle.std.specs.declared.cmp.Ordering.TheVariants.{Less, Equal}
 use Rattle.std.specs.Ordering.{ordering_reverse}
@@ -6,7 +6,8 @@ use Rattle.std.specs.Cmp.{IsTotalOrder, on_total, then_total}
 use Rattle.std.specs.Cmp.Lexicographic.{lists_total, nat_list_cmp_total}
 use Rattle.rdx_term.specs.Model.TotalOrder.{tree_cmp-total}
 use Rattle.rdx_lang.specs.Bindings.{Value, one, Pair, name_cmp}
-use Rattle.rdx_lang.specs.Order.{value_cmp, pair_cmp, binding_cmp}
+use Rattle.rdx_lang.specs.Decompositions.{Decomposition}
+use Rattle.rdx_lang.specs.Order.{value_cmp, pair_cmp, binding_cmp, decomposition_cmp}
 
 -- the order of names is total
 pub name_cmp-total : IsTotalOrder name_cmp
@@ -35,3 +36,9 @@ pair_cmp-total = then_total (on_total (λ (p : Pair). p.0) name_cmp-total) (on_t
 -- the order of bindings is total
 pub binding_cmp-total : IsTotalOrder binding_cmp
 binding_cmp-total = lists_total pair_cmp-total
+
+-- the order of decompositions is total
+pub decomposition_cmp-total : IsTotalOrder decomposition_cmp
+decomposition_cmp-total =
+    then_total (on_total (λ (d : Decomposition). d.context) tree_cmp-total)
+    (then_total (on_total (λ (d : Decomposition). d.part) tree_cmp-total) (on_total (λ (d : Decomposition). d.binding) binding_cmp-total))

@@ -1,4 +1,5 @@
 use Rattle.rdx_lang.proofs.Examples.{two_equal, two_different, two_marks, name_around, name_around_itself, forgotten, once_for_two, mentioned, except_mentions_none, nonterminals_are_not_mentioned, prefix_first, items_decide, first_pair_decides, name_keeps_the_term, list_takes_off}
+use Rattle.rdx_lang.proofs.Examples.{in_each_place, at_either_hole, hidden_splits_nothing, one_item_splits, never_at_both, context_in_context, name_of_a_term, equal_contexts, contexts_with_marks, empty_through_another, empty_leads_on, context_takes_off}
 use Rattle.rdx_lang.proofs.laws.worked_examples.Goals as goal
 
 pub returns-clause-two_equal : goal.returns-clause-two_equal
@@ -45,3 +46,39 @@ returns-clause-name_keeps_the_term c = name_keeps_the_term
 
 pub returns-clause-list_takes_off : goal.returns-clause-list_takes_off
 returns-clause-list_takes_off c = list_takes_off
+
+pub returns-clause-in_each_place : goal.returns-clause-in_each_place
+returns-clause-in_each_place c = in_each_place
+
+pub returns-clause-at_either_hole : goal.returns-clause-at_either_hole
+returns-clause-at_either_hole c = at_either_hole
+
+pub returns-clause-hidden_splits_nothing : goal.returns-clause-hidden_splits_nothing
+returns-clause-hidden_splits_nothing c = hidden_splits_nothing
+
+pub returns-clause-one_item_splits : goal.returns-clause-one_item_splits
+returns-clause-one_item_splits c = one_item_splits
+
+pub returns-clause-never_at_both : goal.returns-clause-never_at_both
+returns-clause-never_at_both c = never_at_both
+
+pub returns-clause-context_in_context : goal.returns-clause-context_in_context
+returns-clause-context_in_context c = context_in_context
+
+pub returns-clause-name_of_a_term : goal.returns-clause-name_of_a_term
+returns-clause-name_of_a_term c = name_of_a_term
+
+pub returns-clause-equal_contexts : goal.returns-clause-equal_contexts
+returns-clause-equal_contexts c = equal_contexts
+
+pub returns-clause-contexts_with_marks : goal.returns-clause-contexts_with_marks
+returns-clause-contexts_with_marks c = contexts_with_marks
+
+pub returns-clause-empty_through_another : goal.returns-clause-empty_through_another
+returns-clause-empty_through_another c = empty_through_another
+
+pub returns-clause-empty_leads_on : goal.returns-clause-empty_leads_on
+returns-clause-empty_leads_on c = empty_leads_on
+
+pub returns-clause-context_takes_off : goal.returns-clause-context_takes_off
+returns-clause-context_takes_off c = context_takes_off
