@@ -1,7 +1,9 @@
 pub mod Lists
 pub mod Marks
+pub mod Rounds
 pub mod Exploring
 pub mod Places
+pub mod EmptyRules
 pub mod Paths
 pub mod Counting
 pub mod Falling

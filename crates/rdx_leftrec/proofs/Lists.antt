@@ -1,5 +1,6 @@
 -- Lists and their places.
-use Rattle.std.proofs.Common.{◌≡◌, ℕ, zero, suc, ◌<◌, List, [], ◌∷◌, ◌++◌, length, get_or, take, drop, map, refl, sym, ◌∙◌, ap, arith}
+use Rattle.std.proofs.Common.{◌≡◌, ℕ, zero, suc, ◌<◌, List, [], ◌∷◌, ◌++◌, length, get_or, set, take, drop, map, refl, sym, ◌∙◌, ap, subst, arith, append_assoc}
+use Rattle.std.proofs.Math.Seq.{set-append_seam}
 use Rattle.rdx_lang.specs.Members.{In, here, there}
 
 -- x stands at the place i
@@ -74,3 +75,12 @@ pub read-in : {A : Type 0} (xs : List A) (i : ℕ) (d : A) → i < length xs →
 read-in [] i d h = absurd (omega arith)
 read-in (y ∷ ys) zero d h = here refl
 read-in (y ∷ ys) (suc i) d h = there (read-in ys i d (omega arith))
+
+-- what is written at a place that was kept stands before all that came behind it
+pub set_kept : (xs ys : List ℕ) (n a : ℕ) → n ≡ length xs → set ((xs ++ 0 ∷ []) ++ ys) n a ≡ xs ++ a ∷ ys
+set_kept xs ys n a e = subst (λ (i : ℕ). set ((xs ++ 0 ∷ []) ++ ys) i a ≡ xs ++ a ∷ ys) (sym e)
+    (ap (λ (zs : List ℕ). set zs (length xs) a) (append_assoc xs (0 ∷ []) ys) ∙ set-append_seam xs 0 ys a)
+
+-- so it does in lists that came one of the other
+pub written : (old pushed inner new rest : List ℕ) (at a : ℕ) → at ≡ length old → pushed ≡ old ++ 0 ∷ [] → inner ≡ pushed ++ rest → new ≡ set inner at a → new ≡ old ++ a ∷ rest
+written old pushed inner new rest at a e f g h = h ∙ ap (λ (xs : List ℕ). set xs at a) (g ∙ ap (λ (xs : List ℕ). xs ++ rest) f) ∙ set_kept old rest at a e

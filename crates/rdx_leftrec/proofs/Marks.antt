@@ -33,7 +33,7 @@ marked-set_here (b ∷ bs) zero h = refl
 marked-set_here (b ∷ bs) (suc j) h = marked-set_here bs j (omega arith)
 
 -- nothing else is
-marked-set_only : (bs : List Bool) (j k : ℕ) → IsMarked (set bs j true) k → IsMarked bs k ⊎ (k ≡ j)
+pub marked-set_only : (bs : List Bool) (j k : ℕ) → IsMarked (set bs j true) k → IsMarked bs k ⊎ (k ≡ j)
 marked-set_only [] j k h = absurd cc
 marked-set_only (b ∷ bs) zero zero h = inr refl
 marked-set_only (b ∷ bs) zero (suc k) h = inl h
@@ -41,7 +41,7 @@ marked-set_only (b ∷ bs) (suc j) zero h = inl h
 marked-set_only (b ∷ bs) (suc j) (suc k) h = elim (marked-set_only bs j k h) [ inl l ↦ inl l | inr e ↦ inr (ap suc e) ]
 
 -- one place less is unmarked
-unmarked-set : (bs : List Bool) (j : ℕ) → j < length bs → get_or bs j false ≡ false → unmarked (set bs j true) + 1 ≡ unmarked bs
+pub unmarked-set : (bs : List Bool) (j : ℕ) → j < length bs → get_or bs j false ≡ false → unmarked (set bs j true) + 1 ≡ unmarked bs
 unmarked-set [] j h e = absurd (omega arith)
 unmarked-set (true ∷ bs) zero h e = absurd cc
 unmarked-set (false ∷ bs) zero h e = refl

@@ -1,11 +1,12 @@
 -- Nonterminals and their places, where none comes twice.
-use Rattle.std.proofs.Common.{◌≡◌, ℕ, zero, suc, Bool, true, false, List, [], ◌∷◌, map, refl, sym, ap, subst, ◌⊎◌, inl, inr, if◌then◌else◌}
+use Rattle.std.proofs.Common.{◌≡◌, ℕ, zero, suc, ◌<◌, Bool, true, false, List, [], ◌∷◌, length, map, refl, sym, ap, subst, ◌⊎◌, inl, inr, arith, if◌then◌else◌}
 use Rattle.std.specs.Prelude.{not, ◌||◌}
 use Rattle.std.specs.Cmp.{first_so, second_so}
 use Rattle.rdx_lang.proofs.LookupLaws.{is_same-equal, equal-is_same, not_true, is_among-defined}
 use Rattle.rdx_lang.proofs.MemberLaws.{in-append, append-left, append-right}
 use Rattle.rdx_lang.specs.Members.{In, here, there}
-use Rattle.rdx_lang.specs.Patterns.{Pattern, wild, of_kind, except, prefix, lit, nt, named, seq, Definition}
+use Rattle.rdx_lang.specs.Empty.{is_empty}
+use Rattle.rdx_lang.specs.Patterns.{Pattern, wild, of_kind, except, prefix, hole, lit, nt, named, in_hole, hide_hole, closed, seq, Definition}
 use Rattle.rdx_lang.specs.References.{is_same, is_among, are_distinct}
 use Rattle.rdx_lang.specs.WellFormed.{is_well_formed, all_patterns, all_alternatives}
 use Rattle.rdx_lang.specs.declared.pattern.Ref.{Ref}
@@ -50,6 +51,17 @@ at-place (c ∷ ds) x h = by_test (is_same x c.0) refl h (at-place ds x)
     by_test true e k f = (c, refl, is_same-equal x c.0 e)
     by_test false e k f = f k
 
+-- so is one whose place is among theirs
+pub inside-place : (ds : List Definition) (x : Ref) → place x (nonterminals_of ds) < length ds → (d : Definition) × At ds (place x (nonterminals_of ds)) d × (x ≡ d.0)
+inside-place [] x h = absurd (omega arith)
+inside-place (c ∷ ds) x h = by_test (is_same x c.0) refl h (inside-place ds x)
+  where
+    by_test : (s : Bool) → is_same x c.0 ≡ s → (if s then 0 else suc (place x (nonterminals_of ds))) < suc (length ds)
+        → (place x (nonterminals_of ds) < length ds → (d : Definition) × At ds (place x (nonterminals_of ds)) d × (x ≡ d.0))
+        → (d : Definition) × At (c ∷ ds) (if s then 0 else suc (place x (nonterminals_of ds))) d × (x ≡ d.0)
+    by_test true e k f = (c, refl, is_same-equal x c.0 e)
+    by_test false e k f = f (omega arith)
+
 -- where all patterns of a list pass, each does
 all_patterns-in : (test : Pattern → Bool) (ps : List Pattern) (p : Pattern) → all_patterns test ps ≡ true → In p ps → test p ≡ true
 all_patterns-in test [] p h i = elim i [ ]
@@ -63,29 +75,46 @@ all_alternatives-in test (c ∷ ds) d p h (here e) j =
     all_patterns-in test c.1 p (first_so (all_patterns test c.1) (all_alternatives test ds) h) (subst (λ (ps : List Pattern). In p ps) (ap (λ (b : Definition). b.1) e) j)
 all_alternatives-in test (c ∷ ds) d p h (there i) j = all_alternatives-in test ds d p (second_so (all_patterns test c.1) (all_alternatives test ds) h) i j
 
+-- what a list has, where the other choice is the empty list
+pub in-chosen : {A : Type 0} (b : Bool) (xs : List A) (x : A) → In x (if b then xs else []) → (b ≡ true) × In x xs
+in-chosen true xs x h = (refl, h)
+in-chosen false xs x h = elim h [ ]
+
+-- it has it where it is chosen
+pub chosen-in : {A : Type 0} (b : Bool) (xs : List A) (x : A) → b ≡ true → In x xs → In x (if b then xs else [])
+chosen-in true xs x e h = h
+chosen-in false xs x e h = absurd cc
+
 -- a well-formed pattern leads to nonterminals that are there
-pub leads-among : (xs : List Ref) (p : Pattern) (z : Ref) → is_well_formed xs p ≡ true → In z (leads p) → is_among z xs ≡ true
-leads-among xs wild z h i = elim i [ ]
-leads-among xs (of_kind k) z h i = elim i [ ]
-leads-among xs (except rs) z h i = elim i [ ]
-leads-among xs (prefix r) z h i = elim i [ ]
-leads-among xs (lit u) z h i = elim i [ ]
-leads-among xs (nt x) z h (here e) = subst (λ (y : Ref). is_among y xs ≡ true) (sym e) h
-leads-among xs (nt x) z h (there i) = elim i [ ]
-leads-among xs (named x q) z h i = leads-among xs q z h i
-leads-among xs (seq ps) z h i = elim i [ ]
+pub leads-among : (E : Ref → Bool) (xs : List Ref) (p : Pattern) (z : Ref) → is_well_formed xs p ≡ true → In z (leads E p) → is_among z xs ≡ true
+leads-among E xs wild z h i = elim i [ ]
+leads-among E xs (of_kind k) z h i = elim i [ ]
+leads-among E xs (except rs) z h i = elim i [ ]
+leads-among E xs (prefix r) z h i = elim i [ ]
+leads-among E xs hole z h i = elim i [ ]
+leads-among E xs (lit u) z h i = elim i [ ]
+leads-among E xs (nt x) z h (here e) = subst (λ (y : Ref). is_among y xs ≡ true) (sym e) h
+leads-among E xs (nt x) z h (there i) = elim i [ ]
+leads-among E xs (named x q) z h i = leads-among E xs q z h i
+leads-among E xs (in_hole q r) z h i = elim (in-append (leads E q) (if is_empty E q then leads E r else []) z i) [
+  | inl l ↦ leads-among E xs q z (first_so (is_well_formed xs q) (is_well_formed xs r) h) l
+  | inr l ↦ leads-among E xs r z (second_so (is_well_formed xs q) (is_well_formed xs r) h) (in-chosen (is_empty E q) (leads E r) z l).1
+]
+leads-among E xs (hide_hole q) z h i = leads-among E xs q z h i
+leads-among E xs (closed q) z h i = leads-among E xs q z h i
+leads-among E xs (seq ps) z h i = elim i [ ]
 
 -- what a list of patterns leads to, one of them does
-pub all_leads-in : (ps : List Pattern) (z : Ref) → In z (all_leads ps) → (p : Pattern) × In p ps × In z (leads p)
-all_leads-in [] z h = elim h [ ]
-all_leads-in (p ∷ ps) z h = of_either (in-append (leads p) (all_leads ps) z h) (all_leads-in ps z)
+pub all_leads-in : (E : Ref → Bool) (ps : List Pattern) (z : Ref) → In z (all_leads E ps) → (p : Pattern) × In p ps × In z (leads E p)
+all_leads-in E [] z h = elim h [ ]
+all_leads-in E (p ∷ ps) z h = of_either (in-append (leads E p) (all_leads E ps) z h) (all_leads-in E ps z)
   where
-    of_either : In z (leads p) ⊎ In z (all_leads ps) → (In z (all_leads ps) → (q : Pattern) × In q ps × In z (leads q)) → (q : Pattern) × In q (p ∷ ps) × In z (leads q)
+    of_either : In z (leads E p) ⊎ In z (all_leads E ps) → (In z (all_leads E ps) → (q : Pattern) × In q ps × In z (leads E q)) → (q : Pattern) × In q (p ∷ ps) × In z (leads E q)
     of_either (inl l) f = (p, here refl, l)
     of_either (inr r) f = let k = f r in (k.0, there k.1, k.2)
 
 -- what one of them leads to, the list does
-pub in-all_leads : (ps : List Pattern) (p : Pattern) (z : Ref) → In p ps → In z (leads p) → In z (all_leads ps)
-in-all_leads [] p z h i = elim h [ ]
-in-all_leads (q ∷ ps) p z (here e) i = append-left (leads q) (all_leads ps) z (subst (λ (r : Pattern). In z (leads r)) e i)
-in-all_leads (q ∷ ps) p z (there h) i = append-right (leads q) (all_leads ps) z (in-all_leads ps p z h i)
+pub in-all_leads : (E : Ref → Bool) (ps : List Pattern) (p : Pattern) (z : Ref) → In p ps → In z (leads E p) → In z (all_leads E ps)
+in-all_leads E [] p z h i = elim h [ ]
+in-all_leads E (q ∷ ps) p z (here e) i = append-left (leads E q) (all_leads E ps) z (subst (λ (r : Pattern). In z (leads E r)) e i)
+in-all_leads E (q ∷ ps) p z (there h) i = append-right (leads E q) (all_leads E ps) z (in-all_leads E ps p z h i)

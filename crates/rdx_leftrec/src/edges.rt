@@ -1,7 +1,9 @@
 // To which nonterminals the patterns of a language lead by left edges, by their places.
 ghost use Rattle.std.specs.Prelude.{◌≡◌, ◌++◌, IfOk, OnOk};
+ghost use Rattle.rdx_lang.specs.Empty.{is_empty};
 ghost use Rattle.rdx_lang.specs.PatternView.{pattern_of, patterns_of, language_of};
 ghost use Rattle.rdx_lang.specs.WellFormed.{defined};
+ghost use Rattle.rdx_leftrec.specs.Inside.EmptyRules.{empty_by};
 ghost use Rattle.rdx_leftrec.specs.Inside.Leads as model;
 
 use rdx_lang::{Language, Pat, Ref};
@@ -21,19 +23,41 @@ pub(crate) fn place(language: &Language, name: &Ref) -> usize
     language.nts.len()
 }
 
-// Adds the places of the nonterminals to which the pattern leads.
-fn add_leads(language: &Language, pat: &Pat, found: &mut Vec<usize>) -> Result<(), NoMemory>
-    ensures { OnOk result (found.new.items ≡ found.old.items ++
-        model.places (defined (language_of language.now)) (model.leads (pattern_of pat.now))) }
+// Adds the places of the nonterminals to which the pattern leads, where `empty` marks those that are
+// Empty; whether the pattern is.
+fn add_leads(
+    language: &Language,
+    empty: &[bool],
+    pat: &Pat,
+    found: &mut Vec<usize>,
+) -> Result<bool, NoMemory>
+    ensures leads { OnOk result (found.new.items ≡ found.old.items ++
+        model.places (defined (language_of language.now))
+        (model.leads (empty_by (language_of language.now) empty.now) (pattern_of pat.now))) }
+    ensures empty { IfOk result (λ b. b ≡
+        is_empty (empty_by (language_of language.now) empty.now) (pattern_of pat.now)) }
 {
     match pat {
         Pat::Wild | Pat::Kind(_) | Pat::Except(_) | Pat::Prefix(_) | Pat::Lit(_) | Pat::Seq(_) =>
-            Ok(()),
+            Ok(false),
+        Pat::Hole => Ok(true),
         Pat::Nt(name) => {
-            found.push(place(language, name))?;
-            Ok(())
+            let place = place(language, name);
+            found.push(place)?;
+            Ok(empty.get(place).copied().unwrap_or(false))
         }
-        Pat::Named(_, inner) => add_leads(language, inner, found),
+        Pat::Named(_, inner) | Pat::Closed(inner) => add_leads(language, empty, inner, found),
+        Pat::InHole(left, right) => {
+            if add_leads(language, empty, left, found)? {
+                add_leads(language, empty, right, found)
+            } else {
+                Ok(false)
+            }
+        }
+        Pat::HideHole(inner) => {
+            add_leads(language, empty, inner, found)?;
+            Ok(false)
+        }
     }
 }
 
@@ -41,26 +65,32 @@ fn add_leads(language: &Language, pat: &Pat, found: &mut Vec<usize>) -> Result<(
 fn all_leads(
     alloc: Global,
     language: &Language,
+    empty: &[bool],
     alternatives: &[Pat],
 ) -> Result<Vec<usize>, NoMemory>
     ensures { IfOk result (λ v. v.items ≡ model.places (defined (language_of language.now))
-        (model.all_leads (patterns_of alternatives.now))) }
+        (model.all_leads (empty_by (language_of language.now) empty.now)
+        (patterns_of alternatives.now))) }
 {
     let mut found = Vec::new(alloc);
     for pat in alternatives {
-        add_leads(language, pat, &mut found)?;
+        add_leads(language, empty, pat, &mut found)?;
     }
     Ok(found)
 }
 
 // For each nonterminal, in their order, the places of those to which its alternatives lead.
-pub(crate) fn targets(alloc: Global, language: &Language) -> Result<Vec<Vec<usize>>, NoMemory>
-    ensures { IfOk result
-        (λ v. model.lists_of v.items ≡ model.targets_of (language_of language.now)) }
+pub(crate) fn targets(
+    alloc: Global,
+    language: &Language,
+    empty: &[bool],
+) -> Result<Vec<Vec<usize>>, NoMemory>
+    ensures { IfOk result (λ v. model.lists_of v.items ≡ model.targets_of
+        (empty_by (language_of language.now) empty.now) (language_of language.now)) }
 {
     let mut targets = Vec::new(alloc);
     for (_, alternatives) in &language.nts {
-        targets.push(all_leads(alloc, language, alternatives)?)?;
+        targets.push(all_leads(alloc, language, empty, alternatives)?)?;
     }
     Ok(targets)
 }

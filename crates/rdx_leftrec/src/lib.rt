@@ -6,6 +6,7 @@
 #![tactic(auto)]
 
 mod edges;
+mod empty;
 mod ranks;
 mod reach;
 mod recursion;

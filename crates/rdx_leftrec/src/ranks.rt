@@ -1,58 +1,68 @@
 // Ranks for the nodes of a language's patterns, from how many nonterminals each one reaches.
-ghost use Rattle.std.specs.Prelude.{◌≡◌, ◌++◌, IfOk, OnOk, length, map};
+ghost use Rattle.std.specs.Prelude.{◌≡◌, ◌<◌, ◌+◌, ◌++◌, ◌&&◌, IfOk, OnOk, length, map, max, slice_set, if◌then◌else◌};
+ghost use Rattle.rdx_lang.specs.Empty.{TellsEmpty, is_empty};
 ghost use Rattle.rdx_lang.specs.PatternView.{pattern_of, patterns_of, language_of, slot_of, items_of};
 ghost use Rattle.rdx_lang.specs.Ranks.{AreRanks};
 ghost use Rattle.rdx_lang.specs.LeftNumbers.{left_number};
 ghost use Rattle.rdx_lang.specs.WellFormed.{IsWellFormed};
+ghost use Rattle.rdx_leftrec.specs.Inside.EmptyRules.{empty_by};
 ghost use Rattle.rdx_leftrec.specs.Inside.Leads.{targets_of};
-ghost use Rattle.rdx_leftrec.specs.Inside.Numbers.{AreCounts, number_in, scaled, names_around, most_around, most_names};
+ghost use Rattle.rdx_leftrec.specs.Inside.Numbers.{AreCounts, number_in, scaled, height, height_among, height_in};
 ghost use Rattle.rdx_leftrec.specs.Inside.Preorder.{pattern_ranks, items_ranks, patterns_ranks, definitions_ranks};
 
 use crate::edges::place;
-use rdx_lang::{Item, Language, Pat, Ranks};
+use rdx_lang::{Item, Language, Pat, Ranks, Ref};
 use rdx_term::NoMemory;
 use std::alloc::Global;
 
-// How many names stand around the pattern, or around the nonterminal to which it leads.
-fn names_around(pat: &Pat) -> Result<usize, NoMemory>
-    ensures { IfOk result (λ n. n ≡ names_around (pattern_of pat.now)) }
+// How many patterns stand one in the other, at most, on a way to a nonterminal to which the pattern
+// may lead.
+fn height(pat: &Pat) -> Result<usize, NoMemory>
+    ensures { IfOk result (λ n. n ≡ height (pattern_of pat.now)) }
 {
     match pat {
-        Pat::Named(_, inner) => names_around(inner)?.checked_add(1).ok_or(NoMemory),
+        Pat::Named(_, inner) | Pat::HideHole(inner) | Pat::Closed(inner) => {
+            height(inner)?.checked_add(1).ok_or(NoMemory)
+        }
+        Pat::InHole(left, right) => {
+            let parts = height(left)?.max(height(right)?);
+            parts.checked_add(1).ok_or(NoMemory)
+        }
         Pat::Wild
         | Pat::Kind(_)
         | Pat::Except(_)
         | Pat::Prefix(_)
+        | Pat::Hole
         | Pat::Lit(_)
         | Pat::Nt(_)
         | Pat::Seq(_) => Ok(0),
     }
 }
 
-// The most of them in these patterns.
-fn most_around(alternatives: &[Pat]) -> Result<usize, NoMemory>
-    ensures { IfOk result (λ n. n ≡ most_around (patterns_of alternatives.now)) }
+// The greatest height of these patterns.
+fn height_among(alternatives: &[Pat]) -> Result<usize, NoMemory>
+    ensures { IfOk result (λ n. n ≡ height_among (patterns_of alternatives.now)) }
 {
     let mut most = 0;
     for pat in alternatives {
-        most = names_around(pat)?.max(most);
+        most = height(pat)?.max(most);
     }
     Ok(most)
 }
 
-// The most of them in the language.
-fn most_names(language: &Language) -> Result<usize, NoMemory>
-    ensures { IfOk result (λ n. n ≡ most_names (language_of language.now).nonterminals) }
+// The greatest in the language.
+fn height_in(language: &Language) -> Result<usize, NoMemory>
+    ensures { IfOk result (λ n. n ≡ height_in (language_of language.now).nonterminals) }
 {
     let mut most = 0;
     for (_, alternatives) in &language.nts {
-        most = most_around(alternatives)?.max(most);
+        most = height_among(alternatives)?.max(most);
     }
     Ok(most)
 }
 
 // A number for each nonterminal. Where one is too large for the machine, the language has more than
-// 2^32 nonterminals or names around a pattern, which memory doesn't hold.
+// 2^32 nonterminals or patterns around one, which memory doesn't hold.
 fn numbers(alloc: Global, counts: &[usize], scale: usize) -> Result<Vec<usize>, NoMemory>
     ensures { IfOk result (λ v. v.items ≡ scaled scale counts.now) }
 {
@@ -64,60 +74,136 @@ fn numbers(alloc: Global, counts: &[usize], scale: usize) -> Result<Vec<usize>, 
     Ok(numbers)
 }
 
-// The rank of the root of a pattern.
-fn root_rank(language: &Language, numbers: &[usize], pat: &Pat) -> Result<usize, NoMemory>
-    ensures { IfOk result (λ n. n ≡
-        left_number (number_in (language_of language.now) numbers.now) (pattern_of pat.now)) }
-{
-    match pat {
-        Pat::Nt(name) => Ok(numbers.get(place(language, name)).copied().unwrap_or(0)),
-        Pat::Named(_, inner) => {
-            let part = root_rank(language, numbers, inner)?;
-            part.checked_add(1).ok_or(NoMemory)
-        }
-        Pat::Wild | Pat::Kind(_) | Pat::Except(_) | Pat::Prefix(_) | Pat::Lit(_) | Pat::Seq(_) =>
-            Ok(0),
+// What is known of a pattern whose nodes have their ranks.
+#[derive(Clone, Copy)]
+struct Root {
+    // The rank of the pattern's own node.
+    rank: usize,
+    // Whether the pattern is Empty.
+    empty: bool,
+}
+
+impl Root {
+    // That of a pattern around this one, which is Empty or not.
+    fn around(self, empty: bool) -> Result<Root, NoMemory>
+        ensures rank { IfOk result (λ r. r.rank ≡ self.rank + 1) }
+        ensures empty { IfOk result (λ r. r.empty ≡ empty) }
+    {
+        let rank = self.rank.checked_add(1).ok_or(NoMemory)?;
+        Ok(Root { rank, empty })
+    }
+
+    // That of `in-hole` with this pattern and the other.
+    fn with(self, right: Root) -> Result<Root, NoMemory>
+        ensures rank { IfOk result (λ r. r.rank ≡
+            max self.rank (if self.empty then right.rank else 0) + 1) }
+        ensures empty { IfOk result (λ r. r.empty ≡ (self.empty && right.empty)) }
+    {
+        let below = if self.empty { right.rank } else { 0 };
+        let rank = self.rank.max(below).checked_add(1).ok_or(NoMemory)?;
+        Ok(Root {
+            rank,
+            empty: self.empty && right.empty,
+        })
     }
 }
 
-// Adds the ranks of the nodes of a pattern, in pre-order; `root` is that of its root.
+// That of a nonterminal.
+fn nonterminal(language: &Language, empty: &[bool], numbers: &[usize], name: &Ref) -> Root
+    ensures rank { result.rank ≡ number_in (language_of language.now) numbers.now name.now }
+    ensures empty { result.empty ≡ empty_by (language_of language.now) empty.now name.now }
+{
+    let place = place(language, name);
+    Root {
+        rank: numbers.get(place).copied().unwrap_or(0),
+        empty: empty.get(place).copied().unwrap_or(false),
+    }
+}
+
+// Writes the rank of a pattern's own node at the place that was kept for it.
+fn write_root(ranks: &mut Vec<usize>, at: usize, root: Root) -> Root
+    requires { at < length ranks.old.items }
+    ensures rank { ranks.new.items ≡ slice_set ranks.old.items at root.rank }
+    ensures same { result ≡ root }
+{
+    ranks[at] = root.rank;
+    root
+}
+
+// Adds the ranks of the nodes of a pattern, in pre-order.
 #[cycle(ranking)]
 fn rank_nodes(
     language: &Language,
+    empty: &[bool],
     numbers: &[usize],
     pat: &Pat,
-    root: usize,
     ranks: &mut Vec<usize>,
-) -> Result<(), NoMemory>
-    requires { root ≡
-        left_number (number_in (language_of language.now) numbers.now) (pattern_of pat.now) }
-    ensures { OnOk result (ranks.new.items ≡ ranks.old.items ++
-        pattern_ranks (number_in (language_of language.now) numbers.now) (pattern_of pat.now)) }
+) -> Result<Root, NoMemory>
+    ensures ranks { OnOk result (ranks.new.items ≡ ranks.old.items ++
+        pattern_ranks (empty_by (language_of language.now) empty.now)
+        (number_in (language_of language.now) numbers.now) (pattern_of pat.now)) }
+    ensures rank { IfOk result (λ r. r.rank ≡
+        left_number (empty_by (language_of language.now) empty.now)
+        (number_in (language_of language.now) numbers.now) (pattern_of pat.now)) }
+    ensures empty { IfOk result (λ r. r.empty ≡
+        is_empty (empty_by (language_of language.now) empty.now) (pattern_of pat.now)) }
 {
-    ranks.push(root)?;
+    let at = ranks.len();
+    ranks.push(0)?;
     match pat {
-        Pat::Wild | Pat::Kind(_) | Pat::Except(_) | Pat::Prefix(_) | Pat::Lit(_) | Pat::Nt(_) => {}
-        Pat::Named(_, inner) => rank_nodes(language, numbers, inner, root - 1, ranks)?,
-        Pat::Seq(items) => rank_items(language, numbers, items, ranks)?,
+        Pat::Wild | Pat::Kind(_) | Pat::Except(_) | Pat::Prefix(_) | Pat::Lit(_) => Ok(Root {
+            rank: 0,
+            empty: false,
+        }),
+        Pat::Hole => Ok(Root {
+            rank: 0,
+            empty: true,
+        }),
+        Pat::Nt(name) => {
+            let root = nonterminal(language, empty, numbers, name);
+            Ok(write_root(ranks, at, root))
+        }
+        Pat::Named(_, inner) | Pat::Closed(inner) => {
+            let part = rank_nodes(language, empty, numbers, inner, ranks)?;
+            let root = part.around(part.empty)?;
+            Ok(write_root(ranks, at, root))
+        }
+        Pat::InHole(left, right) => {
+            let left = rank_nodes(language, empty, numbers, left, ranks)?;
+            let right = rank_nodes(language, empty, numbers, right, ranks)?;
+            let root = left.with(right)?;
+            Ok(write_root(ranks, at, root))
+        }
+        Pat::HideHole(inner) => {
+            let part = rank_nodes(language, empty, numbers, inner, ranks)?;
+            let root = part.around(false)?;
+            Ok(write_root(ranks, at, root))
+        }
+        Pat::Seq(items) => {
+            rank_items(language, empty, numbers, items, ranks)?;
+            Ok(Root {
+                rank: 0,
+                empty: false,
+            })
+        }
     }
-    Ok(())
 }
 
 // Adds the ranks of the nodes of items.
 #[cycle(ranking)]
 fn rank_items(
     language: &Language,
+    empty: &[bool],
     numbers: &[usize],
     items: &[Item],
     ranks: &mut Vec<usize>,
 ) -> Result<(), NoMemory>
     ensures { OnOk result (ranks.new.items ≡ ranks.old.items ++
-        items_ranks (number_in (language_of language.now) numbers.now)
-        (items_of (map slot_of items.now))) }
+        items_ranks (empty_by (language_of language.now) empty.now)
+        (number_in (language_of language.now) numbers.now) (items_of (map slot_of items.now))) }
 {
     for Item::One(pat) in items {
-        let root = root_rank(language, numbers, pat)?;
-        rank_nodes(language, numbers, pat, root, ranks)?;
+        rank_nodes(language, empty, numbers, pat, ranks)?;
     }
     Ok(())
 }
@@ -125,17 +211,17 @@ fn rank_items(
 // Adds the ranks of the nodes of these patterns.
 fn rank_patterns(
     language: &Language,
+    empty: &[bool],
     numbers: &[usize],
     alternatives: &[Pat],
     ranks: &mut Vec<usize>,
 ) -> Result<(), NoMemory>
     ensures { OnOk result (ranks.new.items ≡ ranks.old.items ++
-        patterns_ranks (number_in (language_of language.now) numbers.now)
-        (patterns_of alternatives.now)) }
+        patterns_ranks (empty_by (language_of language.now) empty.now)
+        (number_in (language_of language.now) numbers.now) (patterns_of alternatives.now)) }
 {
     for pat in alternatives {
-        let root = root_rank(language, numbers, pat)?;
-        rank_nodes(language, numbers, pat, root, ranks)?;
+        rank_nodes(language, empty, numbers, pat, ranks)?;
     }
     Ok(())
 }
@@ -144,29 +230,40 @@ fn rank_patterns(
 fn rank_language(
     alloc: Global,
     language: &Language,
+    empty: &[bool],
     numbers: &[usize],
 ) -> Result<Vec<usize>, NoMemory>
     ensures { IfOk result (λ v. v.items ≡
-        definitions_ranks (number_in (language_of language.now) numbers.now)
+        definitions_ranks (empty_by (language_of language.now) empty.now)
+        (number_in (language_of language.now) numbers.now)
         (language_of language.now).nonterminals) }
 {
     let mut ranks = Vec::new(alloc);
     for (_, alternatives) in &language.nts {
-        rank_patterns(language, numbers, alternatives, &mut ranks)?;
+        rank_patterns(language, empty, numbers, alternatives, &mut ranks)?;
     }
     Ok(ranks)
 }
 
-// Ranks that fall along every left edge, where it is known how many nonterminals each reaches, and
-// that none reaches itself.
-pub(crate) fn ranks(alloc: Global, language: &Language, counts: &[usize]) -> Result<Ranks, NoMemory>
+// Ranks that fall along every left edge, where it is known which nonterminals are Empty, how many
+// each reaches, and that none reaches itself.
+pub(crate) fn ranks(
+    alloc: Global,
+    language: &Language,
+    empty: &[bool],
+    counts: &[usize],
+) -> Result<Ranks, NoMemory>
     requires well_formed { IsWellFormed (language_of language.now) }
-    requires size { length counts.now ≡ length (targets_of (language_of language.now)) }
-    requires counts { AreCounts (targets_of (language_of language.now)) counts.now }
+    requires empty { TellsEmpty (language_of language.now)
+        (empty_by (language_of language.now) empty.now) }
+    requires size { length counts.now ≡ length (targets_of
+        (empty_by (language_of language.now) empty.now) (language_of language.now)) }
+    requires counts { AreCounts (targets_of
+        (empty_by (language_of language.now) empty.now) (language_of language.now)) counts.now }
     ensures { IfOk result (λ r. AreRanks (language_of language.now) r.of.items) }
 {
-    let scale = most_names(language)?.checked_add(1).ok_or(NoMemory)?;
+    let scale = height_in(language)?.checked_add(1).ok_or(NoMemory)?;
     let numbers = numbers(alloc, counts, scale)?;
-    let of = rank_language(alloc, language, &numbers)?;
+    let of = rank_language(alloc, language, empty, &numbers)?;
     Ok(Ranks { of })
 }

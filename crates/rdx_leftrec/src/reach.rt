@@ -19,7 +19,7 @@ pub(crate) enum Walked {
 }
 
 // No marks, for so many places.
-fn no_marks(alloc: Global, size: usize) -> Result<Vec<bool>, NoMemory>
+pub(crate) fn no_marks(alloc: Global, size: usize) -> Result<Vec<bool>, NoMemory>
     ensures { IfOk result (λ v. v.items ≡ replicate size false) }
 {
     Ok(vec![in alloc; false; size]?)

@@ -1,14 +1,17 @@
 // The check for left recursion.
 ghost use Rattle.std.specs.Prelude.{◌≡◌, ◌<◌, IfOk, IfErr, length};
 ghost use Rattle.rdx_lang.specs.Edges.{IsFree};
+ghost use Rattle.rdx_lang.specs.Empty.{TellsEmpty};
 ghost use Rattle.rdx_lang.specs.PatternView.{language_of};
 ghost use Rattle.rdx_lang.specs.Ranks.{AreRanks};
 ghost use Rattle.rdx_lang.specs.WellFormed.{IsWellFormed};
 ghost use Rattle.rdx_leftrec.specs.Recursion.{IsRecursionOf, IsNamed};
+ghost use Rattle.rdx_leftrec.specs.Inside.EmptyRules.{empty_by};
 ghost use Rattle.rdx_leftrec.specs.Inside.Leads.{targets_of};
 ghost use Rattle.rdx_leftrec.specs.Inside.Numbers.{IsFirst};
 
 use crate::edges::targets;
+use crate::empty::empty_nonterminals;
 use crate::ranks::ranks;
 use crate::reach::{Walked, walk};
 use rdx_lang::laws::ranks_fall;
@@ -37,9 +40,12 @@ impl From<NoMemory> for LeftRec {
 }
 
 // The refusal that names the nonterminal at this place, the first that reaches itself.
-fn refusal(language: &Language, place: usize) -> LeftRec
+fn refusal(language: &Language, empty: &[bool], place: usize) -> LeftRec
     requires well_formed { IsWellFormed (language_of language.now) }
-    requires first { IsFirst (targets_of (language_of language.now)) place }
+    requires empty { TellsEmpty (language_of language.now)
+        (empty_by (language_of language.now) empty.now) }
+    requires first { IsFirst (targets_of
+        (empty_by (language_of language.now) empty.now) (language_of language.now)) place }
     ensures { IsRecursionOf (language_of language.now) result }
 {
     match language.nts[place].0.share() {
@@ -58,9 +64,10 @@ pub fn check(alloc: Global, language: &Language) -> Result<Ranks, LeftRec>
     ensures exact { IsNamed (language_of language.now) result }
 {
     ranks_fall();
-    let targets = targets(alloc, language)?;
+    let empty = empty_nonterminals(alloc, language)?;
+    let targets = targets(alloc, language, &empty)?;
     match walk(alloc, &targets)? {
-        Walked::Recursive(place) => Err(refusal(language, place)),
-        Walked::Counts(counts) => Ok(ranks(alloc, language, &counts)?),
+        Walked::Recursive(place) => Err(refusal(language, &empty, place)),
+        Walked::Counts(counts) => Ok(ranks(alloc, language, &empty, &counts)?),
     }
 }

@@ -1,19 +1,24 @@
 // The check on small languages.
 use crate::{LeftRec, check};
-use Shape::{Any, Inside, Named, To};
+use Shape::{Any, Closed, HideHole, Hole, InHole, List, Named, To};
 use rdx_lang::{Item, Kind, Language, Pat, Ranks, Ref};
-use rdx_term::Name;
-use std::process::Abort;
+use rdx_term::{Name, NoMemory};
+use std::alloc::Global;
 use std::rc::RcStr;
 use std::test::Fail;
 
-// An alternative: `any`, a nonterminal, one with a name, or a list of a nonterminal alone.
+// A pattern: `any`, `hole`, a nonterminal, one with a name, `in-hole`, `hide-hole`, a closed one, or
+// a list of one item.
 #[derive(Clone, Copy)]
 enum Shape {
     Any,
+    Hole,
     To(&'static str),
-    Named(&'static str),
-    Inside(&'static str),
+    Named(&'static Shape),
+    InHole(&'static Shape, &'static Shape),
+    HideHole(&'static Shape),
+    Closed(&'static Shape),
+    List(&'static Shape),
 }
 
 // Nonterminals, each with its alternatives, and the first of them that reaches itself.
@@ -25,23 +30,26 @@ type Row = (
 const ROWS: [Row; 11] = [
     (&[("e", &[Any])], None),
     (&[("e", &[To("e")])], Some("e")),
-    (&[("e", &[Any, Named("e")])], Some("e")),
+    (&[("e", &[Any, Named(&To("e"))])], Some("e")),
     (&[("e", &[To("f")]), ("f", &[To("e")])], Some("e")),
     (&[("f", &[To("e")]), ("e", &[To("f")])], Some("f")),
     (
         &[
             ("f", &[Any]),
-            ("e", &[To("f"), Named("e")]),
+            ("e", &[To("f"), Named(&To("e"))]),
             ("g", &[To("g")]),
         ],
         Some("e"),
     ),
     (&[("e", &[To("f")]), ("f", &[Any, To("f")])], Some("f")),
-    (&[("e", &[Inside("e")])], None),
-    (&[("e", &[Inside("f"), Any]), ("f", &[Named("e")])], None),
+    (&[("e", &[List(&To("e"))])], None),
+    (
+        &[("e", &[List(&To("f")), Any]), ("f", &[Named(&To("e"))])],
+        None,
+    ),
     (
         &[
-            ("e", &[Named("f"), To("g")]),
+            ("e", &[Named(&To("f")), To("g")]),
             ("f", &[To("g")]),
             ("g", &[Any]),
         ],
@@ -50,37 +58,159 @@ const ROWS: [Row; 11] = [
     (&[], None),
 ];
 
-fn name<R: Abort + AllocGlobal>(rt: &R, text: &str) -> Result<Name, Fail> {
-    let text = RcStr::from_str(rt.alloc(), text)?;
-    Ok(Name::new(text).expect(rt, "a name"))
+const CONTEXTS: [Row; 17] = [
+    // The left part of `in-hole` is matched against the same term.
+    (
+        &[
+            ("E", &[Hole, InHole(&To("E"), &List(&To("e")))]),
+            ("e", &[Any]),
+        ],
+        Some("E"),
+    ),
+    (
+        &[("e", &[InHole(&To("f"), &Any)]), ("f", &[Any, To("e")])],
+        Some("e"),
+    ),
+    // So is the right part where the left one can be the empty context, as `F` here.
+    (
+        &[("E", &[Hole, InHole(&To("F"), &To("E"))]), ("F", &[Hole])],
+        Some("E"),
+    ),
+    // Not where each context of `F` takes a list off.
+    (
+        &[
+            ("E", &[Hole, InHole(&To("F"), &To("E"))]),
+            ("F", &[List(&Hole)]),
+        ],
+        None,
+    ),
+    (&[("e", &[InHole(&Hole, &To("e"))])], Some("e")),
+    (
+        &[
+            ("E", &[Hole, List(&To("E"))]),
+            ("e", &[Any, InHole(&To("E"), &To("e"))]),
+        ],
+        Some("e"),
+    ),
+    (
+        &[
+            ("p", &[InHole(&To("E"), &To("e"))]),
+            ("E", &[Hole, List(&To("E"))]),
+            ("e", &[Any, List(&To("e"))]),
+        ],
+        None,
+    ),
+    // Empty through another nonterminal, a name, a closed pattern, `in-hole` with two such parts.
+    (
+        &[
+            ("G", &[Hole]),
+            ("F", &[To("G")]),
+            ("E", &[Hole, InHole(&To("F"), &To("E"))]),
+        ],
+        Some("E"),
+    ),
+    (
+        &[
+            ("E", &[Hole, InHole(&To("F"), &To("E"))]),
+            ("F", &[Any, Named(&Hole)]),
+        ],
+        Some("E"),
+    ),
+    (
+        &[
+            ("E", &[Hole, InHole(&To("F"), &To("E"))]),
+            ("F", &[Any, Closed(&Hole)]),
+        ],
+        Some("E"),
+    ),
+    (
+        &[
+            ("E", &[Hole, InHole(&To("F"), &To("E"))]),
+            ("F", &[InHole(&To("G"), &Hole)]),
+            ("G", &[Hole]),
+        ],
+        Some("E"),
+    ),
+    // Not through `in-hole` with one such part alone, nor through `hide-hole` or a list.
+    (
+        &[
+            ("E", &[Hole, InHole(&To("F"), &To("E"))]),
+            (
+                "F",
+                &[InHole(&Hole, &List(&Hole)), InHole(&List(&Hole), &Hole)],
+            ),
+        ],
+        None,
+    ),
+    (
+        &[
+            ("E", &[Hole, InHole(&To("F"), &To("E"))]),
+            ("F", &[HideHole(&Hole), Any]),
+        ],
+        None,
+    ),
+    // Hidden and closed patterns lead on.
+    (&[("e", &[Hole, HideHole(&To("e"))])], Some("e")),
+    (&[("e", &[Hole, Closed(&To("e"))])], Some("e")),
+    (
+        &[("e", &[HideHole(&List(&To("e"))), Closed(&List(&To("e")))])],
+        None,
+    ),
+    (
+        &[
+            ("e", &[InHole(&HideHole(&To("E")), &To("e"))]),
+            ("E", &[Hole, InHole(&Closed(&To("E")), &Any)]),
+        ],
+        Some("E"),
+    ),
+];
+
+fn name(alloc: Global, text: &str) -> Result<Name, NoMemory> {
+    let text = RcStr::from_str(alloc, text)?;
+    Name::new(text).ok_or(NoMemory)
 }
 
-fn pattern<R: Abort + AllocGlobal>(rt: &R, shape: Shape) -> Result<Pat, Fail> {
-    Ok(match shape {
-        Any => Pat::Kind(Kind::Any),
-        To(text) => Pat::Nt(Ref::Nt(name(rt, text)?)),
-        Named(text) => {
-            let inner = Pat::Nt(Ref::Nt(name(rt, text)?));
-            Pat::Named(name(rt, "x")?, Box::new(rt.alloc(), inner)?)
+fn pattern(alloc: Global, shape: &Shape) -> Result<Pat, NoMemory> {
+    match shape {
+        Any => Ok(Pat::Kind(Kind::Any)),
+        Hole => Ok(Pat::Hole),
+        To(text) => Ok(Pat::Nt(Ref::Nt(name(alloc, text)?))),
+        Named(inner) => {
+            let inner = pattern(alloc, inner)?;
+            Ok(Pat::Named(name(alloc, "x")?, Box::new(alloc, inner)?))
         }
-        Inside(text) => {
-            let mut items = Vec::new(rt.alloc());
-            items.push(Item::One(Pat::Nt(Ref::Nt(name(rt, text)?))))?;
-            Pat::Seq(items)
+        InHole(left, right) => {
+            let left = pattern(alloc, left)?;
+            let right = pattern(alloc, right)?;
+            Ok(Pat::InHole(Box::new(alloc, left)?, Box::new(alloc, right)?))
         }
-    })
-}
-
-fn language<R: Abort + AllocGlobal>(rt: &R, rules: &[(&str, &[Shape])]) -> Result<Language, Fail> {
-    let mut nts = Vec::new(rt.alloc());
-    for (text, shapes) in rules {
-        let mut alternatives = Vec::new(rt.alloc());
-        for shape in *shapes {
-            alternatives.push(pattern(rt, *shape)?)?;
+        HideHole(inner) => {
+            let inner = pattern(alloc, inner)?;
+            Ok(Pat::HideHole(Box::new(alloc, inner)?))
         }
-        nts.push((Ref::Nt(name(rt, text)?), alternatives))?;
+        Closed(inner) => {
+            let inner = pattern(alloc, inner)?;
+            Ok(Pat::Closed(Box::new(alloc, inner)?))
+        }
+        List(item) => {
+            let item = pattern(alloc, item)?;
+            let mut items = Vec::new(alloc);
+            items.push(Item::One(item))?;
+            Ok(Pat::Seq(items))
+        }
     }
-    let name = name(rt, "L")?;
+}
+
+fn language(alloc: Global, rules: &[(&str, &[Shape])]) -> Result<Language, NoMemory> {
+    let mut nts = Vec::new(alloc);
+    for (text, shapes) in rules {
+        let mut alternatives = Vec::new(alloc);
+        for shape in *shapes {
+            alternatives.push(pattern(alloc, shape)?)?;
+        }
+        nts.push((Ref::Nt(name(alloc, text)?), alternatives))?;
+    }
+    let name = name(alloc, "L")?;
     Ok(Language { name, nts })
 }
 
@@ -93,13 +223,29 @@ fn is_named(found: &Result<Ranks, LeftRec>, expected: Option<&str>) -> bool {
     }
 }
 
+// Whether the check answers what the row says, of a language that is well formed.
+fn agrees(alloc: Global, row: Row) -> Result<bool, NoMemory> {
+    let (rules, expected) = row;
+    let language = language(alloc, rules)?;
+    if !language.is_well_formed() {
+        return Ok(false);
+    }
+    let found = check(alloc, &language);
+    Ok(is_named(&found, expected))
+}
+
 #[test]
 fn first_recursive_nonterminals(rt: HostRuntime) -> Result<(), Fail> {
-    for (rules, expected) in ROWS {
-        let language = language(&rt, rules)?;
-        assert!(rt; language.is_well_formed());
-        let found = check(rt.alloc(), &language);
-        assert!(rt; is_named(&found, expected));
+    for row in ROWS {
+        assert!(rt; agrees(rt.alloc(), row)?);
+    }
+    Ok(())
+}
+
+#[test]
+fn first_recursive_with_contexts(rt: HostRuntime) -> Result<(), Fail> {
+    for row in CONTEXTS {
+        assert!(rt; agrees(rt.alloc(), row)?);
     }
     Ok(())
 }

@@ -1,8 +1,7 @@
 -- How many places are reached from each place.
 use Rattle.std.specs.Prelude.{◌≡◌, ◌+◌, ◌*◌, ◌<◌, ℕ, Bool, max, List, [], ◌∷◌, length, map, slice_index}
-use Rattle.rdx_lang.specs.Patterns.{Pattern, Definition, Language}
+use Rattle.rdx_lang.specs.Patterns.{Pattern, wild, of_kind, except, prefix, hole, lit, nt, named, in_hole, hide_hole, closed, seq, Definition, Language}
 use Rattle.rdx_lang.specs.WellFormed.{defined}
-use Rattle.rdx_lang.specs.LeftNumbers.{left_number}
 use Rattle.rdx_lang.specs.declared.pattern.Ref.{Ref}
 use Rattle.rdx_leftrec.specs.Inside.Leads.{place}
 use Rattle.rdx_leftrec.specs.Inside.Marking.{marked}
@@ -44,16 +43,27 @@ number_in L ns = number_at (defined L) ns
 abbrev pub scaled : ℕ → List ℕ → List ℕ
 scaled scale counts = map (λ n. (n + 1) * scale) counts
 
--- how many names stand around the pattern, or around the nonterminal to which it leads
-abbrev pub names_around : Pattern → ℕ
-names_around p = left_number (λ x. 0) p
+-- how many patterns stand one in the other, at most, on a way to a nonterminal to which the pattern may lead
+abbrev pub height : Pattern → ℕ
+height wild = 0
+height (of_kind k) = 0
+height (except rs) = 0
+height (prefix r) = 0
+height hole = 0
+height (lit u) = 0
+height (nt x) = 0
+height (named x q) = height q + 1
+height (in_hole q r) = max (height q) (height r) + 1
+height (hide_hole q) = height q + 1
+height (closed q) = height q + 1
+height (seq ps) = 0
 
--- the most of them in a list of patterns
-abbrev pub most_around : List Pattern → ℕ
-most_around [] = 0
-most_around (p ∷ ps) = max (names_around p) (most_around ps)
+-- the greatest height of a list of patterns
+abbrev pub height_among : List Pattern → ℕ
+height_among [] = 0
+height_among (p ∷ ps) = max (height p) (height_among ps)
 
--- the most of them in definitions
-abbrev pub most_names : List Definition → ℕ
-most_names [] = 0
-most_names (d ∷ ds) = max (most_around d.1) (most_names ds)
+-- the greatest in definitions
+abbrev pub height_in : List Definition → ℕ
+height_in [] = 0
+height_in (d ∷ ds) = max (height_among d.1) (height_in ds)

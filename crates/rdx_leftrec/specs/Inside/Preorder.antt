@@ -1,32 +1,36 @@
--- The ranks of the nodes of patterns in pre-order, from a number for each nonterminal.
-use Rattle.std.specs.Prelude.{◌+◌, ℕ, List, [], ◌∷◌, ◌++◌}
-use Rattle.rdx_lang.specs.Patterns.{Pattern, wild, of_kind, except, prefix, lit, nt, named, seq, Items, nil, one, Definition}
+-- The ranks of the nodes of patterns in pre-order, from a number for each nonterminal, where E tells which of them are Empty.
+use Rattle.std.specs.Prelude.{ℕ, Bool, List, [], ◌∷◌, ◌++◌}
+use Rattle.rdx_lang.specs.Patterns.{Pattern, wild, of_kind, except, prefix, hole, lit, nt, named, in_hole, hide_hole, closed, seq, Items, nil, one, Definition}
 use Rattle.rdx_lang.specs.LeftNumbers.{left_number}
 use Rattle.rdx_lang.specs.declared.pattern.Ref.{Ref}
 
--- the ranks of a pattern's nodes: that of a nonterminal is its number, that of a named pattern one more than its part's
+-- the ranks of a pattern's nodes: that of each is its number
 abbrev mutual
-  pub pattern_ranks : (Ref → ℕ) → Pattern → List ℕ
-  pattern_ranks R wild = 0 ∷ []
-  pattern_ranks R (of_kind k) = 0 ∷ []
-  pattern_ranks R (except rs) = 0 ∷ []
-  pattern_ranks R (prefix r) = 0 ∷ []
-  pattern_ranks R (lit u) = 0 ∷ []
-  pattern_ranks R (nt x) = R x ∷ []
-  pattern_ranks R (named x q) = (left_number R q + 1) ∷ pattern_ranks R q
-  pattern_ranks R (seq ps) = 0 ∷ items_ranks R ps
+  pub pattern_ranks : (Ref → Bool) → (Ref → ℕ) → Pattern → List ℕ
+  pattern_ranks E R wild = 0 ∷ []
+  pattern_ranks E R (of_kind k) = 0 ∷ []
+  pattern_ranks E R (except rs) = 0 ∷ []
+  pattern_ranks E R (prefix r) = 0 ∷ []
+  pattern_ranks E R hole = 0 ∷ []
+  pattern_ranks E R (lit u) = 0 ∷ []
+  pattern_ranks E R (nt x) = R x ∷ []
+  pattern_ranks E R (named x q) = left_number E R (named x q) ∷ pattern_ranks E R q
+  pattern_ranks E R (in_hole q r) = left_number E R (in_hole q r) ∷ pattern_ranks E R q ++ pattern_ranks E R r
+  pattern_ranks E R (hide_hole q) = left_number E R (hide_hole q) ∷ pattern_ranks E R q
+  pattern_ranks E R (closed q) = left_number E R (closed q) ∷ pattern_ranks E R q
+  pattern_ranks E R (seq ps) = 0 ∷ items_ranks E R ps
 
   -- those of the nodes of items
-  pub items_ranks : (Ref → ℕ) → Items → List ℕ
-  items_ranks R nil = []
-  items_ranks R (one p ps) = pattern_ranks R p ++ items_ranks R ps
+  pub items_ranks : (Ref → Bool) → (Ref → ℕ) → Items → List ℕ
+  items_ranks E R nil = []
+  items_ranks E R (one p ps) = pattern_ranks E R p ++ items_ranks E R ps
 
 -- those of the nodes of the patterns of a list
-abbrev pub patterns_ranks : (Ref → ℕ) → List Pattern → List ℕ
-patterns_ranks R [] = []
-patterns_ranks R (p ∷ ps) = pattern_ranks R p ++ patterns_ranks R ps
+abbrev pub patterns_ranks : (Ref → Bool) → (Ref → ℕ) → List Pattern → List ℕ
+patterns_ranks E R [] = []
+patterns_ranks E R (p ∷ ps) = pattern_ranks E R p ++ patterns_ranks E R ps
 
 -- those of the nodes of all alternatives
-abbrev pub definitions_ranks : (Ref → ℕ) → List Definition → List ℕ
-definitions_ranks R [] = []
-definitions_ranks R (d ∷ ds) = patterns_ranks R d.1 ++ definitions_ranks R ds
+abbrev pub definitions_ranks : (Ref → Bool) → (Ref → ℕ) → List Definition → List ℕ
+definitions_ranks E R [] = []
+definitions_ranks E R (d ∷ ds) = patterns_ranks E R d.1 ++ definitions_ranks E R ds
