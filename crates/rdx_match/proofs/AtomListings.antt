@@ -5,13 +5,14 @@ use Rattle.std.specs.Prelude.{◌↔◌, not}
 use Rattle.rdx_term.specs.Bare.{bare}
 use Rattle.rdx_term.specs.Tree.{Tree, hole, integer, truth, text, symbol, list}
 use Rattle.rdx_lang.proofs.Collecting.{no_member, only}
-use Rattle.rdx_lang.proofs.RuleSteps.{IsSymbol, wild_inside, kind_inside, except_inside, prefix_inside, lit_inside}
+use Rattle.rdx_lang.proofs.RuleSteps.{IsSymbol, wild_inside, kind_inside, except_inside, prefix_inside, hole_inside, lit_inside}
 use Rattle.rdx_lang.specs.Bindings.{Binding}
 use Rattle.rdx_lang.specs.Listing.{IsListing, Matches}
 use Rattle.rdx_lang.specs.Members.{here}
 use Rattle.rdx_lang.specs.Order.{binding_cmp}
 use Rattle.rdx_lang.specs.Patterns.{wild, of_kind, except, prefix, lit, Language}
-use Rattle.rdx_lang.specs.Rules.{Match, match_wild, match_kind, match_except, match_prefix, match_lit, is_of_kind, is_one_of}
+use Rattle.rdx_lang.specs.Patterns.{hole as hole_pattern}
+use Rattle.rdx_lang.specs.Rules.{Match, match_wild, match_kind, match_except, match_prefix, match_hole, match_lit, is_of_kind, is_one_of}
 use Rattle.rdx_lang.specs.declared.pattern.Kind.{Kind}
 use Rattle.rdx_match.specs.Inside.Atoms.{is_other_symbol, has_prefix}
 
@@ -87,3 +88,7 @@ module _ {L : Language} where
   -- a literal matches what is equal without marks
   pub listing_lit : {u t : Tree} {bs : List Binding} (holds : Truth) → bs ≡ (if holds then empty_alone else []) → (IsTrue holds ↔ (bare t ≡ bare u)) → Matches L (lit u) t bs
   listing_lit holds e f = listing_where holds e (λ h. match_lit (f.0 h)) (λ b m. let i = lit_inside m in (f.1 i.0, i.1))
+
+  -- `hole` matches the hole
+  pub listing_hole : {t : Tree} {bs : List Binding} (holds : Truth) → bs ≡ (if holds then empty_alone else []) → (IsTrue holds ↔ (t ≡ hole)) → Matches L hole_pattern t bs
+  listing_hole {t} holds e f = listing_where holds e (λ h. subst (λ (u : Tree). Match L hole_pattern u []) (sym (f.0 h)) match_hole) (λ b m. let i = hole_inside m in (f.1 i.0, i.1))

@@ -1,5 +1,14 @@
+pub mod Gathering
+pub mod SpotOrder
+pub mod Trails
+pub mod Extended
+pub mod SplitRules
+pub mod SplitItems
+pub mod SplitRows
 pub mod Merging
 pub mod ItemRows
 pub mod AnyOf
 pub mod AtomListings
 pub mod PartListings
+pub mod AcrossRows
+pub mod SpotRows

@@ -1,8 +1,9 @@
 // The patterns that match by the term alone: built-in names, and sets of symbols.
-ghost use Rattle.std.specs.Prelude.{◌≡◌, eqb, map};
+ghost use Rattle.std.specs.Prelude.{◌≡◌, ◌↔◌, eqb, map, IsTrue};
 ghost use Rattle.std.specs.List.{starts_with};
 ghost use Rattle.rdx_lang.specs.Checked.{language_in};
 ghost use Rattle.rdx_lang.specs.Rules as rules;
+ghost use Rattle.rdx_term.specs.Tree.{hole};
 ghost use Rattle.rdx_term.specs.View.{tree_of};
 ghost use Rattle.rdx_match.specs.Inside.Atoms as atoms;
 
@@ -24,7 +25,7 @@ pub(crate) fn is_of_kind(language: &CheckedLang, kind: Kind, t: &Term) -> bool
         Kind::Variable => matches!(t, Term::Sym(_)),
         Kind::Unmentioned => match t {
             Term::Sym(name) => !is_mentioned(language.language(), name),
-            _ => false,
+            Term::Hole | Term::Int(_) | Term::Bool(_) | Term::Str(_) | Term::List(_) => false,
         },
     }
 }
@@ -48,7 +49,7 @@ pub(crate) fn is_other_symbol(names: &[Name], t: &Term) -> bool
 {
     match t {
         Term::Sym(name) => !is_one_of(names, name),
-        _ => false,
+        Term::Hole | Term::Int(_) | Term::Bool(_) | Term::Str(_) | Term::List(_) => false,
     }
 }
 
@@ -59,6 +60,16 @@ pub(crate) fn has_prefix(prefix: &Name, t: &Term) -> bool
 {
     match t {
         Term::Sym(name) => name.text().starts_with(prefix.text()),
-        _ => false,
+        Term::Hole | Term::Int(_) | Term::Bool(_) | Term::Str(_) | Term::List(_) => false,
+    }
+}
+
+/// Whether the term is the hole.
+pub(crate) fn is_hole(t: &Term) -> bool
+    ensures { IsTrue result ↔ (tree_of t.now ≡ hole) }
+{
+    match t {
+        Term::Hole => true,
+        Term::Int(_) | Term::Bool(_) | Term::Str(_) | Term::Sym(_) | Term::List(_) => false,
     }
 }

@@ -1,7 +1,9 @@
 // Joins of whole lists of bindings.
-ghost use Rattle.std.specs.Prelude.{◌≡◌, ◌∷◌, [], IfOk, OnOk};
-ghost use Rattle.rdx_lang.specs.Bindings.{one, one_name};
+ghost use Rattle.std.specs.Prelude.{◌≡◌, ◌↔◌, ◌∷◌, [], IfOk, IsTrue, OnOk};
+ghost use Rattle.rdx_lang.specs.Ascending.{IsAscending};
+ghost use Rattle.rdx_lang.specs.Bindings.{no_names, one, one_name};
 ghost use Rattle.rdx_lang.specs.Join.{IsJoin};
+ghost use Rattle.rdx_lang.specs.Order.{binding_cmp};
 ghost use Rattle.rdx_lang.specs.Shown.{binding_of, bindings_of};
 ghost use Rattle.rdx_term.specs.View.{tree_of};
 ghost use Rattle.rdx_match.specs.Inside.Combining.{AddsBindings, JoinsWith, Joined, Lists, Named};
@@ -42,12 +44,21 @@ fn add_joins(
     Ok(())
 }
 
-/// The joins of each of `firsts` with each of `others`.
-pub(crate) fn joins(
+/// The same, where `others` is of no more use.
+#[inline(never)]
+pub(crate) fn add_all_joins(
     alloc: Global,
-    firsts: &[Binding],
-    others: &[Binding],
-) -> Result<Vec<Binding>, NoMemory>
+    first: &Binding,
+    others: Vec<Binding>,
+    found: &mut Vec<Binding>,
+) -> Result<(), NoMemory>
+    ensures { OnOk result (AddsBindings (JoinsWith (bindings_of others.items) (binding_of first.now)) found.old found.new) }
+{
+    add_joins(alloc, first, &others, found)
+}
+
+// The joins of each of `firsts` with each of `others`.
+fn joins(alloc: Global, firsts: &[Binding], others: &[Binding]) -> Result<Vec<Binding>, NoMemory>
     ensures { Lists result (Joined (bindings_of firsts.now) (bindings_of others.now)) }
 {
     let mut found = Vec::new(alloc);
@@ -57,8 +68,34 @@ pub(crate) fn joins(
     listing(alloc, found)
 }
 
-// The binding with this one pair.
-fn one_pair(alloc: Global, name: &Name, t: &Term) -> Result<Binding, NoMemory>
+/// Whether the binding of no name is there, and no other.
+pub(crate) fn is_no_names_alone(bindings: &[Binding]) -> bool
+    ensures { IsTrue result ↔ (bindings_of bindings.now ≡ no_names ∷ []) }
+{
+    bindings.len() == 1 && bindings[0].pairs().is_empty()
+}
+
+/// The joins of each of `firsts` with each of `others`, where both are listings.
+pub(crate) fn joins_of(
+    alloc: Global,
+    firsts: Vec<Binding>,
+    others: Vec<Binding>,
+) -> Result<Vec<Binding>, NoMemory>
+    requires firsts { IsAscending binding_cmp (bindings_of firsts.items) }
+    requires others { IsAscending binding_cmp (bindings_of others.items) }
+    ensures { Lists result (Joined (bindings_of firsts.items) (bindings_of others.items)) }
+{
+    if is_no_names_alone(&firsts) {
+        return Ok(others);
+    }
+    if is_no_names_alone(&others) {
+        return Ok(firsts);
+    }
+    joins(alloc, &firsts, &others)
+}
+
+/// The binding with this one pair.
+pub(crate) fn one_pair(alloc: Global, name: &Name, t: &Term) -> Result<Binding, NoMemory>
     ensures { IfOk result (λ b. binding_of b ≡ one_name name.now (one (tree_of t.now))) }
 {
     let mut pairs = Vec::with_capacity(alloc, 1)?;

@@ -1,23 +1,27 @@
 //! The matcher.
 //!
-//! [`Plain`] finds the bindings by which a pattern matches a term, by plain recursion on both. Its clause is that of the trait
-//! [`Matcher`](rdx_lang::Matcher), for every language that passed its checks and every pattern: the list ascends strictly, and has
-//! exactly the bindings that the rules of matching derive, each once, however many derivations it has. A nonterminal that the
-//! language lacks has no alternatives and matches nothing.
+//! [`Plain`] finds the bindings by which a pattern matches a term, and the contexts and parts into which it splits one, by plain
+//! recursion on both. Its clauses are those of the trait [`Matcher`](rdx_lang::Matcher), for every language that passed its checks and
+//! every pattern: the list ascends strictly, and has exactly what the rules of matching or of splitting derive, each once, however many
+//! derivations it has. A nonterminal that the language lacks has no alternatives, and neither matches nor splits anything.
 //!
 //! The search goes to a limited depth, since the machine's stack is limited, and answers want of memory where it would go deeper; so
-//! it ends. The items of a list pattern are matched from the first on, and where one has no binding the others are left out. Each
-//! part of a term is searched anew each time that it is met, so the time may grow fast with the term.
+//! it ends. The items of a list pattern are matched from the first on, and where one has no binding the others are left out, unless it
+//! may be the one that is split. Each part of a term is searched anew each time that it is met, so the time may grow fast with the term.
 #![tactic(auto)]
 
 mod atoms;
 mod combining;
+mod extending;
 mod joining;
 mod listing;
 mod literals;
+mod places;
 mod plain;
 mod room;
 mod rows;
 mod search;
+mod sorting;
+mod spots;
 
 pub use plain::Plain;

@@ -13,7 +13,7 @@ fn is_symbol(name: &Name, t: &Term) -> bool
 {
     match t {
         Term::Sym(symbol) => symbol.text() == name.text(),
-        _ => false,
+        Term::Hole | Term::Int(_) | Term::Bool(_) | Term::Str(_) | Term::List(_) => false,
     }
 }
 
@@ -23,9 +23,11 @@ fn mentions(name: &Name, pat: &Pat) -> bool
     ensures { result ≡ literals.mentions name.now (pattern_of pat.now) }
 {
     match pat {
-        Pat::Wild | Pat::Kind(_) | Pat::Except(_) | Pat::Prefix(_) | Pat::Nt(_) => false,
+        Pat::Wild | Pat::Kind(_) | Pat::Except(_) | Pat::Prefix(_) | Pat::Hole | Pat::Nt(_) =>
+            false,
         Pat::Lit(literal) => is_symbol(name, literal),
-        Pat::Named(_, inner) => mentions(name, inner),
+        Pat::Named(_, inner) | Pat::HideHole(inner) | Pat::Closed(inner) => mentions(name, inner),
+        Pat::InHole(left, right) => mentions(name, left) || mentions(name, right),
         Pat::Seq(items) => items_mention(name, items),
     }
 }

@@ -1,7 +1,8 @@
 // The matcher by plain recursion on the term and the pattern.
 use crate::room::Room;
 use crate::search::Search;
-use rdx_lang::{Binding, CheckedLang, CheckedPat, Matcher};
+use crate::sorting::sorted_splits;
+use rdx_lang::{Binding, CheckedLang, CheckedPat, Matcher, Split};
 use rdx_term::{NoMemory, Term};
 use std::alloc::Global;
 
@@ -26,5 +27,15 @@ impl Matcher for Plain {
         t: &Term,
     ) -> Result<Vec<Binding>, NoMemory> {
         Search::new(self.alloc, language).matches(pat.pat(), t, Room::whole())
+    }
+
+    fn splits(
+        &mut self,
+        language: &CheckedLang,
+        pat: &CheckedPat,
+        t: &Term,
+    ) -> Result<Vec<Split>, NoMemory> {
+        let spots = Search::new(self.alloc, language).splits(pat.pat(), t, Room::whole())?;
+        sorted_splits(self.alloc, t, spots)
     }
 }

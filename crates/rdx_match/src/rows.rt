@@ -1,21 +1,172 @@
-// Joins of one binding of each of several lists.
+// Joins of one binding of each of several lists, and the spots of lists: both by halves, so that a
+// list of n items of which one splits costs in proportion to n, but for the number of halvings.
+ghost use Rattle.std.specs.Prelude.{◌≡◌, ◌+◌, ◌≤◌, length, map, IfOk, OnOk};
+ghost use Rattle.rdx_lang.specs.Inside.Collecting.{Adds, Arises, Combined};
+ghost use Rattle.rdx_lang.specs.Shown.{binding_of, bindings_of};
 ghost use Rattle.rdx_match.specs.Inside.Combining.{JoinsAcross, Lists, rows_of};
+ghost use Rattle.rdx_match.specs.Inside.Rows.{JoinedSpot, JoinedSpots, SpotsAcross, SpotsFrom};
+ghost use Rattle.rdx_match.specs.Inside.Rows.{all_matches, placed_at, split_rows_of};
+ghost use Rattle.rdx_match.specs.Inside.Spots.{spot_of, spots_of};
+ghost use Rattle.rdx_match.specs.Inside.Splitting.{Finds};
 
-use crate::combining::joins;
-use crate::listing::empty_where;
+use crate::combining::{is_no_names_alone, joins_of};
+use crate::joining::join;
+use crate::listing::{empty_where, listing};
+use crate::spots::Spot;
 use rdx_lang::Binding;
 use rdx_term::NoMemory;
 use std::alloc::Global;
 
-/// The joins of one binding of each row, from the last row to the first.
+/// What an item of a list pattern binds where it matches its term, and where it splits it.
+#[derive(Drop)]
+pub(crate) struct Row {
+    /// The bindings by which it matches the term.
+    pub(crate) matches: Vec<Binding>,
+    /// The spots where it splits the term.
+    pub(crate) spots: Vec<Spot>,
+}
+
+// The same bindings.
+fn shared(alloc: Global, bindings: &[Binding]) -> Result<Vec<Binding>, NoMemory>
+    ensures { IfOk result (λ found. bindings_of found.items ≡ bindings_of bindings.now) }
+{
+    let mut found = Vec::with_capacity(alloc, bindings.len())?;
+    for binding in bindings {
+        found.push(binding.share()?)?;
+    }
+    Ok(found)
+}
+
+/// The joins of one binding of each row. The rows are joined by halves, so that no binding is
+/// copied more often than the rows can be halved.
 #[inline(never)]
 pub(crate) fn joins_across(alloc: Global, rows: &[Vec<Binding>]) -> Result<Vec<Binding>, NoMemory>
     ensures { Lists result (JoinsAcross (rows_of rows.now)) }
 {
-    let mut found = empty_where(alloc, true)?;
-    for i in (0..rows.len()).rev() {
-        let row = &rows[i];
-        found = joins(alloc, row, &found)?;
+    match rows {
+        [] => empty_where(alloc, true),
+        [row] => listing(alloc, shared(alloc, row)?),
+        _ => {
+            let (firsts, others) = rows.split_at(rows.len() / 2);
+            let before = joins_across(alloc, firsts)?;
+            let behind = joins_across(alloc, others)?;
+            joins_of(alloc, before, behind)
+        }
+    }
+}
+
+// The joins of what each row binds where it matches.
+fn matches_across(alloc: Global, rows: &[Row]) -> Result<Vec<Binding>, NoMemory>
+    ensures { Lists result (JoinsAcross (all_matches (split_rows_of rows.now))) }
+{
+    let mut matches = Vec::with_capacity(alloc, rows.len())?;
+    for row in rows {
+        matches.push(shared(alloc, &row.matches)?)?;
+    }
+    joins_across(alloc, &matches)
+}
+
+// The spots of an item as spots of the list that has it at this place.
+fn placed(alloc: Global, spots: &[Spot], place: usize) -> Result<Vec<Spot>, NoMemory>
+    ensures { IfOk result (λ found.
+        spots_of found.items ≡ map (placed_at place) (spots_of spots.now)) }
+{
+    let mut found = Vec::with_capacity(alloc, spots.len())?;
+    for spot in spots {
+        let mut trail = Vec::with_capacity(alloc, spot.trail.len() + 1)?;
+        trail.extend_from_slice(&spot.trail)?;
+        trail.push(place)?;
+        let binding = spot.binding.share()?;
+        found.push(Spot { trail, binding })?;
     }
     Ok(found)
+}
+
+// Adds the spot, joined with the binding, where they have a join.
+fn add_joined(
+    alloc: Global,
+    spot: &Spot,
+    other: &Binding,
+    found: &mut Vec<Spot>,
+) -> Result<(), NoMemory>
+    ensures { OnOk result (Adds (JoinedSpot (spot_of spot.now) (binding_of other.now))
+        (spots_of found.old.items) (spots_of found.new.items)) }
+{
+    if let Some(binding) = join(alloc, &spot.binding, other)? {
+        let mut trail = Vec::with_capacity(alloc, spot.trail.len())?;
+        trail.extend_from_slice(&spot.trail)?;
+        found.push(Spot { trail, binding })?;
+    }
+    Ok(())
+}
+
+// Adds the spot, joined with each of the bindings.
+fn add_all_joined(
+    alloc: Global,
+    spot: &Spot,
+    others: &[Binding],
+    found: &mut Vec<Spot>,
+) -> Result<(), NoMemory>
+    ensures { OnOk result (Adds (Arises (JoinedSpot (spot_of spot.now)) (bindings_of others.now))
+        (spots_of found.old.items) (spots_of found.new.items)) }
+{
+    for other in others {
+        add_joined(alloc, spot, other, found)?;
+    }
+    Ok(())
+}
+
+// Each of the spots, joined with each of the bindings.
+fn spots_with(alloc: Global, spots: Vec<Spot>, others: &[Binding]) -> Result<Vec<Spot>, NoMemory>
+    ensures { Finds result (Combined JoinedSpot (spots_of spots.items) (bindings_of others.now)) }
+{
+    if is_no_names_alone(others) {
+        return Ok(spots);
+    }
+    let mut found = Vec::new(alloc);
+    for spot in &spots {
+        add_all_joined(alloc, spot, others, &mut found)?;
+    }
+    Ok(found)
+}
+
+// Each of the spots, joined with what these rows bind where all of them match.
+fn spots_beside(alloc: Global, spots: Vec<Spot>, rows: &[Row]) -> Result<Vec<Spot>, NoMemory>
+    ensures { Finds result (JoinedSpots (spots_of spots.items) (split_rows_of rows.now)) }
+{
+    if spots.is_empty() {
+        return Ok(spots);
+    }
+    let others = matches_across(alloc, rows)?;
+    spots_with(alloc, spots, &others)
+}
+
+// The spots of a part of a list that begins at this place: those of each half, joined with what the
+// other half binds.
+fn spots_from(alloc: Global, place: usize, rows: &[Row]) -> Result<Vec<Spot>, NoMemory>
+    requires { place + length rows.now ≤ usize.MAX }
+    ensures { Finds result (SpotsFrom place (split_rows_of rows.now)) }
+{
+    match rows {
+        [] => Ok(Vec::new(alloc)),
+        [row] => placed(alloc, &row.spots, place),
+        _ => {
+            let half = rows.len() / 2;
+            let (firsts, others) = rows.split_at(half);
+            let before = spots_from(alloc, place, firsts)?;
+            let behind = spots_from(alloc, place + half, others)?;
+            let mut found = spots_beside(alloc, before, others)?;
+            let mut more = spots_beside(alloc, behind, firsts)?;
+            found.append(&mut more)?;
+            Ok(found)
+        }
+    }
+}
+
+/// The spots of a list: one row is split, all others match, and what they bind is joined.
+#[inline(never)]
+pub(crate) fn spots_across(alloc: Global, rows: &[Row]) -> Result<Vec<Spot>, NoMemory>
+    ensures { Finds result (SpotsAcross (split_rows_of rows.now)) }
+{
+    spots_from(alloc, 0, rows)
 }
