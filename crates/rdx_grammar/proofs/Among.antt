@@ -4,7 +4,7 @@ use Rattle.std.specs.Prelude.{◌||◌, bytes_eq, flat_map}
 use Rattle.std.specs.Cmp.Lexicographic.{bytes_decides}
 use Rattle.rdx_lang.specs.References.{is_among as is_defined_among}
 use Rattle.rdx_lang.specs.declared.pattern.Ref.{Ref}
-use Rattle.rdx_lang.specs.declared.pattern.Ref.TheVariants.{Nt}
+use Rattle.rdx_lang.specs.declared.pattern.Ref.TheVariants.{Nt, Cross}
 use Rattle.rdx_grammar.specs.Kinds.{is_among}
 use Rattle.rdx_grammar.specs.Nonterminals.{ref_names}
 use Rattle.rdx_grammar.proofs.Tests.{either_way}
@@ -24,3 +24,4 @@ pub is_among-names : (x : List ℕ) (xs : List Ref) → is_among (flat_map ref_n
 is_among-names x [] = refl
 is_among-names x (Nt y ∷ xs) =
     or_both (bytes_eq y x) (bytes_eq x y) (is_among (flat_map ref_names xs) x) (is_defined_among (Nt x) xs) (bytes_eq-sym y x) (is_among-names x xs)
+is_among-names x (Cross y z ∷ xs) = is_among-names x xs

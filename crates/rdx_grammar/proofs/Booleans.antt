@@ -48,6 +48,11 @@ and_not_both true true e f = absurd cc
 and_not_both true false e f = refl
 and_not_both false b e f = absurd cc
 
+-- the contrary holds
+pub not_true : (b : Bool) → not b ≡ true → b ≡ false
+not_true true e = absurd cc
+not_true false e = refl
+
 -- what can't hold
 pub unless_true : (b : Bool) → (b ≡ true → ⊥) → b ≡ false
 unless_true true f = absurd (f refl)

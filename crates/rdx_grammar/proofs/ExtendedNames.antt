@@ -1,13 +1,13 @@
 -- The nonterminals of a language that extends another.
 use Rattle.std.proofs.Common.{◌≡◌, ◌++◌, ℕ, Bool, true, false, List, [], ◌∷◌, map, refl, ap, ◌∙◌, if◌then◌else◌}
-use Rattle.std.specs.Prelude.{◌||◌}
+use Rattle.std.specs.Prelude.{◌||◌, bytes_eq}
 use Rattle.std.specs.Cmp.Lexicographic.{bytes_decides}
 use Rattle.rdx_lang.specs.Patterns.{Definition}
 use Rattle.rdx_lang.specs.References.{is_same, is_among, are_distinct}
 use Rattle.rdx_lang.specs.declared.pattern.Ref.{Ref}
-use Rattle.rdx_lang.specs.declared.pattern.Ref.TheVariants.{Nt}
+use Rattle.rdx_lang.specs.declared.pattern.Ref.TheVariants.{Nt, Cross}
 use Rattle.rdx_grammar.specs.Extension.{heads, redefined, added}
-use Rattle.rdx_grammar.proofs.Booleans.{or_false, or_neither, or_true, or_or, not_and_true, not_and_both, unless_true, not_either_way}
+use Rattle.rdx_grammar.proofs.Booleans.{and_true, and_both, or_false, or_neither, or_true, or_or, not_and_true, not_and_both, unless_true, not_either_way}
 use Rattle.rdx_grammar.proofs.Tests.{or_left, or_right}
 
 -- each of the first is one of the second
@@ -21,10 +21,16 @@ Apart xs ys = (x : Ref) → is_among x xs ≡ true → is_among x ys ≡ false
 -- a nonterminal is the same as itself
 is_same-refl : (x : Ref) → is_same x x ≡ true
 is_same-refl (Nt x) = (bytes_decides x x).1 refl
+is_same-refl (Cross x w) = and_both (bytes_eq x x) (bytes_eq w w) ((bytes_decides x x).1 refl) ((bytes_decides w w).1 refl)
 
 -- what is the same is equal
 same_is : (x y : Ref) → is_same x y ≡ true → x ≡ y
 same_is (Nt x) (Nt y) e = ap (λ (z : List ℕ). Nt z) ((bytes_decides x y).0 e)
+same_is (Nt x) (Cross y z) e = absurd cc
+same_is (Cross x w) (Nt y) e = absurd cc
+same_is (Cross x w) (Cross y z) e =
+    let k = and_true (bytes_eq x y) (bytes_eq w z) e in
+    λ i. Cross ((bytes_decides x y).0 k.0 i) ((bytes_decides w z).0 k.1 i)
 
 -- among two lists, one behind the other
 pub is_among-append : (x : Ref) (xs ys : List Ref) → is_among x (xs ++ ys) ≡ (is_among x xs || is_among x ys)

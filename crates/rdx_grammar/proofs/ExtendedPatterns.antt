@@ -3,7 +3,7 @@ use Rattle.std.proofs.Common.{◌≡◌, ◌++◌, ℕ, Bool, true, false, List,
 use Rattle.std.specs.Prelude.{codes}
 use Rattle.rdx_sexp.specs.Sexp.{Sexp}
 use Rattle.rdx_lang.specs.Lookup.{alternatives_of, alternatives_among}
-use Rattle.rdx_lang.specs.Patterns.{Pattern, wild, of_kind, except, prefix, lit, nt, named, seq, Items, nil, one, Language}
+use Rattle.rdx_lang.specs.Patterns.{Pattern, wild, of_kind, except, prefix, hole, lit, nt, named, in_hole, hide_hole, closed, seq, Items, nil, one, Language}
 use Rattle.rdx_lang.specs.Patterns as model
 use Rattle.rdx_lang.specs.References.{is_same, is_among}
 use Rattle.rdx_lang.specs.WellFormed.{is_well_formed, have_known_nonterminals, all_patterns, all_alternatives}
@@ -27,9 +27,15 @@ mutual
   is_well_formed-within xs ys w (of_kind k) e = refl
   is_well_formed-within xs ys w (except rs) e = refl
   is_well_formed-within xs ys w (prefix r) e = refl
+  is_well_formed-within xs ys w hole e = refl
   is_well_formed-within xs ys w (lit u) e = refl
   is_well_formed-within xs ys w (nt x) e = w x e
   is_well_formed-within xs ys w (named x q) e = is_well_formed-within xs ys w q e
+  is_well_formed-within xs ys w (in_hole q r) e =
+      let k = and_true (is_well_formed xs q) (is_well_formed xs r) e in
+      and_both (is_well_formed ys q) (is_well_formed ys r) (is_well_formed-within xs ys w q k.0) (is_well_formed-within xs ys w r k.1)
+  is_well_formed-within xs ys w (hide_hole q) e = is_well_formed-within xs ys w q e
+  is_well_formed-within xs ys w (closed q) e = is_well_formed-within xs ys w q e
   is_well_formed-within xs ys w (seq ps) e = have_known_nonterminals-within xs ys w ps e
 
   -- items

@@ -1,10 +1,11 @@
 -- The keywords in a pattern are all its keywords, whatever its lists are.
 use Rattle.std.proofs.Common.{◌≡◌, ◌++◌, Bool, true, false, List, [], ◌∷◌, Option, Some, None, refl, sym, ap, ◌∙◌, if◌then◌else◌}
+use Rattle.std.specs.Prelude.{not, codes}
 use Rattle.std.proofs.lemmas.Grind.{flat_map-append}
 use Rattle.rdx_sexp.specs.Sexp.{Sexp, Sexps, leaf, list, nil, cons, integer, truth, text, symbol, keyword}
 use Rattle.rdx_grammar.specs.Heads.{Role, word, bound, spelt, pattern, Roles, roles_of, head_among, next, rest, suits, fits, is_shaped}
 use Rattle.rdx_grammar.specs.Occurrences.{Occurrence, malformed, keys, keys_in, role_occurrences, occurrences, occurrences_among}
-use Rattle.rdx_grammar.specs.Parts.{is_symbol}
+use Rattle.rdx_grammar.specs.Parts.{is_symbol, is_word}
 use Rattle.rdx_grammar.specs.PatternChecks.{keyword_fault, keyword_faults}
 use Rattle.rdx_grammar.specs.Refusal.{first, or_else}
 use Rattle.rdx_grammar.proofs.Booleans.{and_true}
@@ -32,7 +33,7 @@ role-keys : (o : Option Role) (d : Sexp) → suits o d ≡ true → keyword_faul
 role-keys None d e f = absurd cc
 role-keys (Some word) d e f = sym (ap keyword_faults (symbol-keys d e))
 role-keys (Some bound) d e f = sym (ap keyword_faults (symbol-keys d e))
-role-keys (Some spelt) d e f = sym (ap keyword_faults (symbol-keys d e))
+role-keys (Some spelt) d e f = sym (ap keyword_faults (symbol-keys d (and_true (is_symbol d) (not (is_word (codes "hole") d)) e).0))
 role-keys (Some pattern) d e f = f
 
 -- a list that may have its shape

@@ -23,11 +23,11 @@ use Rattle.rdx_grammar.proofs.Firsts.{nothing, none_first, none_both}
 use Rattle.rdx_grammar.proofs.FormNonterminals.{nonterminals_in, nonterminals_in-definitions}
 
 -- a spelling other than `hole` is a name
-name-spelled : (x : List ℕ) → IsTrue (is_symbol_spelling x) → bytes_eq x (codes "hole") ≡ false → IsTrue (is_name x)
+pub name-spelled : (x : List ℕ) → IsTrue (is_symbol_spelling x) → bytes_eq x (codes "hole") ≡ false → IsTrue (is_name x)
 name-spelled x h e = and_not_both (is_symbol_spelling x) (pointwise nat_eq x (codes "hole")) h e
 
--- a name that a language may have is no `hole`
-language-not_hole : (x : List ℕ) → is_bad_name x ≡ false → bytes_eq x (codes "hole") ≡ false
+-- a name that a language may have, or that may be bound, is no `hole`
+pub language-not_hole : (x : List ℕ) → is_bad_name x ≡ false → bytes_eq x (codes "hole") ≡ false
 language-not_hole x e = (or_false (bytes_eq x (codes "hole")) (bytes_eq x (codes "_")) (or_false (bytes_eq x (codes "hole") || bytes_eq x (codes "_")) (begins_with_dots x) e).0).0
 
 -- the kept words but `hole`

@@ -1,7 +1,9 @@
--- The one item of a list pattern.
-use Rattle.std.proofs.Common.{◌≡◌, List, [], ◌∷◌, length, map, None, refl}
+-- The one item of a list pattern, and the two of one of two.
+use Rattle.std.proofs.Common.{◌≡◌, ◌++◌, List, [], ◌∷◌, length, map, None, refl}
+use Rattle.std.specs.Prelude.{option_map}
 use Rattle.rdx_lang.specs.PatternView.{Slot, just, items_of}
-use Rattle.rdx_grammar.specs.Reading.{only_item}
+use Rattle.rdx_lang.specs.Patterns.{Pattern}
+use Rattle.rdx_grammar.specs.Reading.{only_item, only_items}
 
 -- there is none among two items or more
 two : (s t : Slot) (slots : List Slot) → only_item (items_of (s ∷ t ∷ slots)) ≡ None
@@ -12,3 +14,10 @@ pub only_item-other : {A : Type 0} (f : A → Slot) (xs : List A) → (length xs
 only_item-other f [] n = refl
 only_item-other f (x ∷ []) n = absurd (n refl)
 only_item-other f (x ∷ y ∷ xs) n = two (f x) (f y) (map f xs)
+
+-- two are the one before the last, and the last
+pub only_items-last : (slots : List Slot) (q : Pattern) → only_items (items_of (slots ++ just q ∷ [])) ≡ option_map (λ p. (p, q)) (only_item (items_of slots))
+only_items-last [] q = refl
+only_items-last (just p ∷ []) q = refl
+only_items-last (just p ∷ just r ∷ []) q = refl
+only_items-last (just p ∷ just r ∷ just s ∷ slots) q = refl

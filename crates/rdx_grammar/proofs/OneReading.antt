@@ -2,9 +2,8 @@
 use Rattle.std.proofs.Common.{◌≡◌, Option, Some, None, refl, sym, ◌∙◌, ap, subst, ◌⊎◌, inl, inr}
 use Rattle.std.specs.Prelude.{IsSome}
 use Rattle.rdx_lang.specs.Edges.{IsFree, IsFirstRecursive}
-use Rattle.rdx_lang.specs.declared.pattern.Ref.TheVariants.{Nt}
 use Rattle.rdx_grammar.specs.Refusal.{refusal_of}
-use Rattle.rdx_lang.proofs.FirstRecursive.{first_recursive-one, first_recursive-free}
+use Rattle.rdx_lang.proofs.FirstRecursive.{first_recursive-same}
 use Rattle.rdx_grammar.specs.Forms.{GrammarForm}
 use Rattle.rdx_grammar.specs.Languages.{language_over}
 use Rattle.rdx_grammar.specs.Laws.{OneLanguage, OneRefusal, NeverBothLanguage, OnePattern, OnePatternRefusal, NeverBothPattern, NeverNeitherPattern}
@@ -30,14 +29,14 @@ one_refusal base d g r q (by_check e) (by_recursion m y f n b h) = absurd (not_s
 one_refusal base d g r q (by_recursion p x e l a k) (by_check f) = absurd (not_some (refusal_over base d g) q e f)
 one_refusal base d g r q (by_recursion p x e l a k) (by_recursion m y f n b h) =
     let s : p ≡ m = same_some g p m l n in
-    let t = subst (λ (o : GrammarForm). IsFirstRecursive (language_over base o) (Nt x)) s a in
-    k ∙ ap (recursion_at d) (first_recursive-one (language_over base m) x y t b) ∙ sym h
+    let t = subst (λ (o : GrammarForm). IsFirstRecursive (language_over base o) x) s a in
+    k ∙ ap (recursion_at d) (first_recursive-same (language_over base m) x y t b) ∙ sym h
 
 pub never_both_language : NeverBothLanguage
 never_both_language base d g L r a (by_check e) = not_some (refusal_over base d g) r a.passes e
 never_both_language base d g L r a (by_recursion m x e n b h) =
     let s : a.parts ≡ m = same_some g a.parts m a.are n in
-    first_recursive-free (language_over base m) x (subst IsFree (a.reads ∙ ap (language_over base) s) a.free) b
+    subst IsFree (a.reads ∙ ap (language_over base) s) a.free x b.recursive
 
 -- ---- patterns
 

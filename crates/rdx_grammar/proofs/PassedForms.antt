@@ -44,5 +44,5 @@ has_parts base d e = by_first (unbuilt_at d) e
 -- a form that passes is read, or it is refused for left recursion
 pub ReadsForm-checked : (base : Language) (d : Sexp) (g : GrammarForm) (r : Result CheckedLang DefFault) → refusal_over base d (Some g) ≡ None → ChecksRecursion (language_over base g) d r → ReadsForm base d (Some g) r
 ReadsForm-checked base d g (Ok c) e h = record { passes = e; parts = g; are = refl; reads = h.0; free = subst IsFree (sym h.0) h.1 }
-ReadsForm-checked base d g (Err (Refused r)) e h = by_recursion g h.name e refl h.recursive h.refused
+ReadsForm-checked base d g (Err (Refused r)) e h = by_recursion g h.nonterminal e refl h.recursive h.refused
 ReadsForm-checked base d g (Err NoMemory) e h = tt

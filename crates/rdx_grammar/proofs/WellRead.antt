@@ -1,20 +1,20 @@
 -- What is read names only nonterminals that there are.
 use Rattle.std.proofs.Common.{◌≡◌, ℕ, Bool, true, false, List, Option, Some, None, refl, sym, if◌then◌else◌}
-use Rattle.std.specs.Prelude.{bytes_eq, codes, flat_map}
+use Rattle.std.specs.Prelude.{◌&&◌, bytes_eq, codes, flat_map}
 use Rattle.rdx_sexp.specs.Sexp.{Sexp, Sexps, leaf, list, nil, cons, Atom, integer, truth, text, symbol, keyword}
 use Rattle.rdx_term.specs.Spelling.{is_name}
 use Rattle.rdx_term.specs.Tree as tree
-use Rattle.rdx_lang.specs.Patterns.{Pattern, wild, nt, lit, Items}
+use Rattle.rdx_lang.specs.Patterns.{Pattern, wild, hole, nt, lit, Items}
 use Rattle.rdx_lang.specs.Patterns as model
 use Rattle.rdx_lang.specs.WellFormed.{is_well_formed, have_known_nonterminals}
 use Rattle.rdx_lang.specs.declared.pattern.Kind.{Kind}
 use Rattle.rdx_lang.specs.declared.pattern.Ref.{Ref}
 use Rattle.rdx_lang.specs.declared.pattern.Ref.TheVariants.{Nt}
-use Rattle.rdx_grammar.specs.Heads.{Head, naming, avoiding, prefixing, plain, Role, word, bound, spelt, pattern, Roles, roles_of, head_among, next, rest, is_shaped}
+use Rattle.rdx_grammar.specs.Heads.{Head, naming, avoiding, prefixing, splitting, hiding, plain, Role, word, bound, spelt, pattern, Roles, roles_of, head_among, next, rest, is_shaped}
 use Rattle.rdx_grammar.specs.Kinds.{kind_of, is_among}
 use Rattle.rdx_grammar.specs.Names.{has_suffix, front}
 use Rattle.rdx_grammar.specs.Nonterminals.{ref_names}
-use Rattle.rdx_grammar.specs.Reading.{base, base_of, by_base, other_symbol, suffixed, symbol_reading, atom_reading, only, only_item, prefixed, bound_to, names_among, role_items, assembled, reading, items_among}
+use Rattle.rdx_grammar.specs.Reading.{base, base_of, by_base, other_symbol, suffixed, symbol_reading, atom_reading, only, only_item, only_items, prefixed, bound_to, split_by, hidden, names_among, role_items, assembled, reading, items_among}
 use Rattle.rdx_grammar.specs.declared.patterns.position.Position.{Position}
 use Rattle.rdx_grammar.specs.declared.patterns.position.Position.TheVariants.{Grammar, Query}
 use Rattle.rdx_grammar.proofs.Among.{is_among-names}
@@ -84,11 +84,12 @@ module _ (xs : List Ref) (pos : Position) where
 
   -- each symbol
   symbol_wf : (x : List ℕ) → wf (symbol_reading ns pos x) ≡ true
-  symbol_wf x = by_test (bytes_eq x (codes "_"))
+  symbol_wf x = by_tests (bytes_eq x (codes "_")) (bytes_eq x (codes "hole"))
     where
-      by_test : (b : Bool) → wf (if b then wild else if is_name x then by_base ns pos x (base ns x) else wild) ≡ true
-      by_test true = refl
-      by_test false = name_wf x
+      by_tests : (b c : Bool) → wf (if b then wild else if c then hole else if is_name x then by_base ns pos x (base ns x) else wild) ≡ true
+      by_tests true c = refl
+      by_tests false true = refl
+      by_tests false false = name_wf x
 
   -- ---- data
 
@@ -120,11 +121,28 @@ module _ (xs : List Ref) (pos : Position) where
   prefixed_wf None = refl
   prefixed_wf (Some x) = refl
 
+  -- contexts with what stands in their hole
+  split_wf : (ps : Items) → items-wf ps ≡ true → wf (split_by (only_items ps)) ≡ true
+  split_wf model.nil h = refl
+  split_wf (model.one p model.nil) h = refl
+  split_wf (model.one p (model.one q model.nil)) h =
+      let k = and_true (wf p) (wf q && true) h in
+      and_both (wf p) (wf q) k.0 (and_true (wf q) true k.1).0
+  split_wf (model.one p (model.one q (model.one r ps))) h = refl
+
+  -- a pattern whose contexts are hidden
+  hidden_wf : (ps : Items) → items-wf ps ≡ true → wf (hidden (only_item ps)) ≡ true
+  hidden_wf model.nil h = refl
+  hidden_wf (model.one p model.nil) h = (and_true (wf p) true h).0
+  hidden_wf (model.one p (model.one q ps)) h = refl
+
   -- a list of well-formed items
   assembled_wf : (h : Head) (ys : List (List ℕ)) (ps : Items) → items-wf ps ≡ true → wf (assembled h ys ps) ≡ true
   assembled_wf naming ys ps e = bound_wf (only ys) ps e
   assembled_wf avoiding ys ps e = refl
   assembled_wf prefixing ys ps e = prefixed_wf (only ys)
+  assembled_wf splitting ys ps e = split_wf ps e
+  assembled_wf hiding ys ps e = hidden_wf ps e
   assembled_wf plain ys ps e = e
 
   -- a list that may have its shape

@@ -1,48 +1,51 @@
 -- In the reading of a datum that passes the checks the pattern that matches everything stands only for `_`.
 use Rattle.std.proofs.Common.{◌≡◌, ◌++◌, ℕ, ◌+◌, Bool, true, false, List, [], ◌∷◌, Option, Some, None, refl, sym, ap, ◌∙◌, if◌then◌else◌, arith}
-use Rattle.std.specs.Prelude.{◌&&◌, ◌||◌, not, is_some, bytes_eq, codes, IsTrue, nat_eq}
-use Rattle.std.specs.Cmp.Lexicographic.{pointwise}
+use Rattle.std.specs.Prelude.{◌&&◌, ◌||◌, not, is_some, bytes_eq, codes, IsTrue}
 use Rattle.std.proofs.lemmas.Grind.{flat_map-append}
 use Rattle.rdx_sexp.specs.Sexp.{Sexp, Sexps, leaf, list, nil, cons, integer, truth, text, symbol, keyword}
 use Rattle.rdx_sexp.specs.Size.{IsSpelledSexp, AreSpelled}
 use Rattle.rdx_term.specs.Spelling.{is_name, is_symbol_spelling}
 use Rattle.rdx_term.specs.Tree as tree
-use Rattle.rdx_lang.specs.Patterns.{Pattern, wild, lit, nt, Items}
+use Rattle.rdx_lang.specs.Patterns.{Pattern, wild, hole, lit, nt, Items}
 use Rattle.rdx_lang.specs.declared.pattern.Kind.{Kind}
 use Rattle.rdx_lang.specs.declared.pattern.Ref.TheVariants.{Nt}
-use Rattle.rdx_grammar.specs.Heads.{Head, naming, avoiding, prefixing, plain, Role, word, bound, spelt, pattern, Roles, every, roles_of, head_among, next, rest, fits, is_shaped}
+use Rattle.rdx_grammar.specs.Heads.{Head, naming, avoiding, prefixing, splitting, hiding, plain, Role, word, bound, spelt, pattern, Roles, every, roles_of, head_among, next, rest, fits, is_shaped}
 use Rattle.rdx_grammar.specs.Kinds.{kind_of, is_among, is_base}
 use Rattle.rdx_grammar.specs.Laws.{wilds, item_wilds, underscores, WildsAreWritten}
-use Rattle.rdx_grammar.specs.Names.{is_one_of, begins_with_dots, is_inherited, has_suffix, front}
+use Rattle.rdx_grammar.specs.Names.{is_bad_name, begins_with_dots, has_suffix, front}
 use Rattle.rdx_grammar.specs.Occurrences.{Occurrence, malformed, keys_in, role_occurrences, occurrences, occurrences_among}
-use Rattle.rdx_grammar.specs.Parts.{text_of, is_symbol}
-use Rattle.rdx_grammar.specs.PatternChecks.{keyword_fault, keyword_faults, bad_occurrence, bad_occurrences, is_bad_symbol}
+use Rattle.rdx_grammar.specs.Parts.{text_of, is_symbol, is_word}
+use Rattle.rdx_grammar.specs.PatternChecks.{keyword_fault, keyword_faults, bad_binder, bad_binders, bad_occurrence, bad_occurrences, is_bad_symbol}
 use Rattle.rdx_grammar.specs.PatternRefusal.{keyword_at, bad_binder_at, bad_occurrence_at}
 use Rattle.rdx_grammar.specs.Reading.{base, base_of, suffixed, other_symbol, by_base, symbol_reading, name_in, only, bound_to, prefixed, names_among, role_items, assembled, reading, items_among}
-use Rattle.rdx_grammar.specs.Refusal.{unnamed}
-use Rattle.rdx_grammar.specs.Unbuilt.{words_to_come, occurs_in, is_word_to_come, has_word_to_come, have_word_to_come, unbuilt_at}
+use Rattle.rdx_grammar.specs.Refusal.{unnamed, named}
+use Rattle.rdx_grammar.specs.Unbuilt.{unbuilt_at}
 use Rattle.rdx_grammar.specs.declared.patterns.position.Position.{Position}
 use Rattle.rdx_grammar.specs.declared.patterns.position.Position.TheVariants.{Grammar, Query}
-use Rattle.rdx_grammar.specs.declared.shape.fault.DefKind.TheVariants.{Unbuilt, Shape, BadPattern}
-use Rattle.rdx_grammar.proofs.Booleans.{or_false, and_true, and_not_both}
+use Rattle.rdx_grammar.specs.declared.shape.fault.DefKind.TheVariants.{Shape, BadName, BadPattern}
+use Rattle.rdx_grammar.proofs.Booleans.{or_false, and_true, not_true}
+use Rattle.rdx_grammar.proofs.DefinitionSpelled.{symbol-spelled}
 use Rattle.rdx_grammar.proofs.Firsts.{nothing, none_both, none_or, none_first}
+use Rattle.rdx_grammar.proofs.NamedForms.{name-spelled, language-not_hole}
 
 -- ---- names
 
--- the words to come but `hole`
-abbrev others : List (List ℕ)
-others =
-    codes "in-hole" ∷ codes "hide-hole" ∷ codes "reduction-relation" ∷ codes "where" ∷ codes "unquote" ∷ codes "unquote-splicing"
-    ∷ codes "side-condition" ∷ codes "judgment-holds" ∷ codes "context-closure" ∷ codes "compatible-closure" ∷ codes "cross" ∷ codes "with"
-    ∷ codes "fresh" ∷ []
+-- the symbol has one
+abbrev HasName : Sexp → Type 0
+HasName d = is_name (text_of d) ≡ true
 
--- a spelling that is no word to come is a name
-name-built : (x : List ℕ) → IsTrue (is_symbol_spelling x) → is_word_to_come x ≡ false → is_name x ≡ true
-name-built x h e =
-    let f = or_false (is_one_of words_to_come x || (begins_with_dots x && not (is_inherited x))) (occurs_in (codes "_!_") x && not (begins_with_dots x)) e in
-    let g = or_false (is_one_of words_to_come x) (begins_with_dots x && not (is_inherited x)) f.0 in
-    let k : bytes_eq x (codes "hole") ≡ false = (or_false (bytes_eq x (codes "hole")) (is_one_of others x) g.0).0 in
-    and_not_both (is_symbol_spelling x) (pointwise nat_eq x (codes "hole")) h k
+-- one that `variable-except` or `variable-prefix` may name has one
+spelt-name : (d : Sexp) → (is_symbol d && not (is_word (codes "hole") d)) ≡ true → IsSpelledSexp d → HasName d
+spelt-name (leaf (integer n) s) e h = absurd cc
+spelt-name (leaf (truth b) s) e h = absurd cc
+spelt-name (leaf (text t) s) e h = absurd cc
+spelt-name (leaf (symbol x) s) e h = name-spelled x h (not_true (bytes_eq x (codes "hole")) e)
+spelt-name (leaf (keyword k) s) e h = absurd cc
+spelt-name (list ds s) e h = absurd cc
+
+-- one that may be bound has one
+bound-name : (d : Sexp) → is_symbol d ≡ true → IsSpelledSexp d → is_bad_name (text_of d) ≡ false → HasName d
+bound-name d e h f = name-spelled (text_of d) (symbol-spelled d e h) (language-not_hole (text_of d) f)
 
 module _ (ns : List (List ℕ)) (pos : Position) where
   -- ---- symbols
@@ -99,17 +102,18 @@ module _ (ns : List (List ℕ)) (pos : Position) where
   name-no_wild Query x (Some q) h e = h
 
   -- a symbol that is none
-  symbol-wilds : (x : List ℕ) → is_name x ≡ true → is_bad_symbol ns x ≡ false → wilds (symbol_reading ns pos x) ≡ (if bytes_eq x (codes "_") then 1 else 0)
-  symbol-wilds x n e =
-      by_test (bytes_eq x (codes "_")) (or_false (begins_with_dots x) (not (bytes_eq x (codes "_")) && (has_suffix x && not (is_base ns (front x)))) e).1
+  symbol-wilds : (x : List ℕ) → IsTrue (is_symbol_spelling x) → is_bad_symbol ns x ≡ false → wilds (symbol_reading ns pos x) ≡ (if bytes_eq x (codes "_") then 1 else 0)
+  symbol-wilds x h e =
+      by_tests (bytes_eq x (codes "_")) (bytes_eq x (codes "hole")) (name-spelled x h) (or_false (begins_with_dots x) (not (bytes_eq x (codes "_")) && (has_suffix x && not (is_base ns (front x)))) e).1
     where
       by_name : (c : Bool) → c ≡ true → (has_suffix x && not (is_base ns (front x))) ≡ false → wilds (if c then by_base ns pos x (base ns x) else wild) ≡ 0
       by_name true f g = name-no_wild pos x (base ns x) (base-no_wild x) g
       by_name false f g = absurd cc
 
-      by_test : (b : Bool) → (not b && (has_suffix x && not (is_base ns (front x)))) ≡ false → wilds (if b then wild else if is_name x then by_base ns pos x (base ns x) else wild) ≡ (if b then 1 else 0)
-      by_test true f = refl
-      by_test false f = by_name (is_name x) n f
+      by_tests : (b c : Bool) → (c ≡ false → is_name x ≡ true) → (not b && (has_suffix x && not (is_base ns (front x)))) ≡ false → wilds (if b then wild else if c then hole else if is_name x then by_base ns pos x (base ns x) else wild) ≡ (if b then 1 else 0)
+      by_tests true c n f = refl
+      by_tests false true n f = refl
+      by_tests false false n f = by_name (is_name x) (n refl) f
 
   -- ---- lists
 
@@ -135,13 +139,14 @@ module _ (ns : List (List ℕ)) (pos : Position) where
 
   -- an item that is a pattern passes the checks, where all that stands in items does
   abbrev Passes : List Occurrence → Type 0
-  Passes os = (keyword_faults os ≡ []) × (bad_occurrences ns os ≡ [])
+  Passes os = (keyword_faults os ≡ []) × ((bad_binders os ≡ []) × (bad_occurrences ns os ≡ []))
 
   passes-both : (os qs : List Occurrence) → Passes (os ++ qs) → Passes os × Passes qs
   passes-both os qs h =
       let k = none_both (keyword_faults os) (keyword_faults qs) (sym (flat_map-append keyword_fault os qs) ∙ h.0) in
-      let b = none_both (bad_occurrences ns os) (bad_occurrences ns qs) (sym (flat_map-append (bad_occurrence ns) os qs) ∙ h.1) in
-      ((k.0, b.0), (k.1, b.1))
+      let n = none_both (bad_binders os) (bad_binders qs) (sym (flat_map-append bad_binder os qs) ∙ h.1.0) in
+      let b = none_both (bad_occurrences ns os) (bad_occurrences ns qs) (sym (flat_map-append (bad_occurrence ns) os qs) ∙ h.1.1) in
+      ((k.0, (n.0, b.0)), (k.1, (n.1, b.1)))
 
   passes-role : (o : Option Role) (d : Sexp) (os : List Occurrence) → Passes (role_occurrences o d os) → o ≡ Some pattern → Passes os
   passes-role None d os h e = absurd cc
@@ -161,7 +166,7 @@ module _ (ns : List (List ℕ)) (pos : Position) where
   -- a list that may have its shape
   shaped-wilds : (b : Bool) (whole : Sexp) (ds : Sexps) (p : Pattern) (os : List Occurrence) → Passes (if b then os else malformed whole ∷ keys_in ds) → (b ≡ true → Passes os → wilds p ≡ underscores os) → wilds (if b then p else wild) ≡ underscores (if b then os else malformed whole ∷ keys_in ds)
   shaped-wilds true whole ds p os h f = f refl h
-  shaped-wilds false whole ds p os h f = let k = h.1 in absurd cc
+  shaped-wilds false whole ds p os h f = let k = h.1.1 in absurd cc
 
   -- symbols that stand for symbols
   spelt-wilds : (ds : Sexps) → underscores (occurrences_among (every spelt) ds) ≡ 0
@@ -169,17 +174,12 @@ module _ (ns : List (List ℕ)) (pos : Position) where
   spelt-wilds (cons d ds) = zero-plus (underscores (occurrences_among (every spelt) ds)) ∙ spelt-wilds ds
 
   -- the name that a symbol is
-  named-once : (x : Sexp) → is_symbol x ≡ true → IsSpelledSexp x → has_word_to_come x ≡ false → name_in x ≡ text_of x ∷ []
-  named-once (leaf (integer n) s) e h f = absurd cc
-  named-once (leaf (truth b) s) e h f = absurd cc
-  named-once (leaf (text t) s) e h f = absurd cc
-  named-once (leaf (keyword k) s) e h f = absurd cc
-  named-once (list ds s) e h f = absurd cc
-  named-once (leaf (symbol x) s) e h f = by_test (is_name x) (name-built x h f)
+  named-once : (d : Sexp) → HasName d → name_in d ≡ text_of d ∷ []
+  named-once d e = by_test (is_name (text_of d)) e
     where
-      by_test : (b : Bool) → b ≡ true → (let xs : List (List ℕ) = if b then x ∷ [] else [] in xs) ≡ x ∷ []
-      by_test true g = refl
-      by_test false g = absurd cc
+      by_test : (b : Bool) → b ≡ true → (let xs : List (List ℕ) = if b then text_of d ∷ [] else [] in xs) ≡ text_of d ∷ []
+      by_test true f = refl
+      by_test false f = absurd cc
 
   -- what is bound to one name
   bound-wilds : (xs : List (List ℕ)) (x : List ℕ) (p : Pattern) → xs ≡ x ∷ [] → wilds (bound_to (only (xs ++ [])) (Some p)) ≡ wilds p
@@ -196,63 +196,68 @@ module _ (ns : List (List ℕ)) (pos : Position) where
 
   mutual
     -- a datum
-    wilds-of : (d : Sexp) → IsSpelledSexp d → has_word_to_come d ≡ false → Passes (occurrences d) → wilds (reading ns pos d) ≡ underscores (occurrences d)
-    wilds-of (leaf (integer n) s) h e p = refl
-    wilds-of (leaf (truth b) s) h e p = refl
-    wilds-of (leaf (text t) s) h e p = refl
-    wilds-of (leaf (symbol x) s) h e p =
-        symbol-wilds x (name-built x h e) (none_first (is_bad_symbol ns x) (leaf (symbol x) s) [] p.1).0 ∙ sym (plus-zero (if bytes_eq x (codes "_") then 1 else 0))
-    wilds-of (leaf (keyword k) s) h e p = let q = p.0 in absurd cc
-    wilds-of (list ds s) h e p =
+    wilds-of : (d : Sexp) → IsSpelledSexp d → Passes (occurrences d) → wilds (reading ns pos d) ≡ underscores (occurrences d)
+    wilds-of (leaf (integer n) s) h p = refl
+    wilds-of (leaf (truth b) s) h p = refl
+    wilds-of (leaf (text t) s) h p = refl
+    wilds-of (leaf (symbol x) s) h p =
+        symbol-wilds x h (none_first (is_bad_symbol ns x) (leaf (symbol x) s) [] p.1.1).0 ∙ sym (plus-zero (if bytes_eq x (codes "_") then 1 else 0))
+    wilds-of (leaf (keyword k) s) h p = let q = p.0 in absurd cc
+    wilds-of (list ds s) h p =
         let k = head_among ds in
         shaped-wilds (is_shaped ds) (list ds s) ds (assembled k (names_among (roles_of k) ds) (items_among ns pos (roles_of k) ds)) (occurrences_among (roles_of k) ds) p
-        (λ f q. list-wilds k ds h e f q)
+        (λ f q. list-wilds k ds h f q)
 
     -- a list with its shape, by its head
-    list-wilds : (h : Head) (ds : Sexps) → AreSpelled ds → have_word_to_come ds ≡ false → fits (roles_of h) ds ≡ true → Passes (occurrences_among (roles_of h) ds) → wilds (assembled h (names_among (roles_of h) ds) (items_among ns pos (roles_of h) ds)) ≡ underscores (occurrences_among (roles_of h) ds)
-    list-wilds naming nil h e f p = absurd cc
-    list-wilds naming (cons w nil) h e f p = second-false (is_symbol w) _ f
-    list-wilds naming (cons w (cons x nil)) h e f p = second-false (is_symbol x) _ (and_true (is_symbol w) (is_symbol x && false) f).1
-    list-wilds naming (cons w (cons x (cons d nil))) h e f p =
-        let k = or_false (has_word_to_come w) (have_word_to_come (cons x (cons d nil))) e in
-        let l = or_false (has_word_to_come x) (have_word_to_come (cons d nil)) k.1 in
-        let m = or_false (has_word_to_come d) false l.1 in
+    list-wilds : (h : Head) (ds : Sexps) → AreSpelled ds → fits (roles_of h) ds ≡ true → Passes (occurrences_among (roles_of h) ds) → wilds (assembled h (names_among (roles_of h) ds) (items_among ns pos (roles_of h) ds)) ≡ underscores (occurrences_among (roles_of h) ds)
+    list-wilds naming nil h f p = absurd cc
+    list-wilds naming (cons w nil) h f p = second-false (is_symbol w) _ f
+    list-wilds naming (cons w (cons x nil)) h f p = second-false (is_symbol x) _ (and_true (is_symbol w) (is_symbol x && false) f).1
+    list-wilds naming (cons w (cons x (cons d nil))) h f p =
         let g = and_true (is_symbol x) true (and_true (is_symbol w) (is_symbol x && true) f).1 in
-        let q = passes-both (occurrences d) [] p in
-        bound-wilds (name_in x) (text_of x) (reading ns pos d) (named-once x g.0 h.1.0 l.0)
-        ∙ wilds-of d h.1.1.0 m.0 q.0
+        let n = none_first (is_bad_name (text_of x)) x (bad_binders (occurrences d ++ [])) p.1.0 in
+        let q = passes-both (occurrences d) [] (p.0, (n.1, p.1.1)) in
+        bound-wilds (name_in x) (text_of x) (reading ns pos d) (named-once x (bound-name x g.0 h.1.0 n.0))
+        ∙ wilds-of d h.1.1.0 q.0
         ∙ sym (underscores-append (occurrences d) [] ∙ plus-zero (underscores (occurrences d)))
         ∙ sym (zero-plus (underscores (occurrences d ++ [])))
-    list-wilds naming (cons w (cons x (cons d (cons c ds)))) h e f p = second-false (is_symbol x) _ (and_true (is_symbol w) (is_symbol x && false) f).1
-    list-wilds avoiding nil h e f p = refl
-    list-wilds avoiding (cons w ds) h e f p = sym (spelt-wilds ds)
-    list-wilds prefixing nil h e f p = absurd cc
-    list-wilds prefixing (cons w nil) h e f p = second-false (is_symbol w) _ f
-    list-wilds prefixing (cons w (cons x nil)) h e f p =
-        let k = or_false (has_word_to_come w) (have_word_to_come (cons x nil)) e in
-        let l = or_false (has_word_to_come x) false k.1 in
-        let g = and_true (is_symbol x) true (and_true (is_symbol w) (is_symbol x && true) f).1 in
-        prefixed-wilds (name_in x) (text_of x) (named-once x g.0 h.1.0 l.0)
-    list-wilds prefixing (cons w (cons x (cons d ds))) h e f p = second-false (is_symbol x) _ (and_true (is_symbol w) (is_symbol x && false) f).1
-    list-wilds plain nil h e f p = refl
-    list-wilds plain (cons d ds) h e f p =
-        let k = or_false (has_word_to_come d) (have_word_to_come ds) e in
-        items-step (every pattern) d ds p (λ q. wilds-of d h.0 k.0 q) (λ q. items-wilds ds h.1 k.1 q)
+    list-wilds naming (cons w (cons x (cons d (cons c ds)))) h f p = second-false (is_symbol x) _ (and_true (is_symbol w) (is_symbol x && false) f).1
+    list-wilds avoiding nil h f p = refl
+    list-wilds avoiding (cons w ds) h f p = sym (spelt-wilds ds)
+    list-wilds prefixing nil h f p = absurd cc
+    list-wilds prefixing (cons w nil) h f p = second-false (is_symbol w) _ f
+    list-wilds prefixing (cons w (cons x nil)) h f p =
+        let b = is_symbol x && not (is_word (codes "hole") x) in
+        let g = and_true b true (and_true (is_symbol w) (b && true) f).1 in
+        prefixed-wilds (name_in x) (text_of x) (named-once x (spelt-name x g.0 h.1.0))
+    list-wilds prefixing (cons w (cons x (cons d ds))) h f p =
+        let b = is_symbol x && not (is_word (codes "hole") x) in
+        second-false b _ (and_true (is_symbol w) (b && false) f).1
+    list-wilds splitting nil h f p = absurd cc
+    list-wilds splitting (cons w nil) h f p = second-false (is_symbol w) _ f
+    list-wilds splitting (cons w (cons d nil)) h f p = second-false (is_symbol w) _ f
+    list-wilds splitting (cons w (cons d (cons c nil))) h f p =
+        let q = passes-both (occurrences d) (occurrences c ++ []) p in
+        let r = passes-both (occurrences c) [] q.1 in
+        let a = wilds-of d h.1.0 q.0 in
+        let b = wilds-of c h.1.1.0 r.0 in
+        let u = underscores-append (occurrences d) (occurrences c ++ []) in
+        let v = underscores-append (occurrences c) [] in
+        omega (arith, a, b, u, v)
+    list-wilds splitting (cons w (cons d (cons c (cons b ds)))) h f p = second-false (is_symbol w) _ f
+    list-wilds hiding nil h f p = absurd cc
+    list-wilds hiding (cons w nil) h f p = second-false (is_symbol w) _ f
+    list-wilds hiding (cons w (cons d nil)) h f p =
+        let q = passes-both (occurrences d) [] p in
+        wilds-of d h.1.0 q.0 ∙ sym (underscores-append (occurrences d) [] ∙ plus-zero (underscores (occurrences d)))
+    list-wilds hiding (cons w (cons d (cons c ds))) h f p = second-false (is_symbol w) _ f
+    list-wilds plain nil h f p = refl
+    list-wilds plain (cons d ds) h f p = items-step (every pattern) d ds p (λ q. wilds-of d h.0 q) (λ q. items-wilds ds h.1 q)
 
     -- items that are patterns
-    items-wilds : (ds : Sexps) → AreSpelled ds → have_word_to_come ds ≡ false → Passes (occurrences_among (every pattern) ds) → item_wilds (items_among ns pos (every pattern) ds) ≡ underscores (occurrences_among (every pattern) ds)
-    items-wilds nil h e p = refl
-    items-wilds (cons d ds) h e p =
-        let k = or_false (has_word_to_come d) (have_word_to_come ds) e in
-        items-step (every pattern) d ds p (λ q. wilds-of d h.0 k.0 q) (λ q. items-wilds ds h.1 k.1 q)
-
--- what the first check passes has no word to come
-none_to_come : (d : Sexp) → unbuilt_at d ≡ None → has_word_to_come d ≡ false
-none_to_come d e = by_test (has_word_to_come d) e
-  where
-    by_test : (b : Bool) → (if b then Some (unnamed Unbuilt d) else None) ≡ None → b ≡ false
-    by_test true f = absurd cc
-    by_test false f = refl
+    items-wilds : (ds : Sexps) → AreSpelled ds → Passes (occurrences_among (every pattern) ds) → item_wilds (items_among ns pos (every pattern) ds) ≡ underscores (occurrences_among (every pattern) ds)
+    items-wilds nil h p = refl
+    items-wilds (cons d ds) h p = items-step (every pattern) d ds p (λ q. wilds-of d h.0 q) (λ q. items-wilds ds h.1 q)
 
 pub wilds_are_written : WildsAreWritten
 wilds_are_written ns pos d h e =
@@ -260,5 +265,7 @@ wilds_are_written ns pos d h e =
     let k = none_or (keyword_at (occurrences d)) _ f.1 in
     let l = none_or (bad_binder_at (occurrences d)) _ k.1 in
     let m = none_or (bad_occurrence_at ns (occurrences d)) None l.1 in
-    wilds-of ns pos d h (none_to_come d f.0)
-    (nothing (unnamed Shape) (keyword_faults (occurrences d)) k.0, nothing (unnamed BadPattern) (bad_occurrences ns (occurrences d)) m.0)
+    let keys = nothing (unnamed Shape) (keyword_faults (occurrences d)) k.0 in
+    let binders = nothing (named BadName) (bad_binders (occurrences d)) l.0 in
+    let others = nothing (unnamed BadPattern) (bad_occurrences ns (occurrences d)) m.0 in
+    wilds-of ns pos d h (keys, (binders, others))

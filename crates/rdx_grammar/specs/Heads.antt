@@ -1,7 +1,7 @@
 -- Lists of patterns by their heads: which words give a list a meaning of its own, and what each of its items is there for.
-use Rattle.std.specs.Prelude.{ℕ, Bool, true, false, ◌&&◌, List, Option, Some, None, codes, bytes_eq, if◌then◌else◌}
+use Rattle.std.specs.Prelude.{ℕ, Bool, true, false, not, ◌&&◌, List, Option, Some, None, codes, bytes_eq, if◌then◌else◌}
 use Rattle.rdx_sexp.specs.Sexp.{symbol, Sexp, Sexps, leaf, nil, cons}
-use Rattle.rdx_grammar.specs.Parts.{is_symbol}
+use Rattle.rdx_grammar.specs.Parts.{is_symbol, is_word}
 
 -- the kinds of lists
 pub data Head : Type 0 where
@@ -11,6 +11,10 @@ pub data Head : Type 0 where
   avoiding : Head
   -- `(variable-prefix x)`
   prefixing : Head
+  -- `(in-hole p q)`
+  splitting : Head
+  -- `(hide-hole p)`
+  hiding : Head
   -- every other list, item by item
   plain : Head
 
@@ -20,6 +24,8 @@ head_of x =
     if bytes_eq x (codes "name") then naming
     else if bytes_eq x (codes "variable-except") then avoiding
     else if bytes_eq x (codes "variable-prefix") then prefixing
+    else if bytes_eq x (codes "in-hole") then splitting
+    else if bytes_eq x (codes "hide-hole") then hiding
     else plain
 
 -- the kind of a list of these data
@@ -35,7 +41,7 @@ pub data Role : Type 0 where
   word : Role
   -- a symbol that is bound
   bound : Role
-  -- a symbol that stands for symbols: itself, or all that begin so
+  -- a symbol other than `hole` that stands for symbols: itself, or all that begin so
   spelt : Role
   -- a pattern
   pattern : Role
@@ -54,6 +60,8 @@ abbrev pub roles_of : Head → Roles
 roles_of naming = item word (item bound (item pattern done))
 roles_of avoiding = item word (every spelt)
 roles_of prefixing = item word (item spelt done)
+roles_of splitting = item word (item pattern (item pattern done))
+roles_of hiding = item word (item pattern done)
 roles_of plain = every pattern
 
 -- the role of the next item, where there may be one
@@ -79,7 +87,7 @@ abbrev pub suits : Option Role → Sexp → Bool
 suits None d = false
 suits (Some word) d = is_symbol d
 suits (Some bound) d = is_symbol d
-suits (Some spelt) d = is_symbol d
+suits (Some spelt) d = is_symbol d && not (is_word (codes "hole") d)
 suits (Some pattern) d = true
 
 -- the data may stand in these roles, one by one, and no other is missing

@@ -3,11 +3,11 @@ use Rattle.std.specs.Prelude.{ℕ, Bool, true, false, List, [], ◌∷◌, ◌++
 use Rattle.rdx_sexp.specs.Sexp.{Atom, integer, truth, text, symbol, keyword, Sexp, Sexps, leaf, list, nil, cons}
 use Rattle.rdx_term.specs.Spelling.{is_name}
 use Rattle.rdx_term.specs.Tree as tree
-use Rattle.rdx_lang.specs.Patterns.{Pattern, wild, of_kind, except, prefix, lit, nt, named, seq, Items}
+use Rattle.rdx_lang.specs.Patterns.{Pattern, wild, of_kind, except, prefix, hole, lit, nt, named, in_hole, hide_hole, seq, Items}
 use Rattle.rdx_lang.specs.Patterns as model
 use Rattle.rdx_lang.specs.declared.pattern.Kind.{Kind}
 use Rattle.rdx_lang.specs.declared.pattern.Ref.TheVariants.{Nt}
-use Rattle.rdx_grammar.specs.Heads.{Head, naming, avoiding, prefixing, plain, Role, word, bound, spelt, pattern, Roles, roles_of, head_among, next, rest, is_shaped}
+use Rattle.rdx_grammar.specs.Heads.{Head, naming, avoiding, prefixing, splitting, hiding, plain, Role, word, bound, spelt, pattern, Roles, roles_of, head_among, next, rest, is_shaped}
 use Rattle.rdx_grammar.specs.Kinds.{kind_of, is_among}
 use Rattle.rdx_grammar.specs.Names.{has_suffix, front}
 use Rattle.rdx_grammar.specs.Parts.{text_of}
@@ -44,10 +44,11 @@ abbrev pub by_base : List (List ℕ) → Position → List ℕ → Option Patter
 by_base ns pos x (Some p) = unsuffixed pos x p
 by_base ns pos x None = other_symbol ns x
 
--- a symbol: `_` matches everything and binds nothing; `hole`, which is no name, is refused
+-- a symbol: `_` matches everything, `hole` is the hole, and both bind nothing; every other symbol of a file is a name
 abbrev pub symbol_reading : List (List ℕ) → Position → List ℕ → Pattern
 symbol_reading ns pos x =
     if bytes_eq x (codes "_") then wild
+    else if bytes_eq x (codes "hole") then hole
     else if is_name x then by_base ns pos x (base ns x)
     else wild
 
@@ -97,8 +98,16 @@ only xs = None
 
 -- the item pattern of a list pattern of one
 abbrev pub only_item : Items → Option Pattern
+only_item model.nil = None
 only_item (model.one p model.nil) = Some p
-only_item ps = None
+only_item (model.one p (model.one q ps)) = None
+
+-- the item patterns of a list pattern of two
+abbrev pub only_items : Items → Option (Pattern × Pattern)
+only_items model.nil = None
+only_items (model.one p model.nil) = None
+only_items (model.one p (model.one q model.nil)) = Some (p, q)
+only_items (model.one p (model.one q (model.one r ps))) = None
 
 -- what begins with this name, where there is one
 abbrev pub prefixed : Option (List ℕ) → Pattern
@@ -111,11 +120,23 @@ bound_to None o = wild
 bound_to (Some x) None = wild
 bound_to (Some x) (Some p) = named x p
 
+-- a pattern for contexts with one for what stands in their hole, where there are both
+abbrev pub split_by : Option (Pattern × Pattern) → Pattern
+split_by None = wild
+split_by (Some x) = in_hole x.0 x.1
+
+-- this pattern with its contexts hidden, where there is one
+abbrev pub hidden : Option Pattern → Pattern
+hidden None = wild
+hidden (Some p) = hide_hole p
+
 -- a list with such a head, put together from the names and the patterns among its items
 abbrev pub assembled : Head → List (List ℕ) → Items → Pattern
 assembled naming xs ps = bound_to (only xs) (only_item ps)
 assembled avoiding xs ps = except xs
 assembled prefixing xs ps = prefixed (only xs)
+assembled splitting xs ps = split_by (only_items ps)
+assembled hiding xs ps = hidden (only_item ps)
 assembled plain xs ps = seq ps
 
 abbrev mutual

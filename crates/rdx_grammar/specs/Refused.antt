@@ -3,11 +3,11 @@ use Rattle.std.specs.Prelude.{◌≡◌, ℕ, List, [], ◌∷◌, Option, Some,
 use Rattle.rdx_sexp.specs.Sexp.{Sexp}
 use Rattle.rdx_lang.specs.Edges.{IsFree, IsFirstRecursive}
 use Rattle.rdx_lang.specs.Patterns.{Language}
-use Rattle.rdx_lang.specs.declared.pattern.Ref.TheVariants.{Nt}
+use Rattle.rdx_lang.specs.declared.pattern.Ref.{Ref}
 use Rattle.rdx_grammar.specs.Checks.{shape_faults, repeats, bad_names, bad_patterns}
 use Rattle.rdx_grammar.specs.Forms.{GrammarForm}
 use Rattle.rdx_grammar.specs.Languages.{language_over}
-use Rattle.rdx_grammar.specs.Nonterminals.{all_names}
+use Rattle.rdx_grammar.specs.Nonterminals.{all_names, called}
 use Rattle.rdx_grammar.specs.Refusal.{Refusal, unnamed, named, named_at, first, first_refusal}
 use Rattle.rdx_grammar.specs.Stands.{Stand, form_stands}
 use Rattle.rdx_grammar.specs.Unbuilt.{unbuilt_at}
@@ -50,8 +50,8 @@ refusal_over base d g =
     ∷ [])
 
 -- S7, LeftRecursive: the language of the form d is left-recursive at x; the place is that of the form
-abbrev pub recursion_at : Sexp → List ℕ → Refusal
-recursion_at d x = named_at LeftRecursive d x
+abbrev pub recursion_at : Sexp → Ref → Refusal
+recursion_at d x = named_at LeftRecursive d (called x)
 
 -- a form is the language L
 pub record IsLanguage (base : Language) (d : Sexp) (g : Option GrammarForm) (L : Language) : Type 0 where
@@ -64,4 +64,4 @@ pub record IsLanguage (base : Language) (d : Sexp) (g : Option GrammarForm) (L :
 -- a form is refused so
 pub data IsRefused (base : Language) (d : Sexp) (g : Option GrammarForm) (r : Refusal) : Type 0 where
   by_check : refusal_over base d g ≡ Some r → IsRefused base d g r
-  by_recursion : (parts : GrammarForm) (x : List ℕ) → refusal_over base d g ≡ None → g ≡ Some parts → IsFirstRecursive (language_over base parts) (Nt x) → r ≡ recursion_at d x → IsRefused base d g r
+  by_recursion : (parts : GrammarForm) (x : Ref) → refusal_over base d g ≡ None → g ≡ Some parts → IsFirstRecursive (language_over base parts) x → r ≡ recursion_at d x → IsRefused base d g r

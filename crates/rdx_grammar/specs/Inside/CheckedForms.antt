@@ -1,5 +1,5 @@
 -- A form that has passed the checks, and the check for left recursion that is left.
-use Rattle.std.specs.Prelude.{◌≡◌, ℕ, List, Option, Some, None, IsTrue, Result, Ok, Err}
+use Rattle.std.specs.Prelude.{◌≡◌, Option, Some, None, IsTrue, Result, Ok, Err}
 use Rattle.rdx_sexp.specs.Sexp.{Sexp, sexps}
 use Rattle.rdx_sexp.specs.Size.{AreSpelled}
 use Rattle.rdx_term.specs.Spelling.{is_name, is_symbol_spelling}
@@ -7,7 +7,7 @@ use Rattle.rdx_lang.specs.Checked.{language_in}
 use Rattle.rdx_lang.specs.Edges.{IsFree, IsFirstRecursive}
 use Rattle.rdx_lang.specs.Patterns.{Language}
 use Rattle.rdx_lang.specs.declared.checked.CheckedLang.{CheckedLang}
-use Rattle.rdx_lang.specs.declared.pattern.Ref.TheVariants.{Nt}
+use Rattle.rdx_lang.specs.declared.pattern.Ref.{Ref}
 use Rattle.rdx_grammar.specs.Forms.{GrammarForm}
 use Rattle.rdx_grammar.specs.Inside.AreNames.{AreNames}
 use Rattle.rdx_grammar.specs.Nonterminals.{names_in}
@@ -40,9 +40,9 @@ AreSpelledIn (Some g) = AreSpelledParts g
 
 -- a language is left-recursive, and refused so
 pub record IsRecursionRefusal (L : Language) (d : Sexp) (r : DefRefusal) : Type 0 where
-  pub name : List ℕ
-  pub recursive : IsFirstRecursive L (Nt name)
-  pub refused : refusal_of r ≡ recursion_at d name
+  pub nonterminal : Ref
+  pub recursive : IsFirstRecursive L nonterminal
+  pub refused : refusal_of r ≡ recursion_at d nonterminal
 
 -- the same, unless memory ran out
 abbrev pub IsRecursionFault : Language → Sexp → DefFault → Type 0

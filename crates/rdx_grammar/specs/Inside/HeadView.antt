@@ -1,5 +1,5 @@
 -- The heads and roles that values of the code stand for.
-use Rattle.rdx_grammar.specs.Heads.{Head, naming, avoiding, prefixing, plain, Role, word, bound, spelt, pattern, Roles, done, item, every}
+use Rattle.rdx_grammar.specs.Heads.{Head, naming, avoiding, prefixing, splitting, hiding, plain, Role, word, bound, spelt, pattern, Roles, done, item, every}
 use Rattle.rdx_grammar.specs.declared.patterns.heads.Head as code_head
 use Rattle.rdx_grammar.specs.declared.patterns.heads.Head.TheVariants as heads
 use Rattle.rdx_grammar.specs.declared.patterns.heads.Role as code_role
@@ -12,6 +12,8 @@ abbrev pub head_view : code_head.Head → Head
 head_view heads.Naming = naming
 head_view heads.Avoiding = avoiding
 head_view heads.Prefixing = prefixing
+head_view heads.Splitting = splitting
+head_view heads.Hiding = hiding
 head_view heads.Plain = plain
 
 -- what a role of the code is

@@ -22,6 +22,7 @@ fn has_alternatives(language: &Language, name: &str) -> bool
                     return !alternatives.is_empty();
                 }
             }
+            Ref::Cross(_, _) => {}
         }
     }
     false

@@ -3,7 +3,7 @@ ghost use Rattle.rdx_lang.specs.PatternView.{language_of};
 ghost use Rattle.rdx_lang.specs.WellFormed.{IsWellFormed};
 ghost use Rattle.rdx_grammar.specs.Inside.CheckedForms.{ChecksRecursion};
 
-use crate::patterns::nonterminals::ref_name;
+use crate::patterns::nonterminals::called;
 use crate::shape::refusal::named_at;
 use crate::shape::{DefFault, DefKind};
 use rdx_lang::{CheckedLang, Language};
@@ -23,7 +23,7 @@ pub(crate) fn checked(
     match rdx_leftrec::check(alloc, &language) {
         Ok(ranks) => Ok(CheckedLang::new(language, ranks)),
         Err(LeftRec::LeftRecursive(nonterminal)) => {
-            let name = ref_name(&nonterminal).text();
+            let name = called(&nonterminal).text();
             let refusal = named_at(alloc, DefKind::LeftRecursive, form, name)?;
             Err(DefFault::Refused(refusal))
         }

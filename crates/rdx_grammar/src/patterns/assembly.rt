@@ -51,6 +51,43 @@ fn bound_to(alloc: Global, name: Option<Name>, inner: Option<Pat>) -> Result<Pat
     }
 }
 
+// The patterns of a list of two items.
+fn only_items(mut items: Vec<Item>) -> Option<(Pat, Pat)>
+    ensures { option_map (λ ps. (pattern_of ps.0, pattern_of ps.1)) result
+        ≡ model.only_items (items_of (map slot_of items.items)) }
+{
+    match items.pop() {
+        Some(Item::One(right)) => {
+            let left = only_item(items)?;
+            Some((left, right))
+        }
+        None => None,
+    }
+}
+
+// The pattern for contexts with the one for what stands in their hole, where there are both.
+fn split_by(alloc: Global, parts: Option<(Pat, Pat)>) -> Result<Pat, NoMemory>
+    ensures { IfOk result (λ pat.
+        pattern_of pat
+        ≡ model.split_by (option_map (λ ps. (pattern_of ps.0, pattern_of ps.1)) parts)) }
+{
+    match parts {
+        Some((left, right)) => Ok(Pat::InHole(Box::new(alloc, left)?, Box::new(alloc, right)?)),
+        None => Ok(Pat::Wild),
+    }
+}
+
+// The pattern with its contexts hidden, where there is one.
+fn hidden(alloc: Global, inner: Option<Pat>) -> Result<Pat, NoMemory>
+    ensures { IfOk result (λ pat.
+        pattern_of pat ≡ model.hidden (option_map pattern_of inner)) }
+{
+    match inner {
+        Some(inner) => Ok(Pat::HideHole(Box::new(alloc, inner)?)),
+        None => Ok(Pat::Wild),
+    }
+}
+
 /// A list with such a head, of these names and items.
 pub(crate) fn assembled(
     alloc: Global,
@@ -69,6 +106,8 @@ pub(crate) fn assembled(
             Some(name) => Ok(Pat::Prefix(name)),
             None => Ok(Pat::Wild),
         },
+        Head::Splitting => split_by(alloc, only_items(items)),
+        Head::Hiding => hidden(alloc, only_item(items)),
         Head::Plain => Ok(Pat::Seq(items)),
     }
 }

@@ -4,7 +4,7 @@ ghost use Rattle.rdx_sexp.specs.Sexp.{sexps};
 ghost use Rattle.rdx_grammar.specs.Heads as model;
 ghost use Rattle.rdx_grammar.specs.Inside.HeadView.{head_view, role_view, roles_view};
 
-use crate::shape::is_symbol;
+use crate::shape::{is_symbol, is_word};
 use rdx_sexp::{Datum, Form};
 
 /// The kinds of lists.
@@ -16,6 +16,10 @@ pub(crate) enum Head {
     Avoiding,
     /// `(variable-prefix x)`
     Prefixing,
+    /// `(in-hole p q)`
+    Splitting,
+    /// `(hide-hole p)`
+    Hiding,
     /// every other list, item by item
     Plain,
 }
@@ -27,7 +31,7 @@ pub(crate) enum Role {
     Word,
     /// A symbol that is bound.
     Bound,
-    /// A symbol that stands for symbols.
+    /// A symbol other than `hole` that stands for symbols.
     Spelt,
     /// A pattern.
     Pattern,
@@ -58,6 +62,8 @@ fn head_of(text: &str) -> Head
         "name" => Head::Naming,
         "variable-except" => Head::Avoiding,
         "variable-prefix" => Head::Prefixing,
+        "in-hole" => Head::Splitting,
+        "hide-hole" => Head::Hiding,
         _ => Head::Plain,
     }
 }
@@ -83,6 +89,8 @@ pub(crate) fn roles_of(head: Head) -> Roles
         Head::Naming => Roles::Three(Role::Word, Role::Bound, Role::Pattern),
         Head::Avoiding => Roles::OneAndEvery(Role::Word, Role::Spelt),
         Head::Prefixing => Roles::Two(Role::Word, Role::Spelt),
+        Head::Splitting => Roles::Three(Role::Word, Role::Pattern, Role::Pattern),
+        Head::Hiding => Roles::Two(Role::Word, Role::Pattern),
         Head::Plain => Roles::Every(Role::Pattern),
     }
 }
@@ -131,7 +139,8 @@ fn suits(role: Option<Role>, d: &Datum) -> bool
 {
     match role {
         None => false,
-        Some(Role::Word | Role::Bound | Role::Spelt) => is_symbol(d),
+        Some(Role::Word | Role::Bound) => is_symbol(d),
+        Some(Role::Spelt) => is_symbol(d) && !is_word(d, "hole"),
         Some(Role::Pattern) => true,
     }
 }

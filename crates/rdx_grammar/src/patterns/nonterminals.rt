@@ -1,18 +1,28 @@
 // The names of a language's nonterminals.
-ghost use Rattle.std.specs.Prelude.{◌≡◌, ◌∷◌, [], IfOk};
+ghost use Rattle.std.specs.Prelude.{◌≡◌, ◌++◌, IfOk, OnOk};
 ghost use Rattle.rdx_lang.specs.Checked.{language_in};
-ghost use Rattle.rdx_grammar.specs.Nonterminals.{ref_names, names_of};
+ghost use Rattle.rdx_grammar.specs.Nonterminals.{ref_names, names_of, called};
 
 use rdx_lang::{CheckedLang, Ref};
 use rdx_term::{Name, NoMemory};
 use std::alloc::Global;
 
-/// The name of a nonterminal.
-pub(crate) fn ref_name(nonterminal: &Ref) -> &Name
-    ensures { ref_names nonterminal.now ≡ result.now ∷ [] }
+/// What a nonterminal is called in a refusal.
+pub(crate) fn called(nonterminal: &Ref) -> &Name
+    ensures { result.now ≡ called nonterminal.now }
 {
     match nonterminal {
-        Ref::Nt(name) => name,
+        Ref::Nt(name) | Ref::Cross(name, _) => name,
+    }
+}
+
+// Puts the name by which patterns name a nonterminal, where there is one, behind those that are there.
+fn add_name(nonterminal: &Ref, out: &mut Vec<Name>) -> Result<(), NoMemory>
+    ensures { OnOk result (out.new.items ≡ out.old.items ++ ref_names nonterminal.now) }
+{
+    match nonterminal {
+        Ref::Nt(name) => Ok(out.push(name.share()?)?),
+        Ref::Cross(_, _) => Ok(()),
     }
 }
 
@@ -22,7 +32,7 @@ pub(crate) fn language_names(alloc: Global, language: &CheckedLang) -> Result<Ve
 {
     let mut names = Vec::new(alloc);
     for (nonterminal, _) in &language.language().nts {
-        names.push(ref_name(nonterminal).share()?)?;
+        add_name(nonterminal, &mut names)?;
     }
     Ok(names)
 }

@@ -72,6 +72,9 @@ fn read_symbol(
     if text.as_str() == "_" {
         return Ok(Pat::Wild);
     }
+    if text.as_str() == "hole" {
+        return Ok(Pat::Hole);
+    }
     match Name::new(text.clone()?) {
         Some(name) => read_name(alloc, names, position, name),
         None => Ok(Pat::Wild),

@@ -12,10 +12,7 @@ fn is_form_word(text: &str) -> bool
 {
     matches!(
         text,
-        "hole"
-            | "in-hole"
-            | "hide-hole"
-            | "reduction-relation"
+        "reduction-relation"
             | "where"
             | "unquote"
             | "unquote-splicing"

@@ -1,0 +1,11 @@
+use Rattle.std.proofs.Common.{arith}
+use Rattle.std.proofs.lemmas.Grind.{common_steps}
+use Rattle.rdx_lang.proofs.PatternEquations.{slot_one}
+use Rattle.rdx_grammar.proofs.OneItem.{only_items-last}
+use Rattle.rdx_grammar.proofs.patterns.assembly.only_items.Goals as goal
+
+pub returns-in_err-left-in-Some-One : goal.returns-in_err-left-in-Some-One
+returns-in_err-left-in-Some-One c = grind (arith, common_steps, slot_one, only_items-last)
+
+pub returns-in_ok-left-in-Some-One : goal.returns-in_ok-left-in-Some-One
+returns-in_ok-left-in-Some-One c = grind (arith, common_steps, slot_one, only_items-last)
