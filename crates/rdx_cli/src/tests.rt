@@ -76,7 +76,7 @@ const PAIRS: &str =
 
 const PAIRS_MATCHED: &str = "match 1\n  e_1 = 1, e_2 = (2 3)\n";
 
-const ANSWERED: [(&str, &str); 5] = [
+const ANSWERED: [(&str, &str); 9] = [
     (PAIRS, PAIRS_MATCHED),
     ("", ""),
     // What two derivations bind alike is listed once.
@@ -96,9 +96,39 @@ const ANSWERED: [(&str, &str); 5] = [
          (redex-match M (e_1 e_2) (term (1 \"a\"))) (redex-match? L e (term \"a\"))",
         "match 1\n  e_1 = 1, e_2 = \"a\"\nmatches #f\n",
     ),
+    // Splits come with the paths of their contexts, and what is hidden splits nothing. A symbol that
+    // names nothing stands for itself, and binds nothing.
+    (
+        "(define-language A (e (+ e e) n) (n number) (E hole (+ E e) (+ n E)))\n\
+         (redex-decompose A E (term (+ 1 2))) (redex-decompose A (hide-hole E) (term (+ 1 2)))\n\
+         (redex-match A (in-hole E (+ n_1 n_2)) (term (+ (+ 1 2) (+ 3 4))))\n\
+         (redex-match A + (term +))",
+        "splits 3\n  hole at [] is (+ 1 2) with E = hole\n  \
+         (+ hole 2) at [1] is 1 with E = (+ hole 2)\n  \
+         (+ 1 hole) at [2] is 2 with E = (+ 1 hole)\n\
+         splits 0\nmatch 1\n  E = (+ hole (+ 3 4)), n_1 = 1, n_2 = 2\nmatch 1\n  -\n",
+    ),
+    // A name stands for a context with the path of its own hole, which counts where it stands twice.
+    (
+        "(define-language H (C hole (C any) (any C)))\n\
+         (redex-match H (in-hole C hole) (term (hole hole)))\n\
+         (redex-match H ((in-hole C hole) (in-hole C 1)) (term ((hole hole) (hole 1))))",
+        "match 2\n  C = (hole hole) at [0]\n  C = (hole hole) at [1]\n\
+         match 1\n  C = (hole hole) at [1]\n",
+    ),
+    (
+        "(define-language S (E hole (f E))) (redex-decompose S (in-hole E E) (term (f 1)))",
+        "splits 1\n  hole at [] is (f 1) with E = hole\n",
+    ),
+    // The context that is filled takes something of the term off, so that the right part may recur.
+    (
+        "(define-language L (E hole (in-hole F E)) (F (f hole)))\n\
+         (redex-match L E_1 (term (f (f hole))))",
+        "match 1\n  E_1 = (f (f hole))\n",
+    ),
 ];
 
-const REFUSED: [(&str, &str); 16] = [
+const REFUSED: [(&str, &str); 18] = [
     // These are no data.
     ("(term (1 2)", "refused F2 Unclosed at 1:1\n"),
     ("(term (1]", "refused F3 WrongClose at 1:9\n"),
@@ -143,6 +173,14 @@ const REFUSED: [(&str, &str); 16] = [
     (
         "(define-language L (e (name x e)))",
         "refused S7 LeftRecursive at 1:1 e\n",
+    ),
+    (
+        "(define-language L (E hole (in-hole E (e))))",
+        "refused S7 LeftRecursive at 1:1 E\n",
+    ),
+    (
+        "(define-language L (E hole (in-hole F E)) (F hole))",
+        "refused S7 LeftRecursive at 1:1 E\n",
     ),
 ];
 

@@ -2,10 +2,9 @@
 use Rattle.std.proofs.Common.{◌≡◌, ◌⊎◌, inl, inr, List, [], ◌∷◌, Option, Some, None, refl, ◌∙◌, ap}
 use Rattle.std.specs.Prelude.{option_map}
 use Rattle.rdx_sexp.specs.Sexp.{Sexp}
-use Rattle.rdx_lang.specs.Edges.{IsFree, IsFirstRecursive}
+use Rattle.rdx_lang.specs.Edges.{IsFree}
+use Rattle.rdx_lang.specs.Laws.{HasFirstRecursive, FreeOrRecursive}
 use Rattle.rdx_lang.specs.Patterns.{Language}
-use Rattle.rdx_lang.specs.declared.pattern.Ref.{Ref}
-use Rattle.rdx_lang.specs.declared.pattern.Ref.TheVariants.{Nt}
 use Rattle.rdx_grammar.specs.Forms.{GrammarForm, language_form, extension_form}
 use Rattle.rdx_grammar.specs.Languages.{empty_language, language_over}
 use Rattle.rdx_grammar.specs.Refusal.{Refusal, unnamed, or_else}
@@ -21,9 +20,7 @@ use Rattle.rdx_query.specs.Known.{Known, nothing, with_definition}
 use Rattle.rdx_query.specs.LanguageForms.{base_name, named_base, language_refusal}
 use Rattle.rdx_query.specs.Laws.{AreAccepted, AreRefused}
 use Rattle.rdx_query.specs.MatchForms.{QueryParts, query_parts, query_refusal, query_over}
-use Rattle.rdx_query.specs.Queries.{Query, matches, whether}
-use Rattle.rdx_lang.proofs.Recursion.{free_or_recursive}
-use Rattle.rdx_lang.specs.Laws.{HasFirstRecursive}
+use Rattle.rdx_query.specs.Queries.{Query, matches, whether, splits}
 
 -- there is a value
 record HasValue (A : Type 0) (o : Option A) : Type 0 where
@@ -68,6 +65,7 @@ query-parts K d (Some q) e = record { value = q; is = refl }
 question-means : (K : Known) (d : Sexp) (k : QueryKind) → question_refusal K d k ≡ None → HasValue Query (asked_query K d k)
 question-means K d kind.matches e = mapped (query_over K matches) (query_parts d) (query-parts K d (query_parts d) e)
 question-means K d kind.whether e = mapped (query_over K whether) (query_parts d) (query-parts K d (query_parts d) e)
+question-means K d kind.splits e = mapped (query_over K splits) (query_parts d) (query-parts K d (query_parts d) e)
 
 -- ---- forms
 
@@ -80,25 +78,7 @@ data Outcome (K : Known) (d : Sexp) : Type 0 where
 -- a language that the form defines is free of left recursion, or the form is refused
 by_freedom : (K : Known) (d : Sexp) (L : Language) → form_refusal K d ≡ None → form_definition K d ≡ Some (language L) → IsFree L ⊎ HasFirstRecursive L → Outcome K d
 by_freedom K d L p m (inl f) = defined (language L) (record { passes = p; means = m; sound = f })
-by_freedom K d L p m (inr h) = by_name h.nonterminal h.is_first
-  where
-    by_name : (x : Ref) → IsFirstRecursive L x → Outcome K d
-    by_name (Nt x) f = refused (recursion_at d x) (by_recursion L x p m f refl)
-
--- a form that passes its checks
-by_kind : (K : Known) (d : Sexp) (k : Option FormKind) → form_kind d ≡ k → refusal_by_kind K d k ≡ None → Outcome K d
-by_kind K d None f e = absurd cc
-by_kind K d (Some (defines k)) f e =
-    let m = definition-means K d k e in
-    by_freedom K d m.value (ap (refusal_by_kind K d) f ∙ e) (ap (definition_by_kind K d) f ∙ m.is) (free_or_recursive m.value)
-by_kind K d (Some (asks k)) f e =
-    let m = question-means K d k e in
-    asked m.value (record { passes = ap (refusal_by_kind K d) f ∙ e; means = ap (query_by_kind K d) f ∙ m.is })
-
--- a form
-by_checks : (K : Known) (d : Sexp) (o : Option Refusal) → form_refusal K d ≡ o → Outcome K d
-by_checks K d None e = by_kind K d (form_kind d) refl e
-by_checks K d (Some r) e = refused r (by_check e)
+by_freedom K d L p m (inr h) = refused (recursion_at d h.nonterminal) (by_recursion L h.nonterminal p m h.is_first refl)
 
 -- ---- files
 
@@ -130,15 +110,33 @@ by_outcome K d ds (defined x a) f = behind_definition K d ds x a (f (with_defini
 by_outcome K d ds (asked q a) f = behind_query K d ds q a (f K)
 by_outcome K d ds (refused r a) f = inr (record { refusal = r; refused = refuses_here a })
 
--- data are accepted or refused
-behind : (ds : List Sexp) (K : Known) → AcceptedBehind K ds ⊎ RefusedBehind K ds
-behind [] K = inl (record { known = K; queries = []; accepted = accepts_none })
-behind (d ∷ ds) K = by_outcome K d ds (by_checks K d (form_refusal K d) refl) (behind ds)
+-- ---- what becomes of a form and of a file, where each language is free of left recursion or has a first recursive nonterminal
 
--- a file is
-pub accepted_or_refused : (ds : List Sexp) → AreAccepted ds ⊎ AreRefused ds
-accepted_or_refused ds = whole (behind ds nothing)
-  where
-    whole : AcceptedBehind nothing ds ⊎ RefusedBehind nothing ds → AreAccepted ds ⊎ AreRefused ds
-    whole (inl a) = inl (record { known = a.known; queries = a.queries; accepted = a.accepted })
-    whole (inr r) = inr (record { refusal = r.refusal; refused = r.refused })
+module _ (decided : FreeOrRecursive) where
+  -- a form that passes its checks
+  by_kind : (K : Known) (d : Sexp) (k : Option FormKind) → form_kind d ≡ k → refusal_by_kind K d k ≡ None → Outcome K d
+  by_kind K d None f e = absurd cc
+  by_kind K d (Some (defines k)) f e =
+      let m = definition-means K d k e in
+      by_freedom K d m.value (ap (refusal_by_kind K d) f ∙ e) (ap (definition_by_kind K d) f ∙ m.is) (decided m.value)
+  by_kind K d (Some (asks k)) f e =
+      let m = question-means K d k e in
+      asked m.value (record { passes = ap (refusal_by_kind K d) f ∙ e; means = ap (query_by_kind K d) f ∙ m.is })
+
+  -- a form
+  by_checks : (K : Known) (d : Sexp) (o : Option Refusal) → form_refusal K d ≡ o → Outcome K d
+  by_checks K d None e = by_kind K d (form_kind d) refl e
+  by_checks K d (Some r) e = refused r (by_check e)
+
+  -- data are accepted or refused
+  behind : (ds : List Sexp) (K : Known) → AcceptedBehind K ds ⊎ RefusedBehind K ds
+  behind [] K = inl (record { known = K; queries = []; accepted = accepts_none })
+  behind (d ∷ ds) K = by_outcome K d ds (by_checks K d (form_refusal K d) refl) (behind ds)
+
+  -- a file is
+  pub accepted_or_refused : (ds : List Sexp) → AreAccepted ds ⊎ AreRefused ds
+  accepted_or_refused ds = whole (behind ds nothing)
+    where
+      whole : AcceptedBehind nothing ds ⊎ RefusedBehind nothing ds → AreAccepted ds ⊎ AreRefused ds
+      whole (inl a) = inl (record { known = a.known; queries = a.queries; accepted = a.accepted })
+      whole (inr r) = inr (record { refusal = r.refusal; refused = r.refused })

@@ -3,12 +3,13 @@ use Rattle.std.proofs.Common.{ℕ, Bool, true, false, List, [], ◌∷◌, refl}
 use Rattle.std.specs.Prelude.{IsTrue, ◌&&◌}
 use Rattle.rdx_query.specs.Answering.{IsAnswer, AreAnswers, no_answers, more_answers}
 use Rattle.rdx_query.specs.Known.{Known}
-use Rattle.rdx_query.specs.Queries.{Query, matches, whether}
+use Rattle.rdx_query.specs.Queries.{Query, matches, whether, splits}
 
 -- what a query states is met
 answer-met : (K : Known) (q : Query) (text : List ℕ) (met : Bool) → IsAnswer K q text met → IsTrue met
 answer-met K (matches name p t) text met a = a.is_met
 answer-met K (whether name p t) text met a = a.is_met
+answer-met K (splits name p t) text met a = a.is_met
 
 -- two facts together
 both_true : (a b : Bool) → IsTrue a → IsTrue b → IsTrue (a && b)

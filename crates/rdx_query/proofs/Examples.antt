@@ -1,30 +1,32 @@
 -- The worked examples hold.
-use Rattle.std.proofs.Common.{◌≡◌, ◌⊎◌, ℕ, pos, List, [], ◌∷◌, ◌++◌, None, inl, inr, refl, ap, sym, subst, codes, arith}
+use Rattle.std.proofs.Common.{◌≡◌, ◌⊎◌, ℕ, pos, List, [], ◌∷◌, ◌++◌, Some, None, inl, inr, refl, ap, sym, ◌∙◌, subst, codes, arith}
 use Rattle.std.specs.Str.{chars}
 use Rattle.std.specs.Prelude.{decimal, true}
 use Rattle.std.proofs.lemmas.Fmt.{decimal_digit}
 use Rattle.rdx_base.specs.declared.place.Span.{Span}
+use Rattle.std.specs.declared.cmp.Ordering.{Ordering}
+use Rattle.rdx_term.specs.Items.{put_at}
 use Rattle.rdx_term.specs.Tree as tree
 use Rattle.rdx_lang.specs.Bindings.{Pair, Binding}
 use Rattle.rdx_lang.specs.Bindings.{one as one_term}
+use Rattle.rdx_lang.specs.Decompositions.{Decomposition}
 use Rattle.rdx_lang.specs.Edges.{Reaches, at_once, further, edge_nt, IsFree, IsFirstRecursive}
 use Rattle.rdx_lang.specs.Join.{IsJoin}
 use Rattle.rdx_lang.proofs.JoinLaws.{one_join}
-use Rattle.rdx_lang.specs.Listing.{IsListing, Matches}
+use Rattle.rdx_lang.specs.Listing.{IsListing, Matches, SplitsInto, Splits}
 use Rattle.rdx_lang.specs.Members.{In, here, there}
-use Rattle.rdx_lang.specs.Order.{binding_cmp}
-use Rattle.rdx_lang.specs.Patterns.{Pattern, of_kind, lit, nt, named, seq, nil, one, Definition, Language}
-use Rattle.rdx_lang.specs.Rules.{Match, IsAlternative, match_kind, match_lit, match_nt, match_named, match_seq, match_none, match_one}
+use Rattle.rdx_lang.specs.Patterns.{Pattern, of_kind, hole, lit, nt, named, seq, nil, one, Definition, Language}
+use Rattle.rdx_lang.specs.Rules.{Match, MatchItems, SplitItems, IsAlternative, match_kind, match_lit, match_nt, match_named, match_seq, match_none, match_one, split_hole, split_seq, split_here, split_behind}
 use Rattle.rdx_lang.specs.declared.pattern.Kind.TheVariants.{Any}
 use Rattle.rdx_lang.specs.declared.pattern.Ref.{Ref}
 use Rattle.rdx_lang.specs.declared.pattern.Ref.TheVariants.{Nt}
-use Rattle.rdx_query.specs.AnswerText.{matches_text}
+use Rattle.rdx_query.specs.AnswerText.{matches_text, splits_text}
 use Rattle.rdx_query.specs.Answering.{no_answers, more_answers}
 use Rattle.rdx_query.specs.Definitions.{language}
-use Rattle.rdx_query.specs.Examples.{defines_L, AnswersInOrder, WholeAnswer, Inherited, FirstRefusedForm, EarlierLanguagesOnly, TakenName, HostExpression, FewItems, LeftRecursion}
+use Rattle.rdx_query.specs.Examples.{defines_L, marked_pair, AnswersInOrder, WholeAnswer, Inherited, OneSplit, OwnHole, OneHole, NoOwnHole, FirstRefusedForm, EarlierLanguagesOnly, TakenName, HostExpression, FilledTerm, FewItems, LeftRecursion}
 use Rattle.rdx_query.specs.File.{Defines, by_check, by_recursion, accepts_none, accepts_definition, accepts_query, refuses_here, refuses_behind_definition}
 use Rattle.rdx_query.specs.Known.{nothing}
-use Rattle.rdx_query.specs.Queries.{matches, whether}
+use Rattle.rdx_query.specs.Queries.{matches, whether, splits}
 
 -- ---- languages with one nonterminal e, whose alternatives are literals
 
@@ -83,8 +85,8 @@ defines s = record { passes = refl; means = refl; sound = free (codes "L") (1 �
 -- ---- listings
 
 -- the listing of one member
-one_alone : {R : Binding → Type 0} (b : Binding) → R b → ((c : Binding) → R c → c ≡ b) → IsListing binding_cmp (b ∷ []) R
-one_alone {R} b r only = record {
+one_alone : {A : Type 0} {cmp : A → A → Ordering} {R : A → Type 0} (b : A) → R b → ((c : A) → R c → c ≡ b) → IsListing cmp (b ∷ []) R
+one_alone {R = R} b r only = record {
   ascending = (tt, tt);
   sound = λ c i. subst R (sym (only_member c b i)) r;
   complete = λ c h. here (only c h);
@@ -189,6 +191,68 @@ none_listing = record { ascending = tt; sound = λ b i. elim i [ ]; complete = �
     none b (match_named (match_nt {x = y} {p = p} {c = c} a h) j) =
         no_match p c (only_member p (lit (tree.integer (pos 1))) (among_literals (codes "L") (1 ∷ []) y p a)) h
 
+-- ---- the query for a split
+
+-- `(hole any)`, and the term `(1 hole)`
+abbrev split_pattern : Pattern
+split_pattern = seq (one hole (one (named (codes "any") (of_kind Any)) nil))
+
+abbrev split_term : tree.Tree
+split_term = marked_pair (Some 1) (tree.integer (pos 1)) tree.hole
+
+-- any = hole
+abbrev binds_hole : Binding
+binds_hole = (codes "any", one_term tree.hole) ∷ []
+
+-- the split
+abbrev split : Decomposition
+split = record { context = marked_pair (Some 0) tree.hole tree.hole; part = tree.integer (pos 1); binding = binds_hole }
+
+-- a binding of one name joined with nothing, on either side
+nothing_before : IsJoin [] binds_hole binds_hole
+nothing_before = record { map = (tt, tt); sound = λ p i. inr i; left = λ p i. elim i [ ]; right = λ p i. i }
+
+nothing_after : IsJoin binds_hole [] binds_hole
+nothing_after = record { map = (tt, tt); sound = λ p i. inl i; left = λ p i. i; right = λ p i. elim i [ ] }
+
+-- `any` binds the second item
+only_second : (b : Binding) → MatchItems L (one (named (codes "any") (of_kind Any)) nil) (tree.cons tree.hole tree.nil) b → b ≡ binds_hole
+only_second b (match_one {c = c} (match_named (match_kind h) k) match_none j) =
+    let e : c ≡ binds_hole = one_join [] binds_hole c binds_hole k nothing_before in
+    one_join binds_hole [] b binds_hole (subst (λ (a : Binding). IsJoin a [] b) e j) nothing_after
+
+-- the first item alone splits, since `hole` does not match the first
+record IsOnlySplit (k : ℕ) (D s : tree.Tree) (b : Binding) : Type 0 where
+  pub place : k ≡ 0
+  pub context : D ≡ tree.hole
+  pub part : s ≡ tree.integer (pos 1)
+  pub binding : b ≡ binds_hole
+
+no_hole : (c : Binding) → Match L hole (tree.integer (pos 1)) c → ⊥
+no_hole c m = elim m [ ]
+
+only_item : (k : ℕ) (D s : tree.Tree) (b : Binding) →
+    SplitItems L (one hole (one (named (codes "any") (of_kind Any)) nil)) (tree.cons (tree.integer (pos 1)) (tree.cons tree.hole tree.nil)) k D s b → IsOnlySplit k D s b
+only_item k D s b (split_here {d = d} split_hole m j) = record {
+  place = refl;
+  context = refl;
+  part = refl;
+  binding = one_join [] binds_hole b binds_hole (subst (λ (a : Binding). IsJoin [] a b) (only_second d m) j) nothing_before;
+}
+only_item k D s b (split_behind {c = c} m r j) = absurd (no_hole c m)
+
+only_split : (d : Decomposition) → SplitsInto L split_pattern split_term d → d ≡ split
+only_split d (split_seq {k = k} {D = D} h e) =
+    let o = only_item k D d.part d.binding h in
+    let c : d.context ≡ marked_pair (Some 0) tree.hole tree.hole =
+    e ∙ (λ i. tree.list (Some (o.place i)) (put_at (tree.cons (tree.integer (pos 1)) (tree.cons tree.hole tree.nil)) (o.place i) (o.context i))) in
+    λ i. record { context = c i; part = o.part i; binding = o.binding i }
+
+split_listing : Splits L split_pattern split_term (split ∷ [])
+split_listing =
+    one_alone split
+    (split_seq (split_here split_hole (match_one (match_named (match_kind refl) nothing_before) match_none nothing_after) nothing_before) refl) only_split
+
 -- ---- what is printed
 
 one_digit : codes "1" ≡ decimal 1
@@ -198,11 +262,28 @@ two_digit : codes "2" ≡ decimal 2
 two_digit = sym (decimal_digit 2 (omega arith))
 
 first_printed : codes "match 1\n  any_x = 2, any_y = 1\n" ≡ matches_text (both ∷ [])
-first_printed = λ i. codes "match " ++ one_digit i ++ codes "\n"
-    ++ (codes "  " ++ ((codes "any_x" ++ codes " = " ++ two_digit i) ++ (codes ", " ++ (codes "any_y" ++ codes " = " ++ one_digit i) ++ [])) ++ codes "\n" ++ [])
+first_printed = λ i. codes "match" ++ codes " " ++ one_digit i ++ codes "\n"
+    ++ (codes "  " ++ ((codes "any_x" ++ codes " = " ++ two_digit i ++ []) ++ (codes ", " ++ (codes "any_y" ++ codes " = " ++ one_digit i ++ []) ++ [])) ++ codes "\n" ++ [])
 
 second_printed : codes "match 1\n  -\n" ≡ matches_text ([] ∷ [])
-second_printed = λ i. codes "match " ++ one_digit i ++ codes "\n" ++ (codes "  " ++ codes "-" ++ codes "\n" ++ [])
+second_printed = λ i. codes "match" ++ codes " " ++ one_digit i ++ codes "\n" ++ (codes "  " ++ codes "-" ++ codes "\n" ++ [])
+
+-- the places 0 and 1 of paths
+zero_digit : codes "0" ≡ decimal 0
+zero_digit = sym (decimal_digit 0 (omega arith))
+
+split_printed : codes "splits 1\n  (hole hole) at [0] is 1 with any = hole\n" ≡ splits_text (split ∷ [])
+split_printed = λ i. codes "splits" ++ codes " " ++ one_digit i ++ codes "\n"
+    ++ (codes "  " ++ (codes "(hole hole)" ++ (codes " at [" ++ (zero_digit i ++ []) ++ codes "]") ++ codes " is " ++ one_digit i ++ codes " with " ++ codes "any = hole") ++ codes "\n" ++ [])
+
+pub own_hole : OwnHole
+own_hole = sym (λ i. codes "(hole hole)" ++ (codes " at [" ++ (one_digit i ++ []) ++ codes "]"))
+
+pub one_hole : OneHole
+one_hole = refl
+
+pub no_own_hole : NoOwnHole
+no_own_hole = refl
 
 -- ---- the examples
 
@@ -253,6 +334,20 @@ inherited s = record {
       (record { found = binds (codes "e") 1 ∷ []; finds = record { language = M; known = refl; listing = e_listing (codes "M") }; printed = refl; is_met = refl }) no_answers;
 }
 
+pub one_split : OneSplit
+unfolding chars
+one_split s = record {
+  known = record { languages = L ∷ [] };
+  queries = splits (codes "L") split_pattern split_term ∷ [];
+  accepted = accepts_definition (defines s) (accepts_query (record { passes = refl; means = refl }) accepts_none);
+  answers =
+      more_answers (codes "splits 1\n  (hole hole) at [0] is 1 with any = hole\n") [] true true
+      (record { found = split ∷ []; finds = record { language = L; known = refl; listing = split_listing }; printed = split_printed; is_met = refl }) no_answers;
+}
+
+pub filled_term : FilledTerm
+filled_term s q = refuses_here (by_check refl)
+
 pub taken_name : TakenName
 taken_name s l = refuses_behind_definition (defines s) (refuses_here (by_check refl))
 
@@ -279,4 +374,4 @@ loops = record {
 
 pub left_recursion : LeftRecursion
 unfolding chars
-left_recursion s = refuses_here (by_recursion looping (codes "e") refl refl loops refl)
+left_recursion s = refuses_here (by_recursion looping (Nt (codes "e")) refl refl loops refl)

@@ -14,7 +14,7 @@ use Rattle.rdx_query.specs.Inside.Defining.{IsFormFault}
 use Rattle.rdx_query.specs.Inside.Sizes.{IsFormSize}
 use Rattle.rdx_query.specs.Inside.Steps.{Step, step_defines, step_asks}
 use Rattle.rdx_query.specs.Known.{Known, nothing, with_language, with_definition, language_among}
-use Rattle.rdx_query.specs.Queries.{Query, matches, whether, NamesKnown}
+use Rattle.rdx_query.specs.Queries.{Query, matches, whether, splits, NamesKnown}
 use Rattle.rdx_query.specs.Views.{AllNamesKnown, IsFileFault}
 use Rattle.rdx_query.proofs.ReadTerms.{drop-at}
 
@@ -34,6 +34,7 @@ named-more (L ∷ Ls) M x e = known-by (bytes_eq L.name x) L (language_among Ls 
 names_known-language : (K : Known) (M : Language) (q : Query) → NamesKnown K q → NamesKnown (with_language K M) q
 names_known-language K M (matches name p t) e = named-more K.languages M name e
 names_known-language K M (whether name p t) e = named-more K.languages M name e
+names_known-language K M (splits name p t) e = named-more K.languages M name e
 
 -- and behind whatever is defined
 pub names_known-more : (K : Known) (x : Defined) (q : Query) → NamesKnown K q → NamesKnown (with_definition K x) q

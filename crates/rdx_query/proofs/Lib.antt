@@ -3,6 +3,7 @@ pub mod OneReading
 pub mod OneText
 pub mod AllMet
 pub mod Keywords
+pub mod Contexts
 pub mod ReadTerms
 pub mod LanguageChecks
 pub mod FormNames

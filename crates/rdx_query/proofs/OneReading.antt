@@ -3,7 +3,6 @@ use Rattle.std.proofs.Common.{◌≡◌, List, [], ◌∷◌, Option, Some, None
 use Rattle.rdx_sexp.specs.Sexp.{Sexp}
 use Rattle.rdx_lang.specs.Edges.{IsFirstRecursive}
 use Rattle.rdx_lang.specs.Patterns.{Language}
-use Rattle.rdx_lang.specs.declared.pattern.Ref.TheVariants.{Nt}
 use Rattle.rdx_grammar.specs.Refusal.{Refusal}
 use Rattle.rdx_grammar.specs.Refused.{recursion_at}
 use Rattle.rdx_query.specs.Definitions.{Defined, language, IsSound}
@@ -12,7 +11,7 @@ use Rattle.rdx_query.specs.FormKinds.{FormKind, defines, asks, form_kind}
 use Rattle.rdx_query.specs.Forms.{form_refusal, form_definition, form_query, definition_by_kind, query_by_kind}
 use Rattle.rdx_query.specs.Known.{Known, with_definition}
 use Rattle.rdx_query.specs.Queries.{Query}
-use Rattle.rdx_lang.proofs.FirstRecursive.{first_recursive-one, first_recursive-free}
+use Rattle.rdx_lang.proofs.FirstRecursive.{first_recursive-same, first_recursive-free}
 
 -- ---- forms
 
@@ -53,7 +52,7 @@ one_form_refusal K d r q (by_check e) (by_recursion M y f m b g) = absurd (not_s
 one_form_refusal K d r q (by_recursion L x e l a g) (by_check f) = absurd (not_some (form_refusal K d) q e f)
 one_form_refusal K d r q (by_recursion L x e l a g) (by_recursion M y f m b h) =
     let k : L ≡ M = same_language L M (same_some (form_definition K d) (language L) (language M) l m) in
-    g ∙ ap (recursion_at d) (first_recursive-one M x y (subst (λ (N : Language). IsFirstRecursive N (Nt x)) k a) b) ∙ sym h
+    g ∙ ap (recursion_at d) (first_recursive-same M x y (subst (λ (N : Language). IsFirstRecursive N x) k a) b) ∙ sym h
 
 -- a form that defines something isn't refused
 defined_not_refused : (K : Known) (d : Sexp) (x : Defined) (r : Refusal) → Defines K d x → IsRefusedForm K d r → ⊥

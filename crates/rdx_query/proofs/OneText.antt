@@ -2,16 +2,17 @@
 use Rattle.std.proofs.Common.{◌≡◌, ◌++◌, ℕ, Bool, List, [], ◌∷◌, refl, ap, sym, ◌∙◌, subst}
 use Rattle.std.specs.Prelude.{◌&&◌}
 use Rattle.rdx_lang.specs.Bindings.{Binding}
-use Rattle.rdx_lang.specs.Laws.{OneListing}
-use Rattle.rdx_lang.specs.Listing.{Matches}
+use Rattle.rdx_lang.specs.Decompositions.{Decomposition}
+use Rattle.rdx_lang.specs.Laws.{OneListing, OneSplitsListing}
+use Rattle.rdx_lang.specs.Listing.{Matches, Splits}
 use Rattle.rdx_lang.specs.Patterns.{Pattern, Language}
 use Rattle.rdx_sexp.specs.Sexp.{Sexp}
 use Rattle.rdx_term.specs.Tree.{Tree}
-use Rattle.rdx_query.specs.AnswerText.{matches_text, whether_text}
+use Rattle.rdx_query.specs.AnswerText.{matches_text, whether_text, splits_text}
 use Rattle.rdx_query.specs.Answering.{IsAnswer, AreAnswers, no_answers, more_answers, Writes}
 use Rattle.rdx_query.specs.Known.{Known, nothing}
-use Rattle.rdx_query.specs.MatchAnswers.{Finds}
-use Rattle.rdx_query.specs.Queries.{Query, matches, whether}
+use Rattle.rdx_query.specs.MatchAnswers.{Finds, FindsSplits}
+use Rattle.rdx_query.specs.Queries.{Query, matches, whether, splits}
 use Rattle.rdx_query.proofs.OneReading.{accepts-one}
 
 -- what two answers have in common
@@ -23,12 +24,18 @@ pub record AreSame (t u : List ℕ) (m n : Bool) : Type 0 where
 both : (t u ts us : List ℕ) (m n ms ns : Bool) → AreSame t u m n → AreSame ts us ms ns → AreSame (t ++ ts) (u ++ us) (m && ms) (n && ns)
 both t u ts us m n ms ns a b = record { text = λ i. a.text i ++ b.text i; met = λ i. a.met i && b.met i }
 
-module _ (one_listing : OneListing) where
+module _ (one_listing : OneListing) (one_splits : OneSplitsListing) where
   -- one listing is found at most
   one_found : (K : Known) (name : List ℕ) (p : Pattern) (t : Tree) (bs cs : List Binding) → Finds K name p t bs → Finds K name p t cs → bs ≡ cs
   one_found K name p t bs cs a b =
       let k : a.language ≡ b.language = let e = a.known in let f = b.known in cc in
       one_listing b.language p t bs cs (subst (λ (L : Language). Matches L p t bs) k a.listing) b.listing
+
+  -- and one of splits
+  one_found_splits : (K : Known) (name : List ℕ) (p : Pattern) (t : Tree) (ds es : List Decomposition) → FindsSplits K name p t ds → FindsSplits K name p t es → ds ≡ es
+  one_found_splits K name p t ds es a b =
+      let k : a.language ≡ b.language = let e = a.known in let f = b.known in cc in
+      one_splits b.language p t ds es (subst (λ (L : Language). Splits L p t ds) k a.listing) b.listing
 
   -- a query has one answer at most
   one_answer : (K : Known) (q : Query) (t u : List ℕ) (m n : Bool) → IsAnswer K q t m → IsAnswer K q u n → AreSame t u m n
@@ -38,6 +45,10 @@ module _ (one_listing : OneListing) where
   }
   one_answer K (whether name p t) text other m n a b = record {
     text = a.printed ∙ ap whether_text (one_found K name p t a.found b.found a.finds b.finds) ∙ sym b.printed;
+    met = a.is_met ∙ sym b.is_met;
+  }
+  one_answer K (splits name p t) text other m n a b = record {
+    text = a.printed ∙ ap splits_text (one_found_splits K name p t a.found b.found a.finds b.finds) ∙ sym b.printed;
     met = a.is_met ∙ sym b.is_met;
   }
 

@@ -1,9 +1,13 @@
 -- Worked examples: short files, with the text that they write or their refusal. They are proved, as the clauses of `laws::worked_examples`.
-use Rattle.std.specs.Prelude.{ℕ, true, pos, List, [], ◌∷◌, codes}
+use Rattle.std.specs.Prelude.{◌≡◌, ℕ, true, pos, List, [], ◌∷◌, Option, Some, None, codes}
 use Rattle.rdx_base.specs.declared.place.Span.{Span}
 use Rattle.rdx_sexp.specs.Sexp.{Sexp, symbol, integer, leaf, list, sexps}
+use Rattle.rdx_term.specs.Tree as tree
+use Rattle.rdx_term.specs.Tree.{Tree}
+use Rattle.rdx_lang.specs.Bindings.{one}
 use Rattle.rdx_grammar.specs.Refusal.{unnamed, named, named_at}
 use Rattle.rdx_grammar.specs.declared.shape.fault.DefKind.TheVariants.{Unbuilt, Shape, UnknownLanguage, Duplicate, LeftRecursive}
+use Rattle.rdx_query.specs.AnswerText.{value_text}
 use Rattle.rdx_query.specs.Answering.{Writes}
 use Rattle.rdx_query.specs.File.{Refuses}
 use Rattle.rdx_query.specs.Known.{nothing}
@@ -34,9 +38,17 @@ defines_L s = defines s (word s (codes "L")) (number s 1)
 abbrev pub extends : Span → Sexp → Sexp
 extends s l = form s (word s (codes "define-extended-language") ∷ word s (codes "M") ∷ l ∷ form s (word s (codes "e") ∷ word s (codes "....") ∷ []) ∷ [])
 
+-- `(head l p (term t))`
+abbrev pub query : Span → List ℕ → Sexp → Sexp → Sexp → Sexp
+query s head l p t = form s (word s head ∷ l ∷ p ∷ form s (word s (codes "term") ∷ t ∷ []) ∷ [])
+
 -- `(redex-match l p (term t))`
 abbrev pub asks : Span → Sexp → Sexp → Sexp → Sexp
-asks s l p t = form s (word s (codes "redex-match") ∷ l ∷ p ∷ form s (word s (codes "term") ∷ t ∷ []) ∷ [])
+asks s l p t = query s (codes "redex-match") l p t
+
+-- `(redex-decompose l p (term t))`
+abbrev pub decomposes : Span → Sexp → Sexp → Sexp → Sexp
+decomposes s l p t = query s (codes "redex-decompose") l p t
 
 -- `(redex-match? x e (term n))`
 abbrev pub asks_e : Span → List ℕ → ℕ → Sexp
@@ -62,6 +74,30 @@ WholeAnswer = (s : Span) → Writes (defines_L s ∷ asks_e s (codes "L") 1 ∷ 
 abbrev pub Inherited : Type 0
 Inherited = (s : Span) → Writes (defines_L s ∷ extends s (word s (codes "L")) ∷ asks_e s (codes "M") 1 ∷ []) (codes "matches #t\n") true
 
+-- A split has its context, with the path of its own hole, and the part that stands there. The other hole is the term's own. So
+-- `(define-language L (e 1)) (redex-decompose L (hole any) (term (1 hole)))` writes these two lines.
+abbrev pub OneSplit : Type 0
+OneSplit = (s : Span) →
+    Writes (defines_L s ∷ decomposes s (word s (codes "L")) (form s (word s (codes "hole") ∷ word s (codes "any") ∷ [])) (form s (number s 1 ∷ word s (codes "hole") ∷ [])) ∷ [])
+    (codes "splits 1\n  (hole hole) at [0] is 1 with any = hole\n") true
+
+-- ---- how values are printed
+
+-- the list of two terms, with this mark
+abbrev pub marked_pair : Option ℕ → Tree → Tree → Tree
+marked_pair m t u = tree.list m (tree.cons t (tree.cons u tree.nil))
+
+-- a context with two holes has the path of its own hole behind it
+abbrev pub OwnHole : Type 0
+OwnHole = value_text (one (marked_pair (Some 1) tree.hole tree.hole)) ≡ codes "(hole hole) at [1]"
+
+-- one with one hole has not, and neither has a list with two holes and no mark, which is no context
+abbrev pub OneHole : Type 0
+OneHole = value_text (one (marked_pair (Some 0) tree.hole (tree.truth true))) ≡ codes "(hole #t)"
+
+abbrev pub NoOwnHole : Type 0
+NoOwnHole = value_text (one (marked_pair None tree.hole tree.hole)) ≡ codes "(hole hole)"
+
 -- ---- why files are refused
 
 -- The first form that is refused counts, although a later one is refused by a check with a lesser number: in
@@ -83,6 +119,14 @@ TakenName = (s l : Span) → Refuses nothing (defines_L s ∷ defines s (word l 
 abbrev pub HostExpression : Type 0
 HostExpression = (s : Span) →
     let query : Sexp = form s (word s (codes "redex-match") ∷ word s (codes "L") ∷ number s 1 ∷ number s 1 ∷ []) in
+    Refuses nothing (query ∷ []) (unnamed Unbuilt query)
+
+-- What only templates give a meaning is not built yet, however deep it stands in the term, and the whole query is refused: `(redex-match L 1
+-- (term ((in-hole 1 1))))`.
+abbrev pub FilledTerm : Type 0
+FilledTerm = (s q : Span) →
+    let filled : Sexp = form s (form s (word s (codes "in-hole") ∷ number s 1 ∷ number s 1 ∷ []) ∷ []) in
+    let query : Sexp = form q (word s (codes "redex-match") ∷ word s (codes "L") ∷ number s 1 ∷ form s (word s (codes "term") ∷ filled ∷ []) ∷ []) in
     Refuses nothing (query ∷ []) (unnamed Unbuilt query)
 
 -- A query has four items: `(redex-match L 1)`.

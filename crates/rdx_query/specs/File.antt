@@ -1,9 +1,9 @@
 -- What a file means, form by form, or the first refusal of its forms.
-use Rattle.std.specs.Prelude.{◌≡◌, ℕ, List, [], ◌∷◌, Some, None}
+use Rattle.std.specs.Prelude.{◌≡◌, List, [], ◌∷◌, Some, None}
 use Rattle.rdx_sexp.specs.Sexp.{Sexp}
 use Rattle.rdx_lang.specs.Edges.{IsFirstRecursive}
 use Rattle.rdx_lang.specs.Patterns.{Language}
-use Rattle.rdx_lang.specs.declared.pattern.Ref.TheVariants.{Nt}
+use Rattle.rdx_lang.specs.declared.pattern.Ref.{Ref}
 use Rattle.rdx_grammar.specs.Refusal.{Refusal}
 use Rattle.rdx_grammar.specs.Refused.{recursion_at}
 use Rattle.rdx_query.specs.Definitions.{Defined, language, IsSound}
@@ -25,7 +25,7 @@ pub record Asks (K : Known) (d : Sexp) (q : Query) : Type 0 where
 -- the form is refused, by a check of S0 to S5, or by S7, since its language is left-recursive
 pub data IsRefusedForm (K : Known) (d : Sexp) (r : Refusal) : Type 0 where
   by_check : form_refusal K d ≡ Some r → IsRefusedForm K d r
-  by_recursion : (L : Language) (x : List ℕ) → form_refusal K d ≡ None → form_definition K d ≡ Some (language L) → IsFirstRecursive L (Nt x) → r ≡ recursion_at d x → IsRefusedForm K d r
+  by_recursion : (L : Language) (x : Ref) → form_refusal K d ≡ None → form_definition K d ≡ Some (language L) → IsFirstRecursive L x → r ≡ recursion_at d x → IsRefusedForm K d r
 
 -- behind forms that define K, all forms are accepted; J is what all define together, and qs are the queries
 pub data Accepts : Known → List Sexp → Known → List Query → Type 0 where

@@ -8,10 +8,11 @@ pub data DefinitionKind : Type 0 where
   language : DefinitionKind
   extension : DefinitionKind
 
--- what a form asks: the bindings by which a pattern matches a term, or whether there are some
+-- what a form asks: the bindings by which a pattern matches a term, whether there are some, or what the pattern splits the term into
 pub data QueryKind : Type 0 where
   matches : QueryKind
   whether : QueryKind
+  splits : QueryKind
 
 -- what a form does
 pub data FormKind : Type 0 where
@@ -25,6 +26,7 @@ heads =
     ∷ (codes "define-extended-language", defines extension)
     ∷ (codes "redex-match", asks matches)
     ∷ (codes "redex-match?", asks whether)
+    ∷ (codes "redex-decompose", asks splits)
     ∷ []
 
 -- what a form with a head of this text does, by such a table

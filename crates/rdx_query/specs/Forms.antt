@@ -10,7 +10,7 @@ use Rattle.rdx_query.specs.FormKinds.{DefinitionKind, QueryKind, FormKind, defin
 use Rattle.rdx_query.specs.Known.{Known}
 use Rattle.rdx_query.specs.LanguageForms.{plain_refusal, plain_language, extension_refusal, extended_language}
 use Rattle.rdx_query.specs.MatchForms.{query_parts, query_refusal, match_query}
-use Rattle.rdx_query.specs.Queries.{Query, matches, whether}
+use Rattle.rdx_query.specs.Queries.{Query, matches, whether, splits}
 
 -- ---- definitions: a case for each kind
 
@@ -30,11 +30,13 @@ definition_of K d kind.extension = option_map language (extended_language K d)
 abbrev pub question_refusal : Known → Sexp → QueryKind → Option Refusal
 question_refusal K d kind.matches = query_refusal K d (query_parts d)
 question_refusal K d kind.whether = query_refusal K d (query_parts d)
+question_refusal K d kind.splits = query_refusal K d (query_parts d)
 
 -- the query that it asks, if it has the parts
 abbrev pub asked_query : Known → Sexp → QueryKind → Option Query
 asked_query K d kind.matches = match_query K matches d
 asked_query K d kind.whether = match_query K whether d
+asked_query K d kind.splits = match_query K splits d
 
 -- ---- forms
 

@@ -6,3 +6,4 @@ pub mod Defining
 pub mod Asking
 pub mod Steps
 pub mod Appending
+pub mod Contexts

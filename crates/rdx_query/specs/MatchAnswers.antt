@@ -1,10 +1,11 @@
--- The answers to queries that match a pattern against a term, from the rules of matching alone.
+-- The answers to queries that match a pattern against a term or split the term by it, from the rules of matching and splitting alone.
 use Rattle.std.specs.Prelude.{◌≡◌, ℕ, List, Bool, Some, IsTrue}
 use Rattle.rdx_term.specs.Tree.{Tree}
 use Rattle.rdx_lang.specs.Bindings.{Binding}
-use Rattle.rdx_lang.specs.Listing.{Matches}
+use Rattle.rdx_lang.specs.Decompositions.{Decomposition}
+use Rattle.rdx_lang.specs.Listing.{Matches, Splits}
 use Rattle.rdx_lang.specs.Patterns.{Pattern, Language}
-use Rattle.rdx_query.specs.AnswerText.{matches_text, whether_text}
+use Rattle.rdx_query.specs.AnswerText.{matches_text, whether_text, splits_text}
 use Rattle.rdx_query.specs.Known.{Known, language_named}
 
 -- found is the listing of the bindings by which p matches t, in the language of this name
@@ -12,6 +13,12 @@ pub record Finds (K : Known) (name : List ℕ) (p : Pattern) (t : Tree) (found :
   pub language : Language
   pub known : language_named K name ≡ Some language
   pub listing : Matches language p t found
+
+-- found is the listing of what p splits t into, in the language of this name
+pub record FindsSplits (K : Known) (name : List ℕ) (p : Pattern) (t : Tree) (found : List Decomposition) : Type 0 where
+  pub language : Language
+  pub known : language_named K name ≡ Some language
+  pub listing : Splits language p t found
 
 -- `redex-match` writes each binding that is found; nothing is stated that could be unmet
 pub record IsMatchesAnswer (K : Known) (name : List ℕ) (p : Pattern) (t : Tree) (text : List ℕ) (met : Bool) : Type 0 where
@@ -25,4 +32,11 @@ pub record IsWhetherAnswer (K : Known) (name : List ℕ) (p : Pattern) (t : Tree
   pub found : List Binding
   pub finds : Finds K name p t found
   pub printed : text ≡ whether_text found
+  pub is_met : IsTrue met
+
+-- `redex-decompose` writes each split that is found; nothing is stated that could be unmet
+pub record IsSplitsAnswer (K : Known) (name : List ℕ) (p : Pattern) (t : Tree) (text : List ℕ) (met : Bool) : Type 0 where
+  pub found : List Decomposition
+  pub finds : FindsSplits K name p t found
+  pub printed : text ≡ splits_text found
   pub is_met : IsTrue met

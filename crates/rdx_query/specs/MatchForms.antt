@@ -1,7 +1,7 @@
--- Forms that match a pattern against a term, `(head L p (term t))`: when they are refused, and what they ask else.
+-- Forms that match a pattern against a term or split the term by it, `(head L p (term t))`: when they are refused, and what they ask else.
 use Rattle.std.specs.Prelude.{ℕ, Bool, false, ◌||◌, List, [], ◌∷◌, ◌++◌, Option, Some, None, codes, option_map, if◌then◌else◌}
 use Rattle.rdx_sexp.specs.Meaning.{meaning}
-use Rattle.rdx_sexp.specs.Sexp.{Atom, symbol, Sexp, Sexps, leaf, list, nil, cons}
+use Rattle.rdx_sexp.specs.Sexp.{Atom, integer, truth, text, symbol, keyword, Sexp, Sexps, leaf, list, nil, cons}
 use Rattle.rdx_term.specs.Tree.{Tree, hole}
 use Rattle.rdx_lang.specs.Patterns.{Pattern}
 use Rattle.rdx_grammar.specs.Nonterminals.{names_of}
@@ -44,22 +44,31 @@ template_among o = None
 abbrev pub template_in : Sexp → Option Sexp
 template_in d = template_among (parts d)
 
--- ---- ellipses in terms
+-- ---- templates, which are not built yet: what they give a meaning in terms
 
 -- a symbol that begins like an ellipsis
 abbrev pub is_dotted_atom : Atom → Bool
+is_dotted_atom (integer n) = false
+is_dotted_atom (truth b) = false
+is_dotted_atom (text x) = false
 is_dotted_atom (symbol x) = begins_with_dots x
-is_dotted_atom a = false
+is_dotted_atom (keyword k) = false
 
--- such a symbol stands in the term, however deep
+-- the items of a list that begins with the symbol `in-hole`
+abbrev pub begins_in_hole : Sexps → Bool
+begins_in_hole nil = false
+begins_in_hole (cons d ds) = is_word (codes "in-hole") d
+
+-- such a symbol or such a list stands in the term, however deep
 abbrev mutual
-  pub has_dots : Sexp → Bool
-  has_dots (leaf a s) = is_dotted_atom a
-  has_dots (list ds s) = have_dots ds
+  pub has_template_to_come : Sexp → Bool
+  has_template_to_come (leaf a s) = is_dotted_atom a
+  has_template_to_come (list ds s) = begins_in_hole ds || have_template_to_come ds
 
-  pub have_dots : Sexps → Bool
-  have_dots nil = false
-  have_dots (cons d ds) = has_dots d || have_dots ds
+  -- or in one of several
+  pub have_template_to_come : Sexps → Bool
+  have_template_to_come nil = false
+  have_template_to_come (cons d ds) = has_template_to_come d || have_template_to_come ds
 
 -- ---- check by check
 
@@ -68,10 +77,10 @@ abbrev pub checked_parts : Option QueryParts → Option QueryParts
 checked_parts None = None
 checked_parts (Some q) = if is_symbol q.language then Some q else None
 
--- the fourth item of the query d isn't `(term t)`, or a symbol that begins like an ellipsis stands in t; such queries aren't built yet
+-- the fourth item of the query d isn't `(term t)`, or something of templates to come stands in t; such queries aren't built yet
 abbrev pub host_by : Sexp → Option Sexp → Option Refusal
 host_by d None = Some (unnamed Unbuilt d)
-host_by d (Some t) = if has_dots t then Some (unnamed Unbuilt d) else None
+host_by d (Some t) = if has_template_to_come t then Some (unnamed Unbuilt d) else None
 
 -- S0: the same, where the query has four items
 abbrev pub host_at : Sexp → Option QueryParts → Option Refusal

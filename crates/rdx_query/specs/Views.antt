@@ -12,7 +12,7 @@ use Rattle.rdx_query.specs.Queries as model
 use Rattle.rdx_query.specs.declared.file.CheckedFile.{CheckedFile}
 use Rattle.rdx_query.specs.declared.file.Program.{Program}
 use Rattle.rdx_query.specs.declared.file.Query.{Query}
-use Rattle.rdx_query.specs.declared.file.Query.TheVariants.{Match, Whether}
+use Rattle.rdx_query.specs.declared.file.Query.TheVariants.{Match, Whether, Decompose}
 
 -- what a program defines
 abbrev pub known_of : Program → Known
@@ -22,6 +22,7 @@ known_of p = record { languages = map language_in p.languages.items }
 abbrev pub query_of : Query → model.Query
 query_of (Match name p t) = model.matches name (pattern_in p) (tree_of t)
 query_of (Whether name p t) = model.whether name (pattern_in p) (tree_of t)
+query_of (Decompose name p t) = model.splits name (pattern_in p) (tree_of t)
 
 -- what a file defines
 abbrev pub known_in : CheckedFile → Known

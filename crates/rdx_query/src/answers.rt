@@ -1,12 +1,10 @@
 // The answers to the queries of a file.
 ghost use Rattle.std.specs.Prelude.{IfOk};
 ghost use Rattle.rdx_query.specs.Answering.{AreAnswers};
-ghost use Rattle.rdx_query.specs.Inside.Appending.{AppendsAnswer};
-ghost use Rattle.rdx_query.specs.Queries.{NamesKnown};
-ghost use Rattle.rdx_query.specs.Views.{AllNamesKnown, known_in, known_of, queries_of, query_of};
+ghost use Rattle.rdx_query.specs.Views.{AllNamesKnown, known_in, queries_of};
 
-use crate::match_answers::{answer_matches, answer_whether};
-use crate::{CheckedFile, Program, Query};
+use crate::CheckedFile;
+use crate::match_answers::write_answer;
 use rdx_match::Plain;
 use rdx_term::NoMemory;
 use std::alloc::Global;
@@ -20,23 +18,6 @@ pub struct Answered {
     pub met: bool,
 }
 
-// Appends the answer to a query, and says whether what it states is met.
-fn write_answer(
-    matcher: &mut Plain,
-    program: &Program,
-    query: &Query,
-    out: &mut Vec<u8>,
-) -> Result<bool, NoMemory>
-    requires { NamesKnown (known_of program.now) (query_of query.now) }
-    ensures { IfOk result (λ met. AppendsAnswer (known_of program.now) (query_of query.now)
-        out.old.items out.new.items met) }
-{
-    match query {
-        Query::Match(name, pat, term) => answer_matches(matcher, program, name, pat, term, out),
-        Query::Whether(name, pat, term) => answer_whether(matcher, program, name, pat, term, out),
-    }
-}
-
 /// The answers to the queries of a file, in their order, and whether all is met that it states.
 pub fn answer(alloc: Global, file: &CheckedFile) -> Result<Answered, NoMemory>
     requires { AllNamesKnown (known_in file.now) (queries_of file.now) }
@@ -47,7 +28,7 @@ pub fn answer(alloc: Global, file: &CheckedFile) -> Result<Answered, NoMemory>
     let mut transcript = Vec::new(alloc);
     let mut met = true;
     for query in &file.queries {
-        let is_met = write_answer(&mut matcher, &file.program, query, &mut transcript)?;
+        let is_met = write_answer(alloc, &mut matcher, &file.program, query, &mut transcript)?;
         met = met && is_met;
     }
     Ok(Answered { transcript, met })

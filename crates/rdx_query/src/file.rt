@@ -26,6 +26,8 @@ pub enum Query {
     Match(Name, CheckedPat, Term),
     /// Whether there are some.
     Whether(Name, CheckedPat, Term),
+    /// What the pattern splits the term into.
+    Decompose(Name, CheckedPat, Term),
 }
 
 /// A file that was accepted.

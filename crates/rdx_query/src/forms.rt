@@ -2,14 +2,14 @@
 ghost use Rattle.std.specs.Prelude.{◌≡◌, Some, map};
 ghost use Rattle.rdx_query.specs.FormKinds as forms;
 ghost use Rattle.rdx_query.specs.Inside.Defining.{DefinesBy};
-ghost use Rattle.rdx_query.specs.Inside.KindViews.{definition_kind_of, query_kind_of};
+ghost use Rattle.rdx_query.specs.Inside.KindViews.{definition_kind_of};
 ghost use Rattle.rdx_query.specs.Inside.Sizes.{IsFormSize};
-ghost use Rattle.rdx_query.specs.Inside.Steps.{StepsBy, AsksQuery};
+ghost use Rattle.rdx_query.specs.Inside.Steps.{StepsBy};
 ghost use Rattle.rdx_query.specs.Views.{known_of, query_of};
 
-use crate::kind::{DefinitionKind, FormKind, QueryKind, form_kind};
+use crate::kind::{DefinitionKind, FormKind, form_kind};
 use crate::language_forms::{define_extension, define_language};
-use crate::match_forms::{match_query, whether_query};
+use crate::match_forms::match_query;
 use crate::{Program, Query};
 use rdx_grammar::refusal::unnamed;
 use rdx_grammar::{DefFault, DefKind};
@@ -34,24 +34,6 @@ fn definition(
     }
 }
 
-// The query that a form of this kind asks.
-fn question(
-    alloc: Global,
-    program: &mut Program,
-    kind: QueryKind,
-    form: &Datum,
-) -> Result<Query, DefFault>
-    requires size { IsFormSize form.now }
-    requires kind { forms.form_kind form.now ≡ Some (forms.asks (query_kind_of kind)) }
-    ensures asks { AsksQuery (known_of program.old) form.now result }
-    ensures same { known_of program.new ≡ known_of program.old }
-{
-    match kind {
-        QueryKind::Match => match_query(alloc, program, form),
-        QueryKind::Whether => whether_query(alloc, program, form),
-    }
-}
-
 /// Adds what the form defines, or the query that it asks.
 pub(crate) fn read_form(
     alloc: Global,
@@ -69,7 +51,7 @@ pub(crate) fn read_form(
             Ok(program.languages.push(language)?)
         }
         Some(FormKind::Asks(kind)) => {
-            let query = question(alloc, program, kind, form)?;
+            let query = match_query(alloc, program, kind, form)?;
             Ok(queries.push(query)?)
         }
         None => Err(DefFault::Refused(unnamed(DefKind::Unbuilt, form))),

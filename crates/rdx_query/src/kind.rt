@@ -22,6 +22,8 @@ pub enum QueryKind {
     Match,
     /// Whether there are some: `redex-match?`.
     Whether,
+    /// What the pattern splits a term into: `redex-decompose`.
+    Decompose,
 }
 
 /// What a form does.
@@ -42,6 +44,7 @@ fn kind_by_text(head: &str) -> Option<FormKind>
         "define-extended-language" => Some(FormKind::Defines(DefinitionKind::Extension)),
         "redex-match" => Some(FormKind::Asks(QueryKind::Match)),
         "redex-match?" => Some(FormKind::Asks(QueryKind::Whether)),
+        "redex-decompose" => Some(FormKind::Asks(QueryKind::Decompose)),
         _ => None,
     }
 }

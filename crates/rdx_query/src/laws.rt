@@ -37,22 +37,32 @@ pub fn never_both_text_and_refusal()
 /// Data are accepted or refused.
 pub fn never_neither()
     ensures { NeverNeither }
-{}
+{
+    rdx_lang::laws::free_or_recursive();
+}
 
 /// Data write some text or are refused.
 pub fn some_text_or_refusal()
     ensures { SomeTextOrRefusal }
-{}
+{
+    rdx_lang::laws::free_or_recursive();
+    rdx_lang::laws::some_listing();
+}
 
 /// The examples of `specs/Examples.antt` hold.
 pub fn worked_examples()
     ensures answers_in_order { example.AnswersInOrder }
     ensures whole_answer { example.WholeAnswer }
     ensures inherited { example.Inherited }
+    ensures one_split { example.OneSplit }
+    ensures own_hole { example.OwnHole }
+    ensures one_hole { example.OneHole }
+    ensures no_own_hole { example.NoOwnHole }
     ensures first_refused_form { example.FirstRefusedForm }
     ensures earlier_languages_only { example.EarlierLanguagesOnly }
     ensures taken_name { example.TakenName }
     ensures host_expression { example.HostExpression }
+    ensures filled_term { example.FilledTerm }
     ensures few_items { example.FewItems }
     ensures left_recursion { example.LeftRecursion }
 {}

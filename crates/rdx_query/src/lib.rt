@@ -2,11 +2,10 @@
 //!
 //! A form defines something or asks something. [`check_file`] reads the forms of a file one after the other, and refuses the file at the
 //! first form that is refused. [`answer`] writes the answers to the queries of an accepted file. What a file means, and why it is refused,
-//! is in `specs/File.antt`; the answers, from the rules of matching alone, in `specs/Answering.antt`.
+//! is in `specs/File.antt`; the answers, from the rules of matching and splitting alone, in `specs/Answering.antt`.
 #![tactic(auto)]
 
 mod answers;
-mod dots;
 mod file;
 mod firsts;
 mod forms;
@@ -18,6 +17,7 @@ mod match_answers;
 mod match_forms;
 mod parts;
 mod refusals;
+mod templates;
 mod terms;
 #[cfg(test)]
 mod tests;

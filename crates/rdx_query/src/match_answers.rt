@@ -1,73 +1,55 @@
-// The answers to queries that match a pattern against a term.
-ghost use Rattle.std.specs.Prelude.{IfOk, IsSome};
-ghost use Rattle.rdx_lang.specs.Checked.{pattern_in};
-ghost use Rattle.rdx_lang.specs.Shown.{bindings_of};
-ghost use Rattle.rdx_term.specs.View.{tree_of};
+// The answers to queries that match a pattern against a term or split the term by it.
+ghost use Rattle.std.specs.Prelude.{◌≡◌, Some, IfOk, IsSome};
+ghost use Rattle.rdx_lang.specs.Checked.{language_in};
 ghost use Rattle.rdx_query.specs.Inside.Appending.{AppendsAnswer};
 ghost use Rattle.rdx_query.specs.Known.{language_named};
-ghost use Rattle.rdx_query.specs.MatchAnswers.{Finds};
-ghost use Rattle.rdx_query.specs.Queries as model;
-ghost use Rattle.rdx_query.specs.Views.{known_of};
+ghost use Rattle.rdx_query.specs.Queries.{NamesKnown};
+ghost use Rattle.rdx_query.specs.Views.{known_of, query_of};
 
-use crate::Program;
 use crate::known::place_named;
-use crate::texts::{write_matches, write_whether};
-use rdx_lang::{Binding, CheckedPat, Matcher};
+use crate::texts::{write_matches, write_splits, write_whether};
+use crate::{Program, Query};
+use rdx_lang::{CheckedLang, Matcher};
 use rdx_match::Plain;
-use rdx_term::{Name, NoMemory, Term};
+use rdx_term::{Name, NoMemory};
+use std::alloc::Global;
 
-// The bindings by which the pattern matches the term, in the language of this name.
-fn bindings(
-    matcher: &mut Plain,
-    program: &Program,
-    name: &Name,
-    pat: &CheckedPat,
-    term: &Term,
-) -> Result<Vec<Binding>, NoMemory>
+// The language of this name.
+fn language<'a>(program: &'a Program, name: &Name) -> &'a CheckedLang
     requires { IsSome (language_named (known_of program.now) name.now) }
-    ensures { IfOk result (λ found. Finds (known_of program.now) name.now (pattern_in pat.now)
-        (tree_of term.now) (bindings_of found.items)) }
+    ensures { language_named (known_of program.now) name.now ≡ Some (language_in result.now) }
 {
     match place_named(program, name.text()) {
-        Some(place) => matcher.matches(&program.languages[place], pat, term),
+        Some(place) => &program.languages[place],
         None => unreachable!(),
     }
 }
 
-/// Appends the answer to `redex-match`, and says that all is met.
-pub(crate) fn answer_matches(
+/// Appends the answer to a query, and says that all is met.
+pub(crate) fn write_answer(
+    alloc: Global,
     matcher: &mut Plain,
     program: &Program,
-    name: &Name,
-    pat: &CheckedPat,
-    term: &Term,
+    query: &Query,
     out: &mut Vec<u8>,
 ) -> Result<bool, NoMemory>
-    requires { IsSome (language_named (known_of program.now) name.now) }
-    ensures { IfOk result (λ met. AppendsAnswer (known_of program.now)
-        (model.matches name.now (pattern_in pat.now) (tree_of term.now))
+    requires { NamesKnown (known_of program.now) (query_of query.now) }
+    ensures { IfOk result (λ met. AppendsAnswer (known_of program.now) (query_of query.now)
         out.old.items out.new.items met) }
 {
-    let found = bindings(matcher, program, name, pat, term)?;
-    write_matches(&found, out)?;
-    Ok(true)
-}
-
-/// Appends the answer to `redex-match?`, and says that all is met.
-pub(crate) fn answer_whether(
-    matcher: &mut Plain,
-    program: &Program,
-    name: &Name,
-    pat: &CheckedPat,
-    term: &Term,
-    out: &mut Vec<u8>,
-) -> Result<bool, NoMemory>
-    requires { IsSome (language_named (known_of program.now) name.now) }
-    ensures { IfOk result (λ met. AppendsAnswer (known_of program.now)
-        (model.whether name.now (pattern_in pat.now) (tree_of term.now))
-        out.old.items out.new.items met) }
-{
-    let found = bindings(matcher, program, name, pat, term)?;
-    write_whether(&found, out)?;
+    match query {
+        Query::Match(name, pat, term) => {
+            let found = matcher.matches(language(program, name), pat, term)?;
+            write_matches(alloc, &found, out)?;
+        }
+        Query::Whether(name, pat, term) => {
+            let found = matcher.matches(language(program, name), pat, term)?;
+            write_whether(&found, out)?;
+        }
+        Query::Decompose(name, pat, term) => {
+            let found = matcher.splits(language(program, name), pat, term)?;
+            write_splits(alloc, &found, out)?;
+        }
+    }
     Ok(true)
 }

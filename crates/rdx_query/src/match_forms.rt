@@ -1,4 +1,4 @@
-// Forms that match a pattern against a term: their shape, their refusal and what they ask.
+// Forms that match a pattern against a term or split the term by it: their shape, their refusal and what they ask.
 ghost use Rattle.std.specs.Prelude.{◌≡◌, ◌<◌, Some, length, get_or, IfOk, IfErr};
 ghost use Rattle.rdx_lang.specs.Checked.{language_in};
 ghost use Rattle.rdx_lang.specs.declared.checked.CheckedLang.{CheckedLang};
@@ -8,17 +8,19 @@ ghost use Rattle.rdx_grammar.specs.Parts.{text_of};
 ghost use Rattle.rdx_sexp.specs.Size.{IsSpelledSexp};
 ghost use Rattle.rdx_query.specs.FormKinds as forms;
 ghost use Rattle.rdx_query.specs.Inside.Asking.{IsFaultAt, FitsBy, AsksBy};
+ghost use Rattle.rdx_query.specs.Inside.KindViews.{query_kind_of};
 ghost use Rattle.rdx_query.specs.Inside.Sizes.{IsFormSize};
 ghost use Rattle.rdx_query.specs.Inside.Steps.{AsksQuery};
 ghost use Rattle.rdx_query.specs.Known.{language_named};
 ghost use Rattle.rdx_query.specs.LanguageForms.{unknown_at};
 ghost use Rattle.rdx_query.specs.Views.{known_of};
 
-use crate::dots::has_dots;
 use crate::firsts::first_key_in;
+use crate::kind::QueryKind;
 use crate::known::place_named;
 use crate::parts::{query_parts, template};
 use crate::refusals::misshaped;
+use crate::templates::has_template_to_come;
 use crate::terms::term_of;
 use crate::{Program, Query};
 use rdx_grammar::refusal::{named, unnamed};
@@ -59,7 +61,7 @@ fn check_shape(form: &Datum) -> Result<Fit<'_>, DefFault>
     let Some(term) = template(parts.host) else {
         return Err(DefFault::Refused(unnamed(DefKind::Unbuilt, form)));
     };
-    if has_dots(term) {
+    if has_template_to_come(term) {
         return Err(DefFault::Refused(unnamed(DefKind::Unbuilt, form)));
     }
     if !is_symbol(parts.language) {
@@ -118,32 +120,22 @@ fn read_query(alloc: Global, program: &mut Program, form: &Datum) -> Result<Aske
     Ok(Asked { name, pat, term })
 }
 
-/// The query of a `redex-match` form.
+/// The query that a form of this kind asks.
 pub(crate) fn match_query(
     alloc: Global,
     program: &mut Program,
+    kind: QueryKind,
     form: &Datum,
 ) -> Result<Query, DefFault>
     requires size { IsFormSize form.now }
-    requires kind { forms.form_kind form.now ≡ Some (forms.asks forms.matches) }
+    requires kind { forms.form_kind form.now ≡ Some (forms.asks (query_kind_of kind)) }
     ensures asks { AsksQuery (known_of program.old) form.now result }
     ensures same { known_of program.new ≡ known_of program.old }
 {
     let Asked { name, pat, term } = read_query(alloc, program, form)?;
-    Ok(Query::Match(name, pat, term))
-}
-
-/// The query of a `redex-match?` form.
-pub(crate) fn whether_query(
-    alloc: Global,
-    program: &mut Program,
-    form: &Datum,
-) -> Result<Query, DefFault>
-    requires size { IsFormSize form.now }
-    requires kind { forms.form_kind form.now ≡ Some (forms.asks forms.whether) }
-    ensures asks { AsksQuery (known_of program.old) form.now result }
-    ensures same { known_of program.new ≡ known_of program.old }
-{
-    let Asked { name, pat, term } = read_query(alloc, program, form)?;
-    Ok(Query::Whether(name, pat, term))
+    match kind {
+        QueryKind::Match => Ok(Query::Match(name, pat, term)),
+        QueryKind::Whether => Ok(Query::Whether(name, pat, term)),
+        QueryKind::Decompose => Ok(Query::Decompose(name, pat, term)),
+    }
 }

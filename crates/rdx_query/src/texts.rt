@@ -1,65 +1,173 @@
 // The texts of answers.
-ghost use Rattle.std.specs.Prelude.{◌≡◌, ◌++◌, OnOk};
-ghost use Rattle.rdx_lang.specs.BindingView.{pair_of};
-ghost use Rattle.rdx_lang.specs.Shown.{binding_of, bindings_of};
+ghost use Rattle.std.specs.Prelude.{◌≡◌, ◌++◌, OnOk, IsTrue, decimal, map};
+ghost use Rattle.rdx_term.specs.Context.{is_context};
+ghost use Rattle.rdx_term.specs.View.{tree_of};
+ghost use Rattle.rdx_lang.specs.BindingView.{value_of, pair_of};
+ghost use Rattle.rdx_lang.specs.Shown.{binding_of, bindings_of, decomposition_of, decompositions_of};
 ghost use Rattle.rdx_query.specs.AnswerText as text;
+ghost use Rattle.rdx_query.specs.Inside.Contexts.{HaveContexts};
 
 use itoa::Buffer;
-use rdx_lang::{Binding, Value};
-use rdx_term::{Name, NoMemory, text_of};
+use rdx_fill::path_of;
+use rdx_lang::{Binding, Split, Value};
+use rdx_term::{Name, NoMemory, Term, text_of};
+use std::alloc::Global;
+
+// A number in decimal.
+fn write_number(number: usize, out: &mut Vec<u8>) -> Result<(), NoMemory>
+    ensures { OnOk result (out.new.items ≡ out.old.items ++ decimal number) }
+{
+    let mut buffer = Buffer::new();
+    out.extend_from_slice(buffer.format(number).as_bytes())?;
+    Ok(())
+}
+
+// The places of a path, with a space between two.
+fn write_places(places: &[usize], out: &mut Vec<u8>) -> Result<(), NoMemory>
+    ensures { OnOk result (out.new.items ≡ out.old.items ++ text.places_text places.now) }
+{
+    let [first, others @ ..] = places else {
+        return Ok(());
+    };
+    write_number(*first, out)?;
+    for place in others {
+        out.push(b' ')?;
+        write_number(*place, out)?;
+    }
+    Ok(())
+}
+
+// ` at [places]`, where a context has its own hole.
+fn write_at(alloc: Global, context: &Term, out: &mut Vec<u8>) -> Result<(), NoMemory>
+    requires { IsTrue (is_context (tree_of context.now)) }
+    ensures { OnOk result (out.new.items ≡ out.old.items ++ text.at_text (tree_of context.now)) }
+{
+    match path_of(alloc, context)? {
+        Some(places) => {
+            out.extend_from_slice(b" at [")?;
+            write_places(&places, out)?;
+            out.push(b']')?;
+            Ok(())
+        }
+        None => unreachable!(),
+    }
+}
+
+// The term that a name stands for; a context with other holes than its own with its path.
+fn write_value(alloc: Global, value: &Value, out: &mut Vec<u8>) -> Result<(), NoMemory>
+    ensures { OnOk result (out.new.items ≡ out.old.items ++ text.value_text (value_of value.now)) }
+{
+    let Value::One(term) = value;
+    text_of(term, out)?;
+    if term.is_context() && term.holes() > 1 {
+        write_at(alloc, term, out)?;
+    }
+    Ok(())
+}
 
 // `name = value`.
-fn write_pair(pair: &(Name, Value), out: &mut Vec<u8>) -> Result<(), NoMemory>
+fn write_pair(alloc: Global, pair: &(Name, Value), out: &mut Vec<u8>) -> Result<(), NoMemory>
     ensures { OnOk result (out.new.items ≡ out.old.items ++ text.pair_text (pair_of pair.now)) }
 {
-    let (name, Value::One(term)) = pair;
+    let (name, value) = pair;
     out.extend_from_slice(name.text().as_bytes())?;
     out.extend_from_slice(b" = ")?;
-    text_of(term, out)
+    write_value(alloc, value, out)
 }
 
 // The pairs with commas between, or `-` where there are none.
-fn write_binding(binding: &Binding, out: &mut Vec<u8>) -> Result<(), NoMemory>
-    ensures { OnOk result (out.new.items ≡ out.old.items ++ text.binding_text (binding_of binding.now)) }
+fn write_binding(alloc: Global, binding: &Binding, out: &mut Vec<u8>) -> Result<(), NoMemory>
+    ensures { OnOk result
+        (out.new.items ≡ out.old.items ++ text.binding_text (binding_of binding.now)) }
 {
     let [first, others @ ..] = binding.pairs() else {
         out.push(b'-')?;
         return Ok(());
     };
-    write_pair(first, out)?;
+    write_pair(alloc, first, out)?;
     for pair in others {
         out.extend_from_slice(b", ")?;
-        write_pair(pair, out)?;
+        write_pair(alloc, pair, out)?;
     }
     Ok(())
 }
 
-// One line a binding.
-fn write_lines(found: &[Binding], out: &mut Vec<u8>) -> Result<(), NoMemory>
-    ensures { OnOk result (out.new.items ≡ out.old.items ++ text.lines_text (bindings_of found.now)) }
+// A line for each binding.
+fn write_binding_lines(alloc: Global, found: &[Binding], out: &mut Vec<u8>) -> Result<(), NoMemory>
+    ensures { OnOk result (out.new.items ≡ out.old.items
+        ++ text.lines_text (map text.binding_text (bindings_of found.now))) }
 {
     for binding in found {
         out.extend_from_slice(b"  ")?;
-        write_binding(binding, out)?;
+        write_binding(alloc, binding, out)?;
+        out.push(b'\n')?;
+    }
+    Ok(())
+}
+
+// `context at [places] is part with binding`.
+fn write_split(alloc: Global, split: &Split, out: &mut Vec<u8>) -> Result<(), NoMemory>
+    requires { IsTrue (is_context (tree_of split.now.context)) }
+    ensures { OnOk result
+        (out.new.items ≡ out.old.items ++ text.split_text (decomposition_of split.now)) }
+{
+    text_of(&split.context, out)?;
+    write_at(alloc, &split.context, out)?;
+    out.extend_from_slice(b" is ")?;
+    text_of(&split.part, out)?;
+    out.extend_from_slice(b" with ")?;
+    write_binding(alloc, &split.binding, out)
+}
+
+// A line for each split.
+fn write_split_lines(alloc: Global, found: &[Split], out: &mut Vec<u8>) -> Result<(), NoMemory>
+    requires { HaveContexts (decompositions_of found.now) }
+    ensures { OnOk result (out.new.items ≡ out.old.items
+        ++ text.lines_text (map text.split_text (decompositions_of found.now))) }
+{
+    for split in found {
+        out.extend_from_slice(b"  ")?;
+        write_split(alloc, split, out)?;
         out.push(b'\n')?;
     }
     Ok(())
 }
 
 /// How many bindings there are, and then each.
-pub(crate) fn write_matches(found: &[Binding], out: &mut Vec<u8>) -> Result<(), NoMemory>
-    ensures { OnOk result (out.new.items ≡ out.old.items ++ text.matches_text (bindings_of found.now)) }
+pub(crate) fn write_matches(
+    alloc: Global,
+    found: &[Binding],
+    out: &mut Vec<u8>,
+) -> Result<(), NoMemory>
+    ensures { OnOk result
+        (out.new.items ≡ out.old.items ++ text.matches_text (bindings_of found.now)) }
 {
-    let mut buffer = Buffer::new();
     out.extend_from_slice(b"match ")?;
-    out.extend_from_slice(buffer.format(found.len()).as_bytes())?;
+    write_number(found.len(), out)?;
     out.push(b'\n')?;
-    write_lines(found, out)
+    write_binding_lines(alloc, found, out)
+}
+
+/// How many splits there are, and then each.
+pub(crate) fn write_splits(
+    alloc: Global,
+    found: &[Split],
+    out: &mut Vec<u8>,
+) -> Result<(), NoMemory>
+    requires { HaveContexts (decompositions_of found.now) }
+    ensures { OnOk result
+        (out.new.items ≡ out.old.items ++ text.splits_text (decompositions_of found.now)) }
+{
+    out.extend_from_slice(b"splits ")?;
+    write_number(found.len(), out)?;
+    out.push(b'\n')?;
+    write_split_lines(alloc, found, out)
 }
 
 /// Whether there are some.
 pub(crate) fn write_whether(found: &[Binding], out: &mut Vec<u8>) -> Result<(), NoMemory>
-    ensures { OnOk result (out.new.items ≡ out.old.items ++ text.whether_text (bindings_of found.now)) }
+    ensures { OnOk result
+        (out.new.items ≡ out.old.items ++ text.whether_text (bindings_of found.now)) }
 {
     match found {
         [] => out.extend_from_slice(b"matches #f\n")?,

@@ -18,7 +18,7 @@ use Rattle.rdx_grammar.specs.declared.shape.fault.DefFault.TheVariants.{Refused,
 use Rattle.rdx_grammar.specs.declared.patterns.position.Position.TheVariants as position
 use Rattle.rdx_query.specs.Known.{Known, language_named}
 use Rattle.rdx_query.specs.LanguageForms.{named_base}
-use Rattle.rdx_query.specs.MatchForms.{QueryParts, query_parts, template_in, has_dots, query_shape_at, checked_parts, host_at, query_refusal, term_of}
+use Rattle.rdx_query.specs.MatchForms.{QueryParts, query_parts, template_in, has_template_to_come, query_shape_at, checked_parts, host_at, query_refusal, term_of}
 use Rattle.rdx_query.specs.declared.match_forms.Asked.{Asked}
 use Rattle.rdx_query.specs.declared.match_forms.Fit.{Fit}
 
@@ -43,7 +43,7 @@ pub record IsFit (d l p t : Sexp) : Type 0 where
   pub host : Sexp
   pub parts : query_parts d ≡ Some (record { language = l; pattern = p; host = host })
   pub template : template_in host ≡ Some t
-  pub plain : has_dots t ≡ false
+  pub plain : has_template_to_come t ≡ false
   pub symbol : is_symbol l ≡ true
   pub built : unbuilt_at d ≡ None
   pub unkeyed : first (keyword_faults (occurrences p ++ keys t)) ≡ None

@@ -1,11 +1,11 @@
 -- What is answered to a form that defines a language.
-use Rattle.std.specs.Prelude.{◌≡◌, ℕ, Bool, true, false, List, Option, Some, None, option_map, is_some, Result, Ok, Err, if◌then◌else◌}
+use Rattle.std.specs.Prelude.{◌≡◌, Bool, true, false, Option, Some, None, option_map, is_some, Result, Ok, Err, if◌then◌else◌}
 use Rattle.rdx_sexp.specs.Sexp.{Sexp}
 use Rattle.rdx_lang.specs.Checked.{language_in}
 use Rattle.rdx_lang.specs.Edges.{IsFree, IsFirstRecursive}
 use Rattle.rdx_lang.specs.Patterns.{Language}
 use Rattle.rdx_lang.specs.declared.checked.CheckedLang.{CheckedLang}
-use Rattle.rdx_lang.specs.declared.pattern.Ref.TheVariants.{Nt}
+use Rattle.rdx_lang.specs.declared.pattern.Ref.{Ref}
 use Rattle.rdx_grammar.specs.Refusal.{refusal_of}
 use Rattle.rdx_grammar.specs.Forms.{GrammarForm}
 use Rattle.rdx_grammar.specs.Languages.{language_over}
@@ -55,7 +55,7 @@ pub record IsDefined (K : Known) (base : Language) (l0 : Option Sexp) (d : Sexp)
 -- a form with these parts is refused
 pub data IsRefusedLanguage (K : Known) (base : Language) (l0 : Option Sexp) (d : Sexp) (g : Option GrammarForm) (r : Refusal) : Type 0 where
   language_by_check : language_refusal K base l0 d g ≡ Some r → IsRefusedLanguage K base l0 d g r
-  language_by_recursion : (L : Language) (x : List ℕ) → language_refusal K base l0 d g ≡ None → option_map (language_over base) g ≡ Some L → IsFirstRecursive L (Nt x) → r ≡ recursion_at d x → IsRefusedLanguage K base l0 d g r
+  language_by_recursion : (L : Language) (x : Ref) → language_refusal K base l0 d g ≡ None → option_map (language_over base) g ≡ Some L → IsFirstRecursive L x → r ≡ recursion_at d x → IsRefusedLanguage K base l0 d g r
 
 -- the form is refused so, unless memory ran out
 abbrev pub IsLanguageFault : Known → Language → Option Sexp → Sexp → Option GrammarForm → DefFault → Type 0

@@ -5,7 +5,7 @@ use Rattle.rdx_query.specs.declared.kind.DefinitionKind.TheVariants.{Language, E
 use Rattle.rdx_query.specs.declared.kind.FormKind.{FormKind}
 use Rattle.rdx_query.specs.declared.kind.FormKind.TheVariants.{Defines, Asks}
 use Rattle.rdx_query.specs.declared.kind.QueryKind.{QueryKind}
-use Rattle.rdx_query.specs.declared.kind.QueryKind.TheVariants.{Match, Whether}
+use Rattle.rdx_query.specs.declared.kind.QueryKind.TheVariants.{Match, Whether, Decompose}
 
 -- what a form defines
 abbrev pub definition_kind_of : DefinitionKind → model.DefinitionKind
@@ -16,6 +16,7 @@ definition_kind_of Extension = model.extension
 abbrev pub query_kind_of : QueryKind → model.QueryKind
 query_kind_of Match = model.matches
 query_kind_of Whether = model.whether
+query_kind_of Decompose = model.splits
 
 -- what a form does
 abbrev pub kind_of : FormKind → model.FormKind

@@ -10,5 +10,5 @@ returns-in_ok-push-in-Some-Defines c =
 
 pub returns-in_ok-push-in-Some-Asks : goal.returns-in_ok-push-in-Some-Asks
 returns-in_ok-push-in-Some-Asks c =
-    query_step c.args.program.now c.question.new.program c.args.queries.now.items c.push-in-Some-Asks.new.self.items c.in_ok-query-in-Some-Asks.query c.args.form.now
+    query_step c.args.program.now c.match_query.new.program c.args.queries.now.items c.push-in-Some-Asks.new.self.items c.in_ok-query-in-Some-Asks.query c.args.form.now
     c.in_ok-query-in-Some-Asks.ensures.same c.in_ok-push-in-Some-Asks.ensures.items c.in_ok-query-in-Some-Asks.ensures.asks

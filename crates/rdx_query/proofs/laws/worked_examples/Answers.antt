@@ -1,4 +1,4 @@
-use Rattle.rdx_query.proofs.Examples.{answers_in_order, whole_answer, inherited, first_refused_form, earlier_languages_only, taken_name, host_expression, few_items, left_recursion}
+use Rattle.rdx_query.proofs.Examples.{answers_in_order, whole_answer, inherited, one_split, own_hole, one_hole, no_own_hole, first_refused_form, earlier_languages_only, taken_name, host_expression, filled_term, few_items, left_recursion}
 use Rattle.rdx_query.proofs.laws.worked_examples.Goals as goal
 
 pub returns-clause-answers_in_order : goal.returns-clause-answers_in_order
@@ -9,6 +9,18 @@ returns-clause-whole_answer c = whole_answer
 
 pub returns-clause-inherited : goal.returns-clause-inherited
 returns-clause-inherited c = inherited
+
+pub returns-clause-one_split : goal.returns-clause-one_split
+returns-clause-one_split c = one_split
+
+pub returns-clause-own_hole : goal.returns-clause-own_hole
+returns-clause-own_hole c = own_hole
+
+pub returns-clause-one_hole : goal.returns-clause-one_hole
+returns-clause-one_hole c = one_hole
+
+pub returns-clause-no_own_hole : goal.returns-clause-no_own_hole
+returns-clause-no_own_hole c = no_own_hole
 
 pub returns-clause-first_refused_form : goal.returns-clause-first_refused_form
 returns-clause-first_refused_form c = first_refused_form
@@ -21,6 +33,9 @@ returns-clause-taken_name c = taken_name
 
 pub returns-clause-host_expression : goal.returns-clause-host_expression
 returns-clause-host_expression c = host_expression
+
+pub returns-clause-filled_term : goal.returns-clause-filled_term
+returns-clause-filled_term c = filled_term
 
 pub returns-clause-few_items : goal.returns-clause-few_items
 returns-clause-few_items c = few_items
