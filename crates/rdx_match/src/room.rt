@@ -4,9 +4,10 @@ ghost use Rattle.std.specs.Prelude.{◌+◌, ◌≡◌, IfOk};
 use rdx_term::NoMemory;
 
 /// How many calls deep a search may go. Measured in the program as `./redex` builds it, such a call
-/// takes 224 bytes of the stack at a nonterminal, 240 at most at a name, and 320 at a list, of which
-/// a term has at most 500 inside one another. So a search this deep fills less than half of a stack
-/// of 8 MiB.
+/// takes 80 bytes of the stack at `hide-hole`, 208 at a nonterminal that is to match and 272 at one
+/// that is to split, 224 at most at a name, and 400 or 432 at `in-hole`. At a list it takes 768 at
+/// most, and a term has at most 500 lists inside one another. A context that is made takes 480 for
+/// each list around its hole. So a search this deep fills at most 7 MiB of a stack of 8.
 const DEEPEST: usize = 16_000;
 
 /// How many calls deeper a search may still go.
