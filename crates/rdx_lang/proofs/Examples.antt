@@ -21,7 +21,7 @@ use Rattle.rdx_lang.specs.Listing.{IsListing, SplitsInto}
 use Rattle.rdx_lang.specs.Members.{In, here, there}
 use Rattle.rdx_lang.proofs.NameLaws.{match-ascends, split-ascends, turned_join}
 use Rattle.rdx_lang.specs.Order.{value_cmp, decomposition_cmp}
-use Rattle.rdx_lang.specs.Model.TotalOrders.{value_cmp-total}
+use Rattle.rdx_lang.specs.Model.ValueOrder.{value_cmp-total}
 use Rattle.rdx_lang.specs.Patterns.{Pattern, of_kind, hole, nt, named, in_hole, seq, Items, Definition, Language}
 use Rattle.rdx_lang.specs.Rules.{is_of_kind, Match, IsAlternative, match_kind, match_hole, match_nt, match_named, match_in_hole, match_hide_hole, match_seq, match_none, match_one}
 use Rattle.rdx_lang.specs.Rules.{is_integer, Split, split_hole, split_nt, split_named, split_in_hole, split_seq, split_here, split_behind}

@@ -2,13 +2,16 @@
 use Rattle.std.proofs.Common.{◌≡◌, ℕ, Bool, true, false, inl, inr, List, [], ◌∷◌, refl, sym, ap, subst}
 use Rattle.std.specs.Prelude.{bytes_eq}
 use Rattle.std.specs.Cmp.Lexicographic.{bytes_decides}
+use Rattle.std.proofs.lemmas.Cmp.{tied_itself}
 use Rattle.std.specs.declared.cmp.Ordering.{Ordering}
 use Rattle.std.specs.declared.cmp.Ordering.TheVariants.{Less, Equal, Greater}
 use Rattle.rdx_term.specs.Order.{tree_cmp}
 use Rattle.rdx_term.specs.Tree.{Tree}
 use Rattle.rdx_term.proofs.OrderLaws.{tree_cmp-equal, tree_cmp-itself}
 use Rattle.rdx_lang.specs.Bindings.{Value, Pair, Binding, HasAscendingNames}
-use Rattle.rdx_lang.specs.Bindings.{one as one_term}
+use Rattle.rdx_lang.specs.Model.ValueOrder.{value_cmp-total}
+use Rattle.rdx_lang.specs.Order.{value_cmp}
+use Rattle.rdx_lang.proofs.OrderLaws.{value_cmp-tells}
 use Rattle.rdx_lang.specs.Join.{IsJoin, Agree}
 use Rattle.rdx_lang.specs.Members.{In, here, there}
 use Rattle.rdx_lang.proofs.Finite.{Finite, IsImage, finite_none, finite_one, finite_images}
@@ -27,11 +30,15 @@ same_terms t u = by_order (tree_cmp t u) refl
 
 -- so are two values
 same_values : (v w : Value) → Decided (v ≡ w)
-same_values (one_term t) (one_term u) = by_terms (same_terms t u)
+same_values v w = by_order (value_cmp v w) refl
   where
-    by_terms : Decided (t ≡ u) → Decided (one_term t ≡ one_term u)
-    by_terms (inl e) = inl (ap one_term e)
-    by_terms (inr n) = inr (λ e. let f : t ≡ u = cc in n f)
+    tied : v ≡ w → value_cmp v w ≡ Equal
+    tied e = subst (λ (z : Value). value_cmp v z ≡ Equal) e (tied_itself value_cmp-total v)
+
+    by_order : (r : Ordering) → value_cmp v w ≡ r → Decided (v ≡ w)
+    by_order Less e = inr (λ f. let g : value_cmp v w ≡ Equal = tied f in absurd cc)
+    by_order Equal e = inl (value_cmp-tells v w e)
+    by_order Greater e = inr (λ f. let g : value_cmp v w ≡ Equal = tied f in absurd cc)
 
 -- and two names
 same_names : (x y : List ℕ) → Decided (x ≡ y)

@@ -3,17 +3,17 @@ use Rattle.std.specs.Prelude.{◌≡◌, List, [], ◌∷◌}
 use Rattle.std.proofs.Common.{refl, sym, ◌∙◌, ap, subst}
 use Rattle.std.specs.declared.cmp.Ordering.{Ordering}
 use Rattle.std.specs.declared.cmp.Ordering.TheVariants.{Less, Equal, Greater}
-use Rattle.std.specs.Ordering.{ordering_then, is_eq}
-use Rattle.std.specs.Cmp.{IsTotalOrder}
+use Rattle.std.specs.Ordering.{ordering_then, is_eq, nat_cmp}
+use Rattle.std.specs.Cmp.{IsTotalOrder, unsigned_Decides, unsigned_tied}
 use Rattle.std.specs.Cmp.Lexicographic.{slice_cmp, texts_ties, bytes_decides}
 use Rattle.std.proofs.lemmas.Cmp.{tied_itself}
 use Rattle.rdx_term.proofs.OrderLaws.{tree_cmp-equal}
 use Rattle.rdx_term.specs.Order.{tree_cmp}
 use Rattle.rdx_lang.specs.Ascending.{IsBelow, IsAscending}
-use Rattle.rdx_lang.specs.Bindings.{one, name_cmp}
+use Rattle.rdx_lang.specs.Bindings.{one, many, len, none, more, name_cmp}
 use Rattle.rdx_lang.specs.Listing.{IsListing}
 use Rattle.rdx_lang.specs.Members.{In, here, there}
-use Rattle.rdx_lang.specs.Order.{value_cmp, pair_cmp, binding_cmp, decomposition_cmp, TellsApart}
+use Rattle.rdx_lang.specs.Order.{value_cmp, values_cmp, pair_cmp, binding_cmp, decomposition_cmp, TellsApart}
 
 -- ---- orders made of others
 
@@ -45,9 +45,32 @@ lists_tell cmp tells (x ∷ xs) (y ∷ ys) h =
 pub name_cmp-tells : TellsApart name_cmp
 name_cmp-tells x y h = (bytes_decides x y).0 (texts_ties x y ∙ ap is_eq h)
 
--- values that tie are equal
-pub value_cmp-tells : TellsApart value_cmp
-value_cmp-tells (one t) (one u) h = ap one (tree_cmp-equal t u h)
+-- numbers that tie are equal
+nat_cmp-tells : TellsApart nat_cmp
+nat_cmp-tells m n h = (unsigned_Decides m n).0 (sym (unsigned_tied m n) ∙ ap is_eq h)
+
+mutual
+  -- values that tie are equal
+  pub value_cmp-tells : TellsApart value_cmp
+  value_cmp-tells (one t) (one u) h = ap one (tree_cmp-equal t u h)
+  value_cmp-tells (many vs) (many ws) h = ap many (values_cmp-tells vs ws h)
+  value_cmp-tells (len m) (len n) h = ap len (nat_cmp-tells m n h)
+  value_cmp-tells (one t) (many ws) h = cc
+  value_cmp-tells (one t) (len n) h = cc
+  value_cmp-tells (many vs) (one u) h = cc
+  value_cmp-tells (many vs) (len n) h = cc
+  value_cmp-tells (len m) (one u) h = cc
+  value_cmp-tells (len m) (many ws) h = cc
+
+  -- so are sequences
+  values_cmp-tells : TellsApart values_cmp
+  values_cmp-tells none none h = refl
+  values_cmp-tells none (more w ws) h = cc
+  values_cmp-tells (more v vs) none h = cc
+  values_cmp-tells (more v vs) (more w ws) h =
+      let e : v ≡ w = value_cmp-tells v w (first_Equal (value_cmp v w) (values_cmp vs ws) h) in
+      let d : vs ≡ ws = values_cmp-tells vs ws (second_Equal (value_cmp v w) (values_cmp vs ws) h) in
+      λ i. more (e i) (d i)
 
 -- pairs that tie are equal
 pub pair_cmp-tells : TellsApart pair_cmp

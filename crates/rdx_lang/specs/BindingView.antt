@@ -2,13 +2,19 @@
 use Rattle.std.specs.Prelude.{ℕ, List, map, Option, Some, None}
 use Rattle.std.specs.Borrow.{Bor}
 use Rattle.rdx_term.specs.View.{tree_of}
-use Rattle.rdx_lang.specs.Bindings.{Value, one, Pair, Binding}
+use Rattle.rdx_lang.specs.Bindings.{Value, one, many, len, values, Pair, Binding}
 use Rattle.rdx_lang.specs.declared.binding.Value as code_value
-use Rattle.rdx_lang.specs.declared.binding.Value.TheVariants.{One}
+use Rattle.rdx_lang.specs.declared.binding.Value.TheOpen as layer
+
+-- a form of values, once its parts are known
+abbrev pub value_step : layer.Value-F Value → Value
+value_step (layer.One t) = one (tree_of t)
+value_step (layer.Many vs) = many (values vs.items)
+value_step (layer.Len n) = len n
 
 -- the value that a value of the code stands for
 abbrev pub value_of : code_value.Value → Value
-value_of (One t) = one (tree_of t)
+value_of = code_value.fold-Value Value value_step
 
 -- the pair that a pair of the code stands for
 abbrev pub pair_of : List ℕ × code_value.Value → Pair

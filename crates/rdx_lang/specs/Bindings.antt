@@ -7,9 +7,22 @@ use Rattle.rdx_term.specs.Tree.{Tree}
 use Rattle.rdx_lang.specs.Ascending.{IsAscending}
 use Rattle.rdx_lang.specs.Members.{In}
 
--- what a name stands for: one term
-pub data Value : Type 0 where
-  one : Tree → Value
+mutual
+  -- what a name stands for: one term; for each turn of a repetition what it stands for there; or how many turns a repetition has
+  pub data Value : Type 0 where
+    one : Tree → Value
+    many : Values → Value
+    len : ℕ → Value
+
+  -- values in their order
+  pub data Values : Type 0 where
+    none : Values
+    more : Value → Values → Values
+
+-- the same values, as a sequence
+abbrev pub values : List Value → Values
+values [] = none
+values (v ∷ vs) = more v (values vs)
 
 -- a name with its value
 abbrev pub Pair : Type 0

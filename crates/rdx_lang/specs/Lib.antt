@@ -12,6 +12,7 @@ pub mod Shown
 pub mod Checked
 pub mod Order
 pub mod Join
+pub mod Collections
 pub mod Literals
 pub mod Rules
 pub mod Empty

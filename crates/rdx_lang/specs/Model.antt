@@ -1,3 +1,4 @@
 pub mod AscendingProps
 pub mod RankProps
+pub mod ValueOrder
 pub mod TotalOrders

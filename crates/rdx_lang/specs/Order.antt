@@ -1,17 +1,34 @@
 -- The order of values, of bindings and of what a term is split into: bindings compare pair by pair, by the bytes of the name and then by
--- the value, a proper prefix first; values compare as terms do, marks included.
-use Rattle.std.specs.Prelude.{◌≡◌}
+-- the value, a proper prefix first; values compare by their kinds, one term before a sequence before a length, then terms as terms do, marks
+-- included, sequences value by value, a proper prefix first, and lengths by number.
+use Rattle.std.specs.Prelude.{◌≡◌, ℕ}
 use Rattle.std.specs.declared.cmp.Ordering.{Ordering}
-use Rattle.std.specs.declared.cmp.Ordering.TheVariants.{Equal}
-use Rattle.std.specs.Ordering.{ordering_then}
+use Rattle.std.specs.declared.cmp.Ordering.TheVariants.{Less, Equal, Greater}
+use Rattle.std.specs.Ordering.{ordering_then, nat_cmp}
 use Rattle.std.specs.Cmp.Lexicographic.{slice_cmp}
 use Rattle.rdx_term.specs.Order.{tree_cmp}
-use Rattle.rdx_lang.specs.Bindings.{Value, one, Pair, Binding, name_cmp}
+use Rattle.rdx_lang.specs.Bindings.{Value, one, many, len, Values, none, more, Pair, Binding, name_cmp}
 use Rattle.rdx_lang.specs.Decompositions.{Decomposition}
 
--- values by their terms
-abbrev pub value_cmp : Value → Value → Ordering
-value_cmp (one t) (one u) = tree_cmp t u
+-- the place of a value's kind in the order
+abbrev pub value_kind : Value → ℕ
+value_kind (one t) = 0
+value_kind (many vs) = 1
+value_kind (len n) = 2
+
+-- values of one kind by what they hold, and others by their kinds
+abbrev mutual
+  pub value_cmp : Value → Value → Ordering
+  value_cmp (one t) (one u) = tree_cmp t u
+  value_cmp (many vs) (many ws) = values_cmp vs ws
+  value_cmp (len m) (len n) = nat_cmp m n
+  value_cmp v w = nat_cmp (value_kind v) (value_kind w)
+
+  pub values_cmp : Values → Values → Ordering
+  values_cmp none none = Equal
+  values_cmp none (more w ws) = Less
+  values_cmp (more v vs) none = Greater
+  values_cmp (more v vs) (more w ws) = ordering_then (value_cmp v w) (values_cmp vs ws)
 
 -- pairs by their names, then by their values
 abbrev pub pair_cmp : Pair → Pair → Ordering

@@ -1,29 +1,47 @@
 // What names stand for.
+ghost use Rattle.std.specs.Prelude.{◌≡◌, IfOk, map};
 ghost use Rattle.rdx_lang.specs.Bindings.{HasAscendingNames};
 ghost use Rattle.rdx_lang.specs.Model.AscendingProps.{HasAscendingNames-prop};
-ghost use Rattle.rdx_lang.specs.BindingView.{pairs_of};
+ghost use Rattle.rdx_lang.specs.BindingView.{value_of, pairs_of};
 
 use rdx_term::{Name, NoMemory, Term};
 
 /// What a name stands for.
+#[cycle(value)]
 #[derive(Drop)]
 pub enum Value {
     /// One term.
     One(Term),
+    /// What it stands for in each turn of a repetition, in their order.
+    Many(Vec<Value>),
+    /// How many turns a repetition has.
+    Len(usize),
 }
 
 impl Value {
-    ghost use Rattle.std.specs.Prelude.{◌≡◌, IfOk};
-    ghost use Rattle.rdx_lang.specs.BindingView.{value_of};
-
     /// The same value.
+    #[cycle(share_value)]
     pub fn share(&self) -> Result<Value, NoMemory>
         ensures { IfOk result (λ v. value_of v ≡ value_of self.now) }
     {
         match self {
             Value::One(t) => Ok(Value::One(t.share()?)),
+            Value::Many(values) => Ok(Value::Many(share_values(values)?)),
+            Value::Len(n) => Ok(Value::Len(*n)),
         }
     }
+}
+
+// The same values.
+#[cycle(share_value)]
+fn share_values(values: &Vec<Value>) -> Result<Vec<Value>, NoMemory>
+    ensures { IfOk result (λ vs. map value_of vs.items ≡ map value_of values.now.items) }
+{
+    let mut shared = Vec::with_capacity(*values.allocator(), values.len())?;
+    for value in values {
+        shared.push(value.share()?)?;
+    }
+    Ok(shared)
 }
 
 /// A finite map from names to values: pairs, strictly ascending by the bytes of the names.
@@ -34,7 +52,6 @@ pub struct Binding {
 }
 
 impl Binding {
-    ghost use Rattle.std.specs.Prelude.{◌≡◌, IfOk};
     ghost use Rattle.rdx_lang.specs.Bindings.{value_at, IsValueAt};
     ghost use Rattle.rdx_lang.specs.BindingView.{found_value};
     ghost use Rattle.rdx_lang.specs.Shown.{binding_of};

@@ -1,6 +1,7 @@
 // The order of values, of bindings and of splits.
-ghost use Rattle.std.specs.Prelude.{◌≡◌};
-ghost use Rattle.rdx_lang.specs.Order.{value_cmp, pair_cmp, binding_cmp, decomposition_cmp};
+ghost use Rattle.std.specs.Prelude.{◌≡◌, map};
+ghost use Rattle.rdx_lang.specs.Bindings.{values};
+ghost use Rattle.rdx_lang.specs.Order.{value_kind, value_cmp, values_cmp, pair_cmp, binding_cmp, decomposition_cmp};
 ghost use Rattle.rdx_lang.specs.BindingView.{value_of, pair_of};
 ghost use Rattle.rdx_lang.specs.Shown.{binding_of, decomposition_of};
 
@@ -8,15 +9,48 @@ use crate::{Binding, Split, Value};
 use rdx_term::Name;
 use std::cmp::Ordering;
 
+// The place of a value's kind in the order.
+fn kind(value: &Value) -> u8
+    ensures { result ≡ value_kind (value_of value.now) }
+{
+    match value {
+        Value::One(_) => 0,
+        Value::Many(_) => 1,
+        Value::Len(_) => 2,
+    }
+}
+
 impl Value {
-    /// Values compare as their terms do, marks included.
+    /// Values compare by their kinds, one term before a sequence before a length; then terms as terms
+    /// do, marks included, sequences value by value, a proper prefix first, and lengths by number.
+    #[cycle(compare_value)]
     pub fn compare(&self, other: &Value) -> Ordering
         ensures { result ≡ value_cmp (value_of self.now) (value_of other.now) }
     {
         match (self, other) {
             (Value::One(a), Value::One(b)) => a.compare(b),
+            (Value::Many(a), Value::Many(b)) => compare_values(a, b),
+            (Value::Len(a), Value::Len(b)) => a.cmp(b),
+            (Value::One(_), Value::Many(_) | Value::Len(_))
+            | (Value::Many(_), Value::One(_) | Value::Len(_))
+            | (Value::Len(_), Value::One(_) | Value::Many(_)) => kind(self).cmp(&kind(other)),
         }
     }
+}
+
+// Sequences compare value by value, a proper prefix first.
+#[cycle(compare_value)]
+fn compare_values(a: &[Value], b: &[Value]) -> Ordering
+    ensures { result ≡ values_cmp (values (map value_of a.now)) (values (map value_of b.now)) }
+{
+    let shorter = a.len().min(b.len());
+    for i in 0..shorter {
+        let order = a[i].compare(&b[i]);
+        if order != Ordering::Equal {
+            return order;
+        }
+    }
+    a.len().cmp(&b.len())
 }
 
 fn compare_pairs(a: &(Name, Value), b: &(Name, Value)) -> Ordering

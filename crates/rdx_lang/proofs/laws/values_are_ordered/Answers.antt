@@ -1,4 +1,4 @@
-use Rattle.rdx_lang.specs.Model.TotalOrders.{value_cmp-total}
+use Rattle.rdx_lang.specs.Model.ValueOrder.{value_cmp-total}
 use Rattle.rdx_lang.proofs.OrderLaws.{value_cmp-tells}
 use Rattle.rdx_lang.proofs.laws.values_are_ordered.Goals as goal
 

@@ -1,0 +1,20 @@
+-- What a repetition binds: each name to the sequence of what it stands for in each turn.
+use Rattle.std.specs.Prelude.{◌≡◌, ℕ, List, [], ◌∷◌}
+use Rattle.rdx_lang.specs.Bindings.{Value, many, Values, none, more, Binding, pairs, bound_names}
+use Rattle.rdx_lang.specs.Members.{In}
+
+-- vs is what the name x stands for in each of these bindings, in their order
+pub data AreValuesOf (x : List ℕ) : List Binding → Values → Type 0 where
+  of_none : AreValuesOf x [] none
+  of_more : {b : Binding} {bs : List Binding} {v : Value} {vs : Values} → In (x, v) (pairs b) → AreValuesOf x bs vs → AreValuesOf x (b ∷ bs) (more v vs)
+
+-- the value is such a sequence
+pub record IsSequenceOf (x : List ℕ) (bs : List Binding) (v : Value) : Type 0 where
+  pub sequence : Values
+  pub same : v ≡ many sequence
+  pub values : AreValuesOf x bs sequence
+
+-- c binds exactly these names, each to the sequence of what it stands for in the bindings bs
+pub record IsCollection (xs : List (List ℕ)) (bs : List Binding) (c : Binding) : Type 0 where
+  pub names : bound_names c ≡ xs
+  pub sequences : (x : List ℕ) (v : Value) → In (x, v) (pairs c) → IsSequenceOf x bs v
