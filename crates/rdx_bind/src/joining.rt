@@ -1,0 +1,92 @@
+// The join of two bindings: one pass over the pairs of both.
+ghost use Rattle.std.specs.Prelude.{◌≡◌, ◌↔◌, ◌∷◌, [], ◌++◌, drop, IfOk, IfSome, IfNone, IsTrue, OnOk};
+ghost use Rattle.rdx_lang.specs.Bindings.{name_cmp};
+ghost use Rattle.rdx_lang.specs.BindingView.{pair_of, pairs_of};
+ghost use Rattle.rdx_lang.specs.Join.{IsJoin};
+ghost use Rattle.rdx_lang.specs.Shown.{binding_of};
+
+use rdx_lang::{Binding, Value};
+use rdx_term::{Name, NoMemory};
+use std::alloc::Global;
+use std::cmp::Ordering;
+
+// The order of the names of two pairs.
+fn compare_names(a: &(Name, Value), b: &(Name, Value)) -> Ordering
+    ensures { result ≡ name_cmp a.now.0 b.now.0 }
+{
+    a.0.text().cmp(b.0.text())
+}
+
+// Whether two pairs have one value, marks included.
+fn have_one_value(a: &(Name, Value), b: &(Name, Value)) -> bool
+    ensures { IsTrue result ↔ ((pair_of a.now).1 ≡ (pair_of b.now).1) }
+{
+    match a.1.compare(&b.1) {
+        Ordering::Equal => true,
+        Ordering::Less | Ordering::Greater => false,
+    }
+}
+
+// Puts the pair behind the others.
+fn push_pair(pairs: &mut Vec<(Name, Value)>, pair: &(Name, Value)) -> Result<(), NoMemory>
+    ensures { OnOk result (pairs_of pairs.new.items ≡ pairs_of pairs.old.items ++ pair_of pair.now ∷ []) }
+{
+    let (name, value) = pair;
+    pairs.push((name.share()?, value.share()?))?;
+    Ok(())
+}
+
+// Puts all pairs from this place on behind the others.
+fn push_rest(
+    pairs: &mut Vec<(Name, Value)>,
+    all: &[(Name, Value)],
+    from: usize,
+) -> Result<(), NoMemory>
+    ensures { OnOk result (pairs_of pairs.new.items
+        ≡ pairs_of pairs.old.items ++ pairs_of (drop from all.now)) }
+{
+    for i in from..all.len() {
+        push_pair(pairs, &all[i])?;
+    }
+    Ok(())
+}
+
+/// The binding with exactly the pairs of both; `None` exactly where a name that both bind has two
+/// values, marks included.
+pub fn join(alloc: Global, a: &Binding, b: &Binding) -> Result<Option<Binding>, NoMemory>
+    ensures some { IfOk result (λ r. IfSome r (λ c.
+        IsJoin (binding_of a.now) (binding_of b.now) (binding_of c))) }
+    ensures none { IfOk result (λ r. IfNone r (
+        (c : _) → ¬ IsJoin (binding_of a.now) (binding_of b.now) c)) }
+{
+    let lefts = a.pairs();
+    let rights = b.pairs();
+    let mut pairs = Vec::new(alloc);
+    let mut i = 0;
+    let mut j = 0;
+    while i < lefts.len() && j < rights.len() {
+        let left = &lefts[i];
+        let right = &rights[j];
+        match compare_names(left, right) {
+            Ordering::Less => {
+                push_pair(&mut pairs, left)?;
+                i += 1;
+            }
+            Ordering::Greater => {
+                push_pair(&mut pairs, right)?;
+                j += 1;
+            }
+            Ordering::Equal => {
+                if !have_one_value(left, right) {
+                    return Ok(None);
+                }
+                push_pair(&mut pairs, left)?;
+                i += 1;
+                j += 1;
+            }
+        }
+    }
+    push_rest(&mut pairs, lefts, i)?;
+    push_rest(&mut pairs, rights, j)?;
+    Ok(Some(Binding::new(pairs)))
+}
