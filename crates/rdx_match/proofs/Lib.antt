@@ -5,7 +5,6 @@ pub mod Extended
 pub mod SplitRules
 pub mod SplitItems
 pub mod SplitRows
-pub mod Merging
 pub mod ItemRows
 pub mod AnyOf
 pub mod AtomListings

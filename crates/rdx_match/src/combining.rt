@@ -1,18 +1,30 @@
 // Joins of whole lists of bindings.
-ghost use Rattle.std.specs.Prelude.{◌≡◌, ◌↔◌, ◌∷◌, [], IfOk, IsTrue, OnOk};
+ghost use Rattle.std.specs.Prelude.{◌≡◌, ◌↔◌, ◌∷◌, [], IfOk, IsTrue, OnOk, if◌then◌else◌};
 ghost use Rattle.rdx_lang.specs.Ascending.{IsAscending};
-ghost use Rattle.rdx_lang.specs.Bindings.{no_names, one, one_name};
+ghost use Rattle.rdx_lang.specs.Bindings as model;
+ghost use Rattle.rdx_lang.specs.Bindings.{no_names, one_name};
 ghost use Rattle.rdx_lang.specs.Join.{IsJoin};
 ghost use Rattle.rdx_lang.specs.Order.{binding_cmp};
 ghost use Rattle.rdx_lang.specs.Shown.{binding_of, bindings_of};
 ghost use Rattle.rdx_term.specs.View.{tree_of};
 ghost use Rattle.rdx_match.specs.Inside.Combining.{AddsBindings, JoinsWith, Joined, Lists, Named};
 
-use crate::joining::join;
-use crate::listing::listing;
+use rdx_bind::{join, listing, one};
 use rdx_lang::{Binding, Value};
 use rdx_term::{Name, NoMemory, Term};
 use std::alloc::Global;
+
+/// The binding without pairs alone, or none.
+#[inline(never)]
+pub(crate) fn empty_where(alloc: Global, holds: bool) -> Result<Vec<Binding>, NoMemory>
+    ensures { IfOk result (λ found. bindings_of found.items ≡ (if holds then no_names ∷ [] else [])) }
+{
+    let mut found = Vec::new(alloc);
+    if holds {
+        found.push(Binding::new(Vec::new(alloc)))?;
+    }
+    Ok(found)
+}
 
 // Adds the join of the two, where they have one.
 fn add_join(
@@ -94,13 +106,11 @@ pub(crate) fn joins_of(
     joins(alloc, &firsts, &others)
 }
 
-/// The binding with this one pair.
+/// The binding of the name to the term.
 pub(crate) fn one_pair(alloc: Global, name: &Name, t: &Term) -> Result<Binding, NoMemory>
-    ensures { IfOk result (λ b. binding_of b ≡ one_name name.now (one (tree_of t.now))) }
+    ensures { IfOk result (λ b. binding_of b ≡ one_name name.now (model.one (tree_of t.now))) }
 {
-    let mut pairs = Vec::with_capacity(alloc, 1)?;
-    pairs.push((name.share()?, Value::One(t.share()?)))?;
-    Ok(Binding::new(pairs))
+    one(alloc, name, Value::One(t.share()?))
 }
 
 /// Each of `firsts` joined with the binding of the name to the term.

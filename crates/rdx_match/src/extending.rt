@@ -8,9 +8,9 @@ ghost use Rattle.rdx_match.specs.Inside.Spots.{spot_of, spots_of};
 ghost use Rattle.rdx_match.specs.Inside.Splitting.{Finds, NamesContext, GoesOn, gathered_spots};
 
 use crate::combining::one_pair;
-use crate::joining::join;
 use crate::places::context_around;
 use crate::spots::{Gathered, Spot};
+use rdx_bind::join;
 use rdx_term::{Name, NoMemory, Term};
 use std::alloc::Global;
 

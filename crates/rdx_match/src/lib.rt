@@ -13,8 +13,6 @@
 mod atoms;
 mod combining;
 mod extending;
-mod joining;
-mod listing;
 mod literals;
 mod places;
 mod plain;

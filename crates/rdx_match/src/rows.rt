@@ -9,10 +9,9 @@ ghost use Rattle.rdx_match.specs.Inside.Rows.{all_matches, placed_at, split_rows
 ghost use Rattle.rdx_match.specs.Inside.Spots.{spot_of, spots_of};
 ghost use Rattle.rdx_match.specs.Inside.Splitting.{Finds};
 
-use crate::combining::{is_no_names_alone, joins_of};
-use crate::joining::join;
-use crate::listing::{empty_where, listing};
+use crate::combining::{empty_where, is_no_names_alone, joins_of};
 use crate::spots::Spot;
+use rdx_bind::{join, listing};
 use rdx_lang::Binding;
 use rdx_term::NoMemory;
 use std::alloc::Global;

@@ -11,13 +11,13 @@ ghost use Rattle.rdx_match.specs.Inside.Spots.{SplitsAt};
 ghost use Rattle.rdx_match.specs.Inside.Splitting.{Finds};
 
 use crate::atoms::{has_prefix, is_hole, is_of_kind, is_other_symbol};
-use crate::combining::{add_all_joins, with_name};
+use crate::combining::{add_all_joins, empty_where, with_name};
 use crate::extending::{add_going_on, with_contexts};
-use crate::listing::{empty_where, listing};
 use crate::places::{as_many_items, part_at};
 use crate::room::Room;
 use crate::rows::{Row, joins_across, spots_across};
 use crate::spots::{Gathered, Spot, whole};
+use rdx_bind::listing;
 use rdx_lang::{Binding, CheckedLang, Item, Pat, Ref};
 use rdx_term::{Name, NoMemory, Term};
 use std::alloc::Global;

@@ -12,10 +12,10 @@ ghost use Rattle.rdx_match.specs.Inside.Splitting.{IsSplitAt, split_of};
 
 use crate::places::{context_around, part_at};
 use crate::spots::Spot;
+use rdx_bind::listing_splits;
 use rdx_lang::Split;
 use rdx_term::{NoMemory, Term};
 use std::alloc::Global;
-use std::collections::BTreeSet;
 
 // What the term is split into at the spot.
 fn split_at(alloc: Global, t: &Term, spot: Spot) -> Result<Split, NoMemory>
@@ -31,14 +31,6 @@ fn split_at(alloc: Global, t: &Term, spot: Spot) -> Result<Split, NoMemory>
     })
 }
 
-// The members of a set, ascending.
-fn keys_of(alloc: Global, set: BTreeSet<Split>) -> Result<Vec<Split>, NoMemory>
-    ensures { IfOk result (λ keys. keys.items ≡ set.keys) }
-{
-    let keys = set.into_iter().collect(alloc)?;
-    Ok(keys)
-}
-
 /// What the term is split into at these spots, strictly ascending.
 pub(crate) fn sorted_splits(
     alloc: Global,
@@ -50,9 +42,9 @@ pub(crate) fn sorted_splits(
         (Arises (IsSplitAt (tree_of t.now)) (spots_of spots.items))) }
 {
     let mut rest = spots;
-    let mut set = BTreeSet::new(alloc);
+    let mut found = Vec::new(alloc);
     while let Some(spot) = rest.pop() {
-        set.insert(split_at(alloc, t, spot)?)?;
+        found.push(split_at(alloc, t, spot)?)?;
     }
-    keys_of(alloc, set)
+    listing_splits(alloc, found)
 }

@@ -18,14 +18,6 @@ Lists result R = IfOk result (λ found. IsListing binding_cmp (bindings_of found
 abbrev pub AddsBindings : (Binding → Type 0) → Vec code.Binding Global → Vec code.Binding Global → Type 0
 AddsBindings R old new = Adds R (bindings_of old.items) (bindings_of new.items)
 
--- c is the join of a and b
-abbrev pub IsJoinOf : code.Binding → code.Binding → code.Binding → Type 0
-IsJoinOf a b c = IsJoin (binding_of a) (binding_of b) (binding_of c)
-
--- a and b have no join
-abbrev pub HaveNoJoin : code.Binding → code.Binding → Type 0
-HaveNoJoin a b = (c : Binding) → ¬ IsJoin (binding_of a) (binding_of b) c
-
 -- the joins of c with one of ds
 abbrev pub JoinsWith : List Binding → Binding → Binding → Type 0
 JoinsWith ds c b = Arises (IsJoin c) ds b

@@ -1,8 +1,6 @@
 use Rattle.std.proofs.Common.{[], List, vec_len}
 use Rattle.rdx_lang.proofs.Collecting.{Collects}
-use Rattle.rdx_lang.specs.Ascending.{IsAscending}
 use Rattle.rdx_lang.specs.Decompositions.{Decomposition}
-use Rattle.rdx_lang.specs.Order.{decomposition_cmp}
 use Rattle.rdx_lang.specs.Shown.{decompositions_of}
 use Rattle.rdx_term.specs.View.{tree_of}
 use Rattle.rdx_match.specs.Inside.Spots.{spots_of}
@@ -12,10 +10,7 @@ use Rattle.rdx_match.proofs.sorting.sorted_splits.Given as goal
 abbrev pub invariant-loop-spot : goal.invariant-loop-spot
 invariant-loop-spot l =
     let nothing : List Decomposition = [] in
-    record {
-      ascending : IsAscending decomposition_cmp (decompositions_of l.set.keys);
-      collects : Collects (IsSplitAt (tree_of l.t)) (spots_of l.fn.spots.items) (spots_of l.rest.items) nothing (decompositions_of l.set.keys);
-    }
+    Collects (IsSplitAt (tree_of l.t)) (spots_of l.fn.spots.items) (spots_of l.rest.items) nothing (decompositions_of l.found.items)
 
 abbrev pub decreases-loop-spot : goal.decreases-loop-spot
 decreases-loop-spot l = vec_len l.rest
