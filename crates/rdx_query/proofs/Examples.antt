@@ -23,7 +23,7 @@ use Rattle.rdx_lang.specs.declared.pattern.Ref.TheVariants.{Nt}
 use Rattle.rdx_query.specs.AnswerText.{matches_text, splits_text}
 use Rattle.rdx_query.specs.Answering.{no_answers, more_answers}
 use Rattle.rdx_query.specs.Definitions.{language}
-use Rattle.rdx_query.specs.Examples.{defines_L, marked_pair, AnswersInOrder, WholeAnswer, Inherited, OneSplit, OwnHole, OneHole, NoOwnHole, FirstRefusedForm, EarlierLanguagesOnly, TakenName, HostExpression, FilledTerm, FewItems, LeftRecursion}
+use Rattle.rdx_query.specs.Examples.{defines_L, marked_pair, AnswersInOrder, WholeAnswer, Inherited, OneSplit, OwnHole, OneHole, NoOwnHole, NestedSequences, OwnHoleInSequence, LengthInDecimal, FirstRefusedForm, EarlierLanguagesOnly, TakenName, HostExpression, FilledTerm, FewItems, LeftRecursion}
 use Rattle.rdx_query.specs.File.{Defines, by_check, by_recursion, accepts_none, accepts_definition, accepts_query, refuses_here, refuses_behind_definition}
 use Rattle.rdx_query.specs.Known.{nothing}
 use Rattle.rdx_query.specs.Queries.{matches, whether, splits}
@@ -261,6 +261,9 @@ one_digit = sym (decimal_digit 1 (omega arith))
 two_digit : codes "2" ≡ decimal 2
 two_digit = sym (decimal_digit 2 (omega arith))
 
+three_digit : codes "3" ≡ decimal 3
+three_digit = sym (decimal_digit 3 (omega arith))
+
 first_printed : codes "match 1\n  any_x = 2, any_y = 1\n" ≡ matches_text (both ∷ [])
 first_printed = λ i. codes "match" ++ codes " " ++ one_digit i ++ codes "\n"
     ++ (codes "  " ++ ((codes "any_x" ++ codes " = " ++ two_digit i ++ []) ++ (codes ", " ++ (codes "any_y" ++ codes " = " ++ one_digit i ++ []) ++ [])) ++ codes "\n" ++ [])
@@ -284,6 +287,19 @@ one_hole = refl
 
 pub no_own_hole : NoOwnHole
 no_own_hole = refl
+
+pub nested_sequences : NestedSequences
+nested_sequences =
+    sym (λ i. codes "[" ++ ((codes "[" ++ ((one_digit i ++ []) ++ (codes " " ++ (two_digit i ++ []) ++ [])) ++ codes "]")
+    ++ (codes " " ++ (codes "[" ++ [] ++ codes "]") ++ [])) ++ codes "]")
+
+pub own_hole_in_sequence : OwnHoleInSequence
+own_hole_in_sequence =
+    sym (λ i. codes "[" ++ ((codes "(hole hole)" ++ (codes " at [" ++ (one_digit i ++ []) ++ codes "]"))
+    ++ (codes " " ++ (three_digit i ++ []) ++ [])) ++ codes "]")
+
+pub length_in_decimal : LengthInDecimal
+length_in_decimal = sym (λ i. codes "..._a" ++ codes " = " ++ two_digit i)
 
 -- ---- the examples
 

@@ -4,7 +4,7 @@ use Rattle.rdx_term.specs.Context.{is_context}
 use Rattle.rdx_term.specs.Path.{path}
 use Rattle.rdx_term.specs.Text.{tree_text}
 use Rattle.rdx_term.specs.Tree.{Tree, tree_holes}
-use Rattle.rdx_lang.specs.Bindings.{Value, one, Pair, Binding}
+use Rattle.rdx_lang.specs.Bindings.{Value, one, many, len, Values, none, more, Pair, Binding}
 use Rattle.rdx_lang.specs.Decompositions.{Decomposition}
 
 -- ---- paths
@@ -29,9 +29,22 @@ at_text t = codes " at [" ++ places_text (path t) ++ codes "]"
 abbrev pub has_other_holes : Tree → Bool
 has_other_holes t = is_context t && nat_lt 1 (tree_holes t)
 
--- what a name is bound to, printed; such a context with its path
-abbrev pub value_text : Value → List ℕ
-value_text (one t) = tree_text t ++ (if has_other_holes t then at_text t else [])
+-- What a name is bound to, printed: a term, such a context with its path; a sequence in square brackets; a length in decimal.
+abbrev mutual
+  pub value_text : Value → List ℕ
+  value_text (one t) = tree_text t ++ (if has_other_holes t then at_text t else [])
+  value_text (many vs) = codes "[" ++ values_text vs ++ codes "]"
+  value_text (len n) = decimal n
+
+  -- the values with one space between two
+  pub values_text : Values → List ℕ
+  values_text none = []
+  values_text (more v vs) = value_text v ++ further_values vs
+
+  -- each value with a space before it
+  pub further_values : Values → List ℕ
+  further_values none = []
+  further_values (more v vs) = codes " " ++ value_text v ++ further_values vs
 
 -- `name = value`
 abbrev pub pair_text : Pair → List ℕ

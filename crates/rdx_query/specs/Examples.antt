@@ -4,10 +4,10 @@ use Rattle.rdx_base.specs.declared.place.Span.{Span}
 use Rattle.rdx_sexp.specs.Sexp.{Sexp, symbol, integer, leaf, list, sexps}
 use Rattle.rdx_term.specs.Tree as tree
 use Rattle.rdx_term.specs.Tree.{Tree}
-use Rattle.rdx_lang.specs.Bindings.{one}
+use Rattle.rdx_lang.specs.Bindings.{Value, one, many, len, values}
 use Rattle.rdx_grammar.specs.Refusal.{unnamed, named, named_at}
 use Rattle.rdx_grammar.specs.declared.shape.fault.DefKind.TheVariants.{Unbuilt, Shape, UnknownLanguage, Duplicate, LeftRecursive}
-use Rattle.rdx_query.specs.AnswerText.{value_text}
+use Rattle.rdx_query.specs.AnswerText.{value_text, pair_text}
 use Rattle.rdx_query.specs.Answering.{Writes}
 use Rattle.rdx_query.specs.File.{Refuses}
 use Rattle.rdx_query.specs.Known.{nothing}
@@ -97,6 +97,26 @@ OneHole = value_text (one (marked_pair (Some 0) tree.hole (tree.truth true))) �
 
 abbrev pub NoOwnHole : Type 0
 NoOwnHole = value_text (one (marked_pair None tree.hole tree.hole)) ≡ codes "(hole hole)"
+
+-- one integer
+abbrev pub one_integer : ℕ → Value
+one_integer n = one (tree.integer (pos n))
+
+-- the sequence of these values
+abbrev pub sequence : List Value → Value
+sequence vs = many (values vs)
+
+-- a sequence stands in square brackets, as does each sequence in it, and one of no values too
+abbrev pub NestedSequences : Type 0
+NestedSequences = value_text (sequence (sequence (one_integer 1 ∷ one_integer 2 ∷ []) ∷ sequence [] ∷ [])) ≡ codes "[[1 2] []]"
+
+-- a context with two holes has its path behind it in a sequence too
+abbrev pub OwnHoleInSequence : Type 0
+OwnHoleInSequence = value_text (sequence (one (marked_pair (Some 1) tree.hole tree.hole) ∷ one_integer 3 ∷ [])) ≡ codes "[(hole hole) at [1] 3]"
+
+-- a length is a number
+abbrev pub LengthInDecimal : Type 0
+LengthInDecimal = pair_text (codes "..._a", len 2) ≡ codes "..._a = 2"
 
 -- ---- why files are refused
 

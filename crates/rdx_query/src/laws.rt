@@ -58,6 +58,9 @@ pub fn worked_examples()
     ensures own_hole { example.OwnHole }
     ensures one_hole { example.OneHole }
     ensures no_own_hole { example.NoOwnHole }
+    ensures nested_sequences { example.NestedSequences }
+    ensures own_hole_in_sequence { example.OwnHoleInSequence }
+    ensures length_in_decimal { example.LengthInDecimal }
     ensures first_refused_form { example.FirstRefusedForm }
     ensures earlier_languages_only { example.EarlierLanguagesOnly }
     ensures taken_name { example.TakenName }

@@ -2,6 +2,7 @@
 ghost use Rattle.std.specs.Prelude.{◌≡◌, ◌++◌, OnOk, IsTrue, decimal, map};
 ghost use Rattle.rdx_term.specs.Context.{is_context};
 ghost use Rattle.rdx_term.specs.View.{tree_of};
+ghost use Rattle.rdx_lang.specs.Bindings.{one, values};
 ghost use Rattle.rdx_lang.specs.BindingView.{value_of, pair_of};
 ghost use Rattle.rdx_lang.specs.Shown.{binding_of, bindings_of, decomposition_of, decompositions_of};
 ghost use Rattle.rdx_query.specs.AnswerText as text;
@@ -53,14 +54,48 @@ fn write_at(alloc: Global, context: &Term, out: &mut Vec<u8>) -> Result<(), NoMe
     }
 }
 
-// The term that a name stands for; a context with other holes than its own with its path.
-fn write_value(alloc: Global, value: &Value, out: &mut Vec<u8>) -> Result<(), NoMemory>
-    ensures { OnOk result (out.new.items ≡ out.old.items ++ text.value_text (value_of value.now)) }
+// A term that a name stands for; a context with other holes than its own with its path.
+fn write_term(alloc: Global, term: &Term, out: &mut Vec<u8>) -> Result<(), NoMemory>
+    ensures { OnOk result
+        (out.new.items ≡ out.old.items ++ text.value_text (one (tree_of term.now))) }
 {
-    let Value::One(term) = value;
     text_of(term, out)?;
     if term.is_context() && term.holes() > 1 {
         write_at(alloc, term, out)?;
+    }
+    Ok(())
+}
+
+// What a name stands for: a term, a sequence in square brackets, or a length in decimal.
+#[cycle(write_value)]
+fn write_value(alloc: Global, value: &Value, out: &mut Vec<u8>) -> Result<(), NoMemory>
+    ensures { OnOk result (out.new.items ≡ out.old.items ++ text.value_text (value_of value.now)) }
+{
+    match value {
+        Value::One(term) => write_term(alloc, term, out),
+        Value::Many(turns) => {
+            out.push(b'[')?;
+            write_values(alloc, turns, out)?;
+            out.push(b']')?;
+            Ok(())
+        }
+        Value::Len(turns) => write_number(*turns, out),
+    }
+}
+
+// The values of a sequence, with one space between two.
+#[cycle(write_value)]
+fn write_values(alloc: Global, turns: &[Value], out: &mut Vec<u8>) -> Result<(), NoMemory>
+    ensures { OnOk result (out.new.items ≡ out.old.items
+        ++ text.values_text (values (map value_of turns.now))) }
+{
+    let Some(first) = turns.first() else {
+        return Ok(());
+    };
+    write_value(alloc, first, out)?;
+    for i in 1..turns.len() {
+        out.push(b' ')?;
+        write_value(alloc, &turns[i], out)?;
     }
     Ok(())
 }
