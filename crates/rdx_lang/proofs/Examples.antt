@@ -8,7 +8,7 @@ use Rattle.rdx_term.specs.Tree.{nil as no_trees}
 use Rattle.rdx_term.specs.Tree.{hole as the_hole}
 use Rattle.rdx_term.specs.Fill.{fill_of}
 use Rattle.rdx_lang.specs.Ascending.{IsAscending}
-use Rattle.rdx_lang.specs.Bindings.{Value, Pair, Binding, name_cmp}
+use Rattle.rdx_lang.specs.Bindings.{Value, Pair, Binding, one_name, name_cmp}
 use Rattle.rdx_lang.specs.Bindings.{one as one_term}
 use Rattle.rdx_lang.specs.Decompositions.{Decomposition}
 use Rattle.rdx_lang.specs.Edges.{edge_nt, edge_named, edge_right, Reaches, at_once, further, IsRecursive}
@@ -16,10 +16,10 @@ use Rattle.rdx_lang.specs.Empty.{IsEmpty, empty_hole, empty_nt, empty_named}
 use Rattle.rdx_lang.specs.Examples.{int, first_marked, second_marked, list_of_one, list_of_two, binds, seq_of_one, seq_of_two, e, f, e_1, Numbers, Twins, ThroughAName, UnderAList, TwoEqual, TwoDifferent, TwoMarks, NameAround, NameAroundItself, Forgotten, OnceForTwo, Mentioned, ExceptMentionsNone, NonterminalsAreNotMentioned, PrefixFirst, ItemsDecide, FirstPairDecides, NameKeepsTheTerm, ListTakesOff}
 use Rattle.rdx_lang.specs.Examples.{marked_first, marked_second, E, E_1, any, number, Contexts, split_into, in_place, nested, BehindAList, InEachPlace, AtEitherHole, HiddenSplitsNothing, OneItemSplits, NeverAtBoth, ContextInContext, NameOfATerm, EqualContexts, ContextsWithMarks, EmptyThroughAnother, EmptyLeadsOn, ContextTakesOff}
 use Rattle.rdx_lang.specs.Join.{IsJoin}
-use Rattle.rdx_lang.proofs.JoinLaws.{one_join, join_agrees, unit_left, unit_right, unit_left-only, unit_right-only, joined_itself, joined_itself-only}
+use Rattle.rdx_lang.proofs.JoinLaws.{one_join, join_agrees, turned_join, unit_left, unit_right, unit_left-only, unit_right-only, joined_itself, joined_itself-only}
 use Rattle.rdx_lang.specs.Listing.{IsListing, SplitsInto}
 use Rattle.rdx_lang.specs.Members.{In, here, there}
-use Rattle.rdx_lang.proofs.NameLaws.{match-ascends, split-ascends, turned_join}
+use Rattle.rdx_lang.proofs.NameLaws.{match-ascends, split-ascends}
 use Rattle.rdx_lang.specs.Order.{value_cmp, decomposition_cmp}
 use Rattle.rdx_lang.specs.Model.ValueOrder.{value_cmp-total}
 use Rattle.rdx_lang.specs.Patterns.{Pattern, of_kind, hole, nt, named, in_hole, seq, Items, Definition, Language}
@@ -35,37 +35,40 @@ use Rattle.rdx_lang.proofs.RuleSteps.{hole_inside, named_inside, in_hole_inside,
 -- ---- listings
 
 -- R holds of each of these
-abbrev HoldsOfAll : {A : Type 0} → (A → Type 0) → List A → Type 0
+abbrev pub HoldsOfAll : {A : Type 0} → (A → Type 0) → List A → Type 0
 HoldsOfAll R [] = Unit {0}
 HoldsOfAll R (x ∷ xs) = R x × HoldsOfAll R xs
 
 -- so it holds of the members
-of_member : {A : Type 0} (R : A → Type 0) (xs : List A) → HoldsOfAll R xs → (x : A) → In x xs → R x
+pub of_member : {A : Type 0} (R : A → Type 0) (xs : List A) → HoldsOfAll R xs → (x : A) → In x xs → R x
 of_member R [] h x i = elim i [ ]
 of_member R (y ∷ xs) h x (here d) = subst R (sym d) h.0
 of_member R (y ∷ xs) h x (there i) = of_member R xs h.1 x i
 
 -- the listing of these members
-listed : {A : Type 0} {cmp : A → A → Ordering} {R : A → Type 0} (xs : List A) → IsAscending cmp xs → HoldsOfAll R xs → ((x : A) → R x → In x xs) → IsListing cmp xs R
+pub listed : {A : Type 0} {cmp : A → A → Ordering} {R : A → Type 0} (xs : List A) → IsAscending cmp xs → HoldsOfAll R xs → ((x : A) → R x → In x xs) → IsListing cmp xs R
 listed {R = R} xs a h only = record { ascending = a; sound = of_member R xs h; complete = only }
 
 -- the listing of one member
-one_alone : {A : Type 0} {cmp : A → A → Ordering} {R : A → Type 0} (x : A) → R x → ((y : A) → R y → y ≡ x) → IsListing cmp (x ∷ []) R
+pub one_alone : {A : Type 0} {cmp : A → A → Ordering} {R : A → Type 0} (x : A) → R x → ((y : A) → R y → y ≡ x) → IsListing cmp (x ∷ []) R
 one_alone x r only = listed (x ∷ []) (tt, tt) (r, tt) (λ y h. here (only y h))
 
 -- the listing of no member
-no_member : {A : Type 0} {cmp : A → A → Ordering} {R : A → Type 0} → ((x : A) → R x → ⊥) → IsListing cmp [] R
+pub no_member : {A : Type 0} {cmp : A → A → Ordering} {R : A → Type 0} → ((x : A) → R x → ⊥) → IsListing cmp [] R
 no_member none = listed [] tt tt (λ x h. absurd (none x h))
 
 -- ---- joins
 
--- a name with two values has none
-two_values : (x : List ℕ) (t u : Tree) (c : Binding) → value_cmp (one_term t) (one_term u) ≡ Less → IsJoin (binds x t) (binds x u) c → ⊥
-two_values x t u c l j =
-    let d : one_term t ≡ one_term u = join_agrees (binds x t) (binds x u) c j x (one_term t) (one_term u) (here refl) (here refl) in
-    let k : value_cmp (one_term t) (one_term t) ≡ Equal = tied_itself value_cmp-total (one_term t) in
-    let m : value_cmp (one_term t) (one_term t) ≡ Less = subst (λ (v : Value). value_cmp (one_term t) v ≡ Less) (sym d) l in
+-- values that the order tells apart are different
+pub apart : (v w : Value) → value_cmp v w ≡ Less → v ≡ w → ⊥
+apart v w l d =
+    let k : value_cmp v v ≡ Equal = tied_itself value_cmp-total v in
+    let m : value_cmp v v ≡ Less = subst (λ (u : Value). value_cmp v u ≡ Less) (sym d) l in
     absurd cc
+
+-- a name with two values has none
+pub two_values : (x : List ℕ) (v w : Value) (c : Binding) → value_cmp v w ≡ Less → IsJoin (one_name x v) (one_name x w) c → ⊥
+two_values x v w c l j = apart v w l (join_agrees (one_name x v) (one_name x w) c j x v w (here refl) (here refl))
 
 -- ---- patterns
 
@@ -108,7 +111,7 @@ named_nt_binds : {L : Language} {x : List ℕ} {y : Ref} {t : Tree} {b : Binding
 named_nt_binds (match_named (match_nt a h) j) = unit_left-only (tt, tt) j
 
 -- and so does a named built-in name
-named_kind_binds : {L : Language} {x : List ℕ} {k : Kind} {t : Tree} {b : Binding} → Match L (named x (of_kind k)) t b → b ≡ binds x t
+pub named_kind_binds : {L : Language} {x : List ℕ} {k : Kind} {t : Tree} {b : Binding} → Match L (named x (of_kind k)) t b → b ≡ binds x t
 named_kind_binds (match_named (match_kind h) j) = unit_left-only (tt, tt) j
 
 -- a named nonterminal matches what the nonterminal matches
@@ -116,7 +119,7 @@ named_nt : {L : Language} (x : List ℕ) {y : Ref} (t : Tree) → Match L (nt y)
 named_nt x t h = match_named h (unit_left (binds x t) (tt, tt))
 
 -- a join of equal bindings
-joined_by : {a b c d s : Binding} → a ≡ c → b ≡ d → IsJoin a b s → IsJoin c d s
+pub joined_by : {a b c d s : Binding} → a ≡ c → b ≡ d → IsJoin a b s → IsJoin c d s
 joined_by {a} {b} {c} {d} {s} g h j = subst (λ (x : Binding). IsJoin x d s) g (subst (λ (y : Binding). IsJoin a y s) h j)
 
 -- ---- a name that stands twice
@@ -140,16 +143,16 @@ two_equal =
 
 pub two_different : TwoDifferent
 two_different = no_member (λ c h. let d = both h in
-    two_values (codes "e_1") (int 1) (int 2) c refl (joined_by (named_nt_binds d.matches_first) (named_nt_binds d.matches_second) d.joined))
+    two_values (codes "e_1") (one_term (int 1)) (one_term (int 2)) c refl (joined_by (named_nt_binds d.matches_first) (named_nt_binds d.matches_second) d.joined))
 
 pub two_marks : TwoMarks
 two_marks = no_member (λ c h. let d = both h in
-    two_values (codes "any_1") first_marked second_marked c refl (joined_by (named_kind_binds d.matches_first) (named_kind_binds d.matches_second) d.joined))
+    two_values (codes "any_1") (one_term first_marked) (one_term second_marked) c refl (joined_by (named_kind_binds d.matches_first) (named_kind_binds d.matches_second) d.joined))
 
 -- ---- a name around a pattern
 
 -- two pairs in the order of their names are the join of the one and the other
-two_pairs : (p q : Pair) → name_cmp p.0 q.0 ≡ Less → IsJoin (p ∷ []) (q ∷ []) (p ∷ q ∷ [])
+pub two_pairs : (p q : Pair) → name_cmp p.0 q.0 ≡ Less → IsJoin (p ∷ []) (q ∷ []) (p ∷ q ∷ [])
 two_pairs p q l = record { map = ((l, tt), (tt, tt)); sound = sound; left = left; right = λ r i. there i }
   where
     sound : (r : Pair) → In r (p ∷ q ∷ []) → In r (p ∷ []) ⊎ In r (q ∷ [])
@@ -184,7 +187,7 @@ name_around =
 -- x would be 1 and `(1)`
 both_x : {b : Binding} → Match Numbers (named (codes "x") (seq_of_one (named (codes "x") (nt e)))) (list_of_one (int 1)) b → ⊥
 both_x (match_named {b = b} (match_seq (match_one h match_none m)) j) =
-    two_values (codes "x") (int 1) (list_of_one (int 1)) b refl (joined_by (unit_right-only (match-ascends h) m ∙ named_nt_binds h) refl j)
+    two_values (codes "x") (one_term (int 1)) (one_term (list_of_one (int 1))) b refl (joined_by (unit_right-only (match-ascends h) m ∙ named_nt_binds h) refl j)
 
 pub name_around_itself : NameAroundItself
 name_around_itself = no_member (λ c h. both_x h)
@@ -298,7 +301,7 @@ split_second : {L : Language} {p q : Pattern} {m : Option ℕ} {t u D s : Tree} 
 split_second {d = d} g h j = split_seq (split_behind g (split_here h match_none (unit_right d (split-ascends h))) j) refl
 
 -- a split, by its three parts
-is_split : (d : Decomposition) {C s : Tree} {b : Binding} → d.context ≡ C → d.part ≡ s → d.binding ≡ b → d ≡ split_into C s b
+pub is_split : (d : Decomposition) {C s : Tree} {b : Binding} → d.context ≡ C → d.part ≡ s → d.binding ≡ b → d ≡ split_into C s b
 is_split d e f g = λ i. record { context = e i; part = f i; binding = g i }
 
 -- ---- contexts
@@ -498,7 +501,7 @@ number_at_left n u = in_hole_by_e (e_left None (int n) u) (match_kind refl) (uni
 
 -- E_1 does not stand for two contexts of which the one is less than the other
 two_contexts : {a b s : Binding} (C D : Tree) → value_cmp (one_term C) (one_term D) ≡ Less → a ≡ binds (codes "E_1") C → b ≡ binds (codes "E_1") D → IsJoin a b s → ⊥
-two_contexts {s = s} C D l d c j = two_values (codes "E_1") C D s l (joined_by d c j)
+two_contexts {s = s} C D l d c j = two_values (codes "E_1") (one_term C) (one_term D) s l (joined_by d c j)
 
 pub equal_contexts : EqualContexts
 equal_contexts = one_alone same (two same same (number_at_left 1 (int 2)) (number_at_left 3 (int 2)) (joined_itself same (tt, tt))) only
@@ -541,7 +544,7 @@ hidden_splits_nothing = (
 )
 
 -- how `(hole hole)` splits a list of two
-data AtOneHole (t u : Tree) (C s : Tree) (b : Binding) : Type 0 where
+pub data AtOneHole (t u : Tree) (C s : Tree) (b : Binding) : Type 0 where
   first_hole : u ≡ the_hole → C ≡ marked_first the_hole u → s ≡ t → b ≡ [] → AtOneHole t u C s b
   second_hole : t ≡ the_hole → C ≡ marked_second t the_hole → s ≡ u → b ≡ [] → AtOneHole t u C s b
 
@@ -558,18 +561,19 @@ at_one_hole {t = t} {u = u} {C = C} {s = s} {b = b} h = by_half (halves h)
         let n = hole_inside g in
         second_hole n.0 (d ∙ ap (λ (x : Tree). marked_second t x) k.0) k.1 (unit_left-only tt (joined_by n.1 k.2 j))
 
+-- the list `(hole hole)`, split at either item
+abbrev pub at_either_item : List Decomposition
+at_either_item = split_into first_marked the_hole [] ∷ split_into second_marked the_hole [] ∷ []
+
+pub is_either : (d : Decomposition) → AtOneHole the_hole the_hole d.context d.part d.binding → In d at_either_item
+is_either d (first_hole n c p b) = here (is_split d c p b)
+is_either d (second_hole n c p b) = there (here (is_split d c p b))
+
 pub one_item_splits : OneItemSplits
-one_item_splits = listed members ((refl, tt), (tt, tt)) each (λ d h. by_hole d (at_one_hole h))
+one_item_splits = listed at_either_item ((refl, tt), (tt, tt)) each (λ d h. is_either d (at_one_hole h))
   where
-    members : List Decomposition
-    members = split_into first_marked the_hole [] ∷ split_into second_marked the_hole [] ∷ []
-
-    each : HoldsOfAll (SplitsInto Contexts (seq_of_two hole hole) (list_of_two the_hole the_hole)) members
+    each : HoldsOfAll (SplitsInto Contexts (seq_of_two hole hole) (list_of_two the_hole the_hole)) at_either_item
     each = (split_first split_hole match_hole (unit_left [] tt), (split_second match_hole split_hole (unit_left [] tt), tt))
-
-    by_hole : (d : Decomposition) → AtOneHole the_hole the_hole d.context d.part d.binding → In d members
-    by_hole d (first_hole n c p b) = here (is_split d c p b)
-    by_hole d (second_hole n c p b) = there (here (is_split d c p b))
 
 pub never_at_both : NeverAtBoth
 never_at_both = no_member (λ d h. by_hole (at_one_hole h))

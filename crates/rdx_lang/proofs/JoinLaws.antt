@@ -21,7 +21,7 @@ names_below p [] h = tt
 names_below p (q ∷ b) h = (by_name p q h.0, names_below p b h.1)
 
 -- pairs whose names ascend ascend
-pairs_ascend : (b : Binding) → IsAscending name_cmp (bound_names b) → IsAscending pair_cmp b
+pub pairs_ascend : (b : Binding) → IsAscending name_cmp (bound_names b) → IsAscending pair_cmp b
 pairs_ascend [] h = tt
 pairs_ascend (p ∷ b) h = (names_below p b h.0, pairs_ascend b h.1)
 
@@ -32,6 +32,15 @@ within a b c d j k p h = elim (j.sound p h) [ inl l ↦ k.left p l | inr r ↦ k
 -- joins of the same bindings are equal
 pub one_join : (a b c d : Binding) → IsJoin a b c → IsJoin a b d → c ≡ d
 one_join a b c d j k = fixed_by_members pair_cmp pair_cmp-total c d (pairs_ascend c j.map) (pairs_ascend d k.map) (within a b c d j k) (within a b d c k j)
+
+-- the order of two bindings makes no difference to their join
+pub turned_join : (a b c : Binding) → IsJoin a b c → IsJoin b a c
+turned_join a b c j = record {
+  map = j.map;
+  sound = λ p i. elim (j.sound p i) [ inl l ↦ inr l | inr r ↦ inl r ];
+  left = j.right;
+  right = j.left;
+}
 
 -- ---- joins with no name
 

@@ -7,7 +7,7 @@ use Rattle.rdx_lang.specs.Bindings.{Value, Pair, Binding, name_cmp, bound_names,
 use Rattle.rdx_lang.specs.Join.{IsJoin, Agree}
 use Rattle.rdx_lang.proofs.JoinLaws.{one_value, agree_within}
 use Rattle.rdx_lang.specs.Members.{In, here, there}
-use Rattle.rdx_lang.proofs.NameLaws.{above_first, below_all, with_name-below, bound_names-join}
+use Rattle.rdx_lang.proofs.NameLists.{above_first, below_all, with_name-below, bound_names-join}
 use Rattle.rdx_lang.proofs.OrderLaws.{name_cmp-tells}
 
 -- a and b have a join

@@ -14,7 +14,7 @@ use Rattle.rdx_lang.proofs.MemberLaws.{in-append, append-left, append-right}
 
 module _ {A : Type 0} (cmp : A → A → Ordering) (o : IsTotalOrder cmp) where
   -- what is above y, y is below
-  turned : (x y : A) → cmp x y ≡ Greater → cmp y x ≡ Less
+  pub turned : (x y : A) → cmp x y ≡ Greater → cmp y x ≡ Less
   turned x y e = o.antisymm y x ∙ ap ordering_reverse e
 
   -- what is below y is below all that y is below

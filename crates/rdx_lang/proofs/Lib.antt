@@ -6,6 +6,8 @@ pub mod Rest
 pub mod OrderLaws
 pub mod Orders
 pub mod JoinLaws
+pub mod NameLists
+pub mod CollectionLaws
 pub mod NameLaws
 pub mod Values
 pub mod Joins
@@ -14,6 +16,7 @@ pub mod SplitLaws
 pub mod RankLaws
 pub mod FirstRecursive
 pub mod Examples
+pub mod RepetitionExamples
 pub mod Collecting
 pub mod Keys
 pub mod RuleSteps
@@ -21,4 +24,11 @@ pub mod Recursion
 pub mod Finite
 pub mod FiniteJoins
 pub mod FinitePatterns
+pub mod FiniteRuns
 pub mod SomeListings
+pub mod ItemsAhead
+pub mod CappedUses
+pub mod Passing
+pub mod MetUses
+pub mod RestFits
+pub mod NameSets

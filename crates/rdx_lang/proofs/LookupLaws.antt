@@ -15,7 +15,7 @@ use Rattle.rdx_lang.specs.declared.pattern.Ref.TheVariants.{Nt, Cross}
 -- ---- tests
 
 -- what both parts make true
-both_so : (a b : Bool) → a ≡ true → b ≡ true → (a && b) ≡ true
+pub both_so : (a b : Bool) → a ≡ true → b ≡ true → (a && b) ≡ true
 both_so true b h k = k
 both_so false b h k = h
 

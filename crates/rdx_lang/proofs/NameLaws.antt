@@ -1,108 +1,16 @@
 -- The names of a pattern ascend, and a match binds exactly them, as a split does.
-use Rattle.std.proofs.Common.{◌≡◌, ℕ, List, [], ◌∷◌, refl, sym, ◌∙◌, ap, subst, ◌⊎◌, inl, inr}
-use Rattle.std.specs.declared.cmp.Ordering.{Ordering}
-use Rattle.std.specs.declared.cmp.Ordering.TheVariants.{Less, Equal, Greater}
-use Rattle.std.specs.Ordering.{ordering_reverse}
+use Rattle.std.proofs.Common.{◌≡◌, ℕ, List, [], ◌∷◌, refl, sym, ◌∙◌, ap, subst}
 use Rattle.rdx_term.specs.Tree.{Tree, Trees}
-use Rattle.rdx_lang.specs.Ascending.{IsBelow, IsAscending}
-use Rattle.rdx_lang.specs.Bindings.{Pair, Binding, one_name, name_cmp, bound_names, HasAscendingNames}
+use Rattle.rdx_lang.specs.Ascending.{IsAscending}
+use Rattle.rdx_lang.specs.Bindings.{Binding, one_name, name_cmp, bound_names, HasAscendingNames}
 use Rattle.rdx_lang.specs.Bindings.{one as one_term}
-use Rattle.rdx_lang.specs.Join.{IsJoin}
-use Rattle.rdx_lang.specs.Members.{In, here, there}
-use Rattle.rdx_lang.specs.Names.{placed, with_name, add_names, names, item_names}
-use Rattle.rdx_lang.specs.Model.TotalOrders.{name_cmp-total}
-use Rattle.rdx_lang.specs.Patterns.{Pattern, wild, of_kind, except, prefix, hole, lit, nt, named, in_hole, hide_hole, closed, seq, Items, nil, one, Language}
-use Rattle.rdx_lang.specs.Rules.{Match, MatchItems, match_wild, match_kind, match_except, match_prefix, match_hole, match_lit, match_nt, match_named, match_in_hole, match_hide_hole, match_closed, match_seq, match_none, match_one}
-use Rattle.rdx_lang.specs.Rules.{Split, SplitItems, split_hole, split_nt, split_named, split_in_hole, split_closed, split_seq, split_here, split_behind}
-use Rattle.rdx_lang.proofs.JoinLaws.{bound_names-member}
-use Rattle.rdx_lang.proofs.MemberLaws.{in-map}
-use Rattle.rdx_lang.proofs.OrderLaws.{name_cmp-tells, fixed_by_members}
-
--- ---- one name more
-
--- what is above y, y is below
-pub above_first : (x y : List ℕ) → name_cmp x y ≡ Greater → name_cmp y x ≡ Less
-above_first x y e = name_cmp-total.antisymm y x ∙ ap ordering_reverse e
-
--- what is below y is below all that y is below
-pub below_all : (x y : List ℕ) (ys : List (List ℕ)) → name_cmp x y ≡ Less → IsBelow name_cmp y ys → IsBelow name_cmp x ys
-below_all x y [] l h = tt
-below_all x y (z ∷ ys) l h = (name_cmp-total.trans x y z l h.0, below_all x y ys l h.1)
-
--- z stays below, where it is below the name that comes in
-pub with_name-below : (z x : List ℕ) (ys : List (List ℕ)) → name_cmp z x ≡ Less → IsBelow name_cmp z ys → IsBelow name_cmp z (with_name x ys)
-with_name-below z x [] l h = (l, tt)
-with_name-below z x (y ∷ ys) l h = by_order (name_cmp x y) (with_name-below z x ys l h.1)
-  where
-    by_order : (o : Ordering) → IsBelow name_cmp z (with_name x ys) → IsBelow name_cmp z (placed o x y ys (with_name x ys))
-    by_order Less k = (l, h)
-    by_order Equal k = h
-    by_order Greater k = (h.0, k)
-
--- the names still ascend
-with_name-ascends : (x : List ℕ) (ys : List (List ℕ)) → IsAscending name_cmp ys → IsAscending name_cmp (with_name x ys)
-with_name-ascends x [] a = (tt, tt)
-with_name-ascends x (y ∷ ys) a = by_order (name_cmp x y) refl (with_name-ascends x ys a.1)
-  where
-    by_order : (o : Ordering) → name_cmp x y ≡ o → IsAscending name_cmp (with_name x ys) → IsAscending name_cmp (placed o x y ys (with_name x ys))
-    by_order Less e k = ((e, below_all x y ys e a.0), a)
-    by_order Equal e k = a
-    by_order Greater e k = (with_name-below y x ys (above_first x y e) a.0, k)
-
--- nothing comes in but the name
-with_name-sound : (x : List ℕ) (ys : List (List ℕ)) (z : List ℕ) → In z (with_name x ys) → In z (x ∷ ys)
-with_name-sound x [] z h = h
-with_name-sound x (y ∷ ys) z h = by_order (name_cmp x y) (with_name-sound x ys z) h
-  where
-    deeper : In z (x ∷ ys) → In z (x ∷ y ∷ ys)
-    deeper (here e) = here e
-    deeper (there i) = there (there i)
-
-    by_order : (o : Ordering) → (In z (with_name x ys) → In z (x ∷ ys)) → In z (placed o x y ys (with_name x ys)) → In z (x ∷ y ∷ ys)
-    by_order Less f i = i
-    by_order Equal f i = there i
-    by_order Greater f (here e) = there (here e)
-    by_order Greater f (there i) = deeper (f i)
-
--- the name is there, and all that was
-with_name-complete : (x : List ℕ) (ys : List (List ℕ)) (z : List ℕ) → In z (x ∷ ys) → In z (with_name x ys)
-with_name-complete x [] z h = h
-with_name-complete x (y ∷ ys) z h = by_order (name_cmp x y) refl (with_name-complete x ys z) h
-  where
-    by_order : (o : Ordering) → name_cmp x y ≡ o → (In z (x ∷ ys) → In z (with_name x ys)) → In z (x ∷ y ∷ ys) → In z (placed o x y ys (with_name x ys))
-    by_order Less e f i = i
-    by_order Equal e f (here d) = here (d ∙ name_cmp-tells x y e)
-    by_order Equal e f (there i) = i
-    by_order Greater e f (here d) = there (f (here d))
-    by_order Greater e f (there (here d)) = here d
-    by_order Greater e f (there (there i)) = there (f (there i))
-
--- ---- the names of two lists
-
--- the names of both lists ascend where those of the second do
-add_names-ascends : (xs ys : List (List ℕ)) → IsAscending name_cmp ys → IsAscending name_cmp (add_names xs ys)
-add_names-ascends [] ys a = a
-add_names-ascends (x ∷ xs) ys a = with_name-ascends x (add_names xs ys) (add_names-ascends xs ys a)
-
--- each name is of one of the lists
-add_names-sound : (xs ys : List (List ℕ)) (z : List ℕ) → In z (add_names xs ys) → In z xs ⊎ In z ys
-add_names-sound [] ys z h = inr h
-add_names-sound (x ∷ xs) ys z h = of_first (with_name-sound x (add_names xs ys) z h) (add_names-sound xs ys z)
-  where
-    of_first : In z (x ∷ add_names xs ys) → (In z (add_names xs ys) → In z xs ⊎ In z ys) → In z (x ∷ xs) ⊎ In z ys
-    of_first (here e) f = inl (here e)
-    of_first (there i) f = elim (f i) [ inl l ↦ inl (there l) | inr r ↦ inr r ]
-
--- the names of the first list are there
-add_names-left : (xs ys : List (List ℕ)) (z : List ℕ) → In z xs → In z (add_names xs ys)
-add_names-left [] ys z h = elim h [ ]
-add_names-left (x ∷ xs) ys z (here e) = with_name-complete x (add_names xs ys) z (here e)
-add_names-left (x ∷ xs) ys z (there h) = with_name-complete x (add_names xs ys) z (there (add_names-left xs ys z h))
-
--- the names of the second list are there
-add_names-right : (xs ys : List (List ℕ)) (z : List ℕ) → In z ys → In z (add_names xs ys)
-add_names-right [] ys z h = h
-add_names-right (x ∷ xs) ys z h = with_name-complete x (add_names xs ys) z (there (add_names-right xs ys z h))
+use Rattle.rdx_lang.specs.Members.{here, there}
+use Rattle.rdx_lang.specs.Names.{names, item_names, with_length_name}
+use Rattle.rdx_lang.specs.Patterns.{Pattern, wild, of_kind, except, prefix, hole, lit, nt, named, in_hole, hide_hole, closed, seq, Items, nil, one, many, Language}
+use Rattle.rdx_lang.specs.Rules.{Match, MatchItems, MatchRun, match_wild, match_kind, match_except, match_prefix, match_hole, match_lit, match_nt, match_named, match_in_hole, match_hide_hole, match_closed, match_seq, match_none, match_one, match_many, run_end, run_more}
+use Rattle.rdx_lang.specs.Rules.{Split, SplitItems, SplitRun, split_hole, split_nt, split_named, split_in_hole, split_closed, split_seq, split_here, split_behind, split_many, run_here, run_there, run_behind}
+use Rattle.rdx_lang.proofs.CollectionLaws.{AreMaps, BindNames, repetition-names}
+use Rattle.rdx_lang.proofs.NameLists.{add_names-ascends, joined}
 
 -- ---- the names of a pattern
 
@@ -126,42 +34,7 @@ mutual
   item_names-ascend : (ps : Items) → IsAscending name_cmp (item_names ps)
   item_names-ascend nil = tt
   item_names-ascend (one p ps) = add_names-ascends (names p) (item_names ps) (item_names-ascend ps)
-
--- ---- the names of a join
-
--- what has the name of each pair has each bound name
-bound_names-within : (b : Binding) (xs : List (List ℕ)) → ((p : Pair) → In p b → In p.0 xs) → (z : List ℕ) → In z (bound_names b) → In z xs
-bound_names-within b xs f z h =
-    let k : (p : Pair) × In p b × (z ≡ p.0) = in-map (λ (p : Pair). p.0) b z h in
-    subst (λ (w : List ℕ). In w xs) (sym k.2) (f k.0 k.1)
-
--- a join binds the names that either binds
-pub bound_names-join : (a b c : Binding) → HasAscendingNames b → IsJoin a b c → bound_names c ≡ add_names (bound_names a) (bound_names b)
-bound_names-join a b c h j =
-    fixed_by_members name_cmp name_cmp-total (bound_names c) (add_names (bound_names a) (bound_names b)) j.map (add_names-ascends (bound_names a) (bound_names b) h) to from
-  where
-    of_pair : (p : Pair) → In p a ⊎ In p b → In p.0 (add_names (bound_names a) (bound_names b))
-    of_pair p (inl l) = add_names-left (bound_names a) (bound_names b) p.0 (bound_names-member p a l)
-    of_pair p (inr r) = add_names-right (bound_names a) (bound_names b) p.0 (bound_names-member p b r)
-
-    to : (z : List ℕ) → In z (bound_names c) → In z (add_names (bound_names a) (bound_names b))
-    to = bound_names-within c (add_names (bound_names a) (bound_names b)) (λ p i. of_pair p (j.sound p i))
-
-    of_either : (z : List ℕ) → In z (bound_names a) ⊎ In z (bound_names b) → In z (bound_names c)
-    of_either z (inl l) = bound_names-within a (bound_names c) (λ p i. bound_names-member p c (j.left p i)) z l
-    of_either z (inr r) = bound_names-within b (bound_names c) (λ p i. bound_names-member p c (j.right p i)) z r
-
-    from : (z : List ℕ) → In z (add_names (bound_names a) (bound_names b)) → In z (bound_names c)
-    from z h = of_either z (add_names-sound (bound_names a) (bound_names b) z h)
-
--- the order of two bindings makes no difference to their join
-pub turned_join : (a b c : Binding) → IsJoin a b c → IsJoin b a c
-turned_join a b c j = record {
-  map = j.map;
-  sound = λ p i. elim (j.sound p i) [ inl l ↦ inr l | inr r ↦ inl r ];
-  left = j.right;
-  right = j.left;
-}
+  item_names-ascend (many p n ps) = add_names-ascends (with_length_name n (names p)) (item_names ps) (item_names-ascend ps)
 
 -- ---- the names of a match, and of a split
 
@@ -185,11 +58,13 @@ mutual
   pub items-ascends : {L : Language} {ps : Items} {ts : Trees} {b : Binding} → MatchItems L ps ts b → HasAscendingNames b
   items-ascends match_none = tt
   items-ascends (match_one h g j) = j.map
+  items-ascends (match_many h r j) = j.map
 
 -- so do items of which one splits
 pub split_items-ascends : {L : Language} {ps : Items} {ts : Trees} {k : ℕ} {D s : Tree} {b : Binding} → SplitItems L ps ts k D s b → HasAscendingNames b
 split_items-ascends (split_here h g j) = j.map
 split_items-ascends (split_behind h g j) = j.map
+split_items-ascends (split_many h r j) = j.map
 
 -- a split binds a finite map
 pub split-ascends : {L : Language} {p : Pattern} {t C s : Tree} {b : Binding} → Split L p t C s b → HasAscendingNames b
@@ -200,9 +75,40 @@ split-ascends (split_in_hole h g e j) = j.map
 split-ascends (split_closed h) = tt
 split-ascends (split_seq h e) = split_items-ascends h
 
--- a join binds the names of both, by what they are known to bind
-joined : (a b : Binding) {c : Binding} {xs ys : List (List ℕ)} → HasAscendingNames b → IsJoin a b c → bound_names a ≡ xs → bound_names b ≡ ys → bound_names c ≡ add_names xs ys
-joined a b {c = c} h j e f = bound_names-join a b c h j ∙ (λ i. add_names (e i) (f i))
+-- ---- runs
+
+-- all of these bindings are finite maps, where the first is
+first_map : {c : Binding} {cs : List Binding} → HasAscendingNames c → AreMaps cs → AreMaps (c ∷ cs)
+first_map h f b (here e) = subst (λ (d : Binding). HasAscendingNames d) (sym e) h
+first_map h f b (there i) = f b i
+
+-- each turn of a run binds a finite map
+pub run-maps : {L : Language} {p : Pattern} {ps : Items} {ts : Trees} {cs : List Binding} {d : Binding} → MatchRun L p ps ts cs d
+    → AreMaps cs
+run-maps (run_end g) = λ b i. elim i [ ]
+run-maps (run_more h r) = first_map (match-ascends h) (run-maps r)
+
+-- so do the items behind the turns
+pub run-ascends : {L : Language} {p : Pattern} {ps : Items} {ts : Trees} {cs : List Binding} {d : Binding} → MatchRun L p ps ts cs d
+    → HasAscendingNames d
+run-ascends (run_end g) = items-ascends g
+run-ascends (run_more h r) = run-ascends r
+
+-- so does each turn of a run in which one term is split
+pub split_run-maps : {L : Language} {p : Pattern} {ps : Items} {ts : Trees} {k : ℕ} {D s : Tree} {cs : List Binding} {d : Binding} →
+    SplitRun L p ps ts k D s cs d → AreMaps cs
+split_run-maps (run_here h r) = first_map (split-ascends h) (run-maps r)
+split_run-maps (run_there h r) = first_map (match-ascends h) (split_run-maps r)
+split_run-maps (run_behind g) = λ b i. elim i [ ]
+
+-- and the items behind them
+pub split_run-ascends : {L : Language} {p : Pattern} {ps : Items} {ts : Trees} {k : ℕ} {D s : Tree} {cs : List Binding} {d : Binding} →
+    SplitRun L p ps ts k D s cs d → HasAscendingNames d
+split_run-ascends (run_here h r) = run-ascends r
+split_run-ascends (run_there h r) = split_run-ascends r
+split_run-ascends (run_behind g) = split_items-ascends g
+
+-- ---- what is bound
 
 mutual
   -- a match binds exactly the names of its pattern
@@ -224,6 +130,13 @@ mutual
   pub items-names : {L : Language} {ps : Items} {ts : Trees} {b : Binding} → MatchItems L ps ts b → bound_names b ≡ item_names ps
   items-names match_none = refl
   items-names (match_one {c = c} {d = d} h g j) = joined c d (items-ascends g) j (match-names h) (items-names g)
+  items-names (match_many {c = c} {d = d} h r j) = joined c d (run-ascends h) j (repetition-names r) (run-names h)
+
+  -- so do the items behind the turns of a run
+  pub run-names : {L : Language} {p : Pattern} {ps : Items} {ts : Trees} {cs : List Binding} {d : Binding} → MatchRun L p ps ts cs d
+      → bound_names d ≡ item_names ps
+  run-names (run_end g) = items-names g
+  run-names (run_more h r) = run-names r
 
   -- so does a split
   pub split-names : {L : Language} {p : Pattern} {t C s : Tree} {b : Binding} → Split L p t C s b → bound_names b ≡ names p
@@ -238,3 +151,31 @@ mutual
   pub split_items-names : {L : Language} {ps : Items} {ts : Trees} {k : ℕ} {D s : Tree} {b : Binding} → SplitItems L ps ts k D s b → bound_names b ≡ item_names ps
   split_items-names (split_here {c = c} {d = d} h g j) = joined c d (items-ascends g) j (split-names h) (items-names g)
   split_items-names (split_behind {c = c} {d = d} h g j) = joined c d (split_items-ascends g) j (match-names h) (split_items-names g)
+  split_items-names (split_many {c = c} {d = d} h r j) = joined c d (split_run-ascends h) j (repetition-names r) (split_run-names h)
+
+  -- so do the items behind the turns of a run in which one term is split
+  pub split_run-names : {L : Language} {p : Pattern} {ps : Items} {ts : Trees} {k : ℕ} {D s : Tree} {cs : List Binding} {d : Binding} →
+      SplitRun L p ps ts k D s cs d → bound_names d ≡ item_names ps
+  split_run-names (run_here h r) = run-names r
+  split_run-names (run_there h r) = split_run-names r
+  split_run-names (run_behind g) = split_items-names g
+
+-- ---- the names of turns
+
+-- all of these bindings bind exactly xs, where the first does
+first_names : {xs : List (List ℕ)} {c : Binding} {cs : List Binding} → bound_names c ≡ xs → BindNames xs cs → BindNames xs (c ∷ cs)
+first_names h f b (here e) = ap bound_names e ∙ h
+first_names h f b (there i) = f b i
+
+-- each turn of a run binds exactly the names of its pattern
+pub turn-names : {L : Language} {p : Pattern} {ps : Items} {ts : Trees} {cs : List Binding} {d : Binding} → MatchRun L p ps ts cs d
+    → BindNames (names p) cs
+turn-names (run_end g) = λ b i. elim i [ ]
+turn-names (run_more h r) = first_names (match-names h) (turn-names r)
+
+-- so does each turn of a run in which one term is split
+pub split_turn-names : {L : Language} {p : Pattern} {ps : Items} {ts : Trees} {k : ℕ} {D s : Tree} {cs : List Binding} {d : Binding} →
+    SplitRun L p ps ts k D s cs d → BindNames (names p) cs
+split_turn-names (run_here h r) = first_names (split-names h) (turn-names r)
+split_turn-names (run_there h r) = first_names (match-names h) (split_turn-names r)
+split_turn-names (run_behind g) = λ b i. elim i [ ]

@@ -1,8 +1,8 @@
 -- What each form of the code's patterns stands for, for proofs here and in the crates above.
-use Rattle.std.proofs.Common.{◌≡◌, ℕ, List, map, ap, ◌∙◌}
+use Rattle.std.proofs.Common.{◌≡◌, ℕ, List, Option, map, ap, ◌∙◌}
 use Rattle.rdx_term.specs.View.{tree_of}
 use Rattle.rdx_lang.specs.Patterns.{Pattern, wild, of_kind, except, prefix, hole, lit, nt, named, in_hole, hide_hole, closed, seq}
-use Rattle.rdx_lang.specs.PatternView.{pattern_of, pattern_step, slot_of, slot_step, Slot, just, items_of}
+use Rattle.rdx_lang.specs.PatternView.{pattern_of, pattern_step, slot_of, slot_step, Slot, just, repeated, items_of}
 use Rattle.rdx_lang.specs.declared.pattern.Item as code_item
 use Rattle.rdx_lang.specs.declared.pattern.Item.TheOpen as layer
 use Rattle.rdx_lang.specs.declared.pattern.Item.TheVariants as item_variants
@@ -70,3 +70,7 @@ pattern_seq v = pattern_at _ _ (pattern_variants.outs-Seq v)
 -- an item of one term
 pub slot_one : (p : code_pattern.Pat) → slot_of (code_item.One p) ≡ just (pattern_of p)
 slot_one p = slot_at _ _ (item_variants.outs-One p)
+
+-- a repetition
+pub slot_many : (p : code_pattern.Pat) (n : Option (List ℕ)) → slot_of (code_item.Many p n) ≡ repeated (pattern_of p) n
+slot_many p n = slot_at _ _ (item_variants.outs-Many p n)

@@ -1,21 +1,24 @@
 -- The rules of matching and of splitting read backwards, a lemma for each: what a pattern of each form matches, what it splits a term into, and
 -- what it binds then.
-use Rattle.std.proofs.Common.{◌≡◌, ℕ, zero, suc, eqb, true, false, Option, Some, List, [], ◌∷◌, length, refl, ap}
+use Rattle.std.proofs.Common.{◌≡◌, ℕ, zero, suc, eqb, true, false, Option, Some, List, [], ◌∷◌, length, refl, arith}
 use Rattle.std.specs.List.{starts_with}
 use Rattle.rdx_term.specs.Bare.{bare}
-use Rattle.rdx_term.specs.Tree.{Tree, symbol, list, Trees, cons, trees}
+use Rattle.rdx_term.specs.Tree.{Tree, symbol, list, Trees, cons}
 use Rattle.rdx_term.specs.Tree.{nil as no_trees}
 use Rattle.rdx_term.specs.Tree.{hole as the_hole}
 use Rattle.rdx_term.specs.Fill.{fill_of}
-use Rattle.rdx_term.specs.Items.{put_at}
+use Rattle.rdx_term.specs.Items.{trees_count, put_at}
 use Rattle.rdx_lang.specs.Bindings.{Binding, no_names, one_name}
 use Rattle.rdx_lang.specs.Bindings.{one as one_term}
+use Rattle.rdx_lang.specs.Collections.{IsRepetition}
 use Rattle.rdx_lang.specs.Inside.Alternatives.{AnyAlternative, AnySplit}
+use Rattle.rdx_lang.specs.Inside.Singles.{are_single}
 use Rattle.rdx_lang.specs.Join.{IsJoin}
-use Rattle.rdx_lang.specs.Patterns.{Pattern, wild, of_kind, except, prefix, hole, lit, nt, named, in_hole, hide_hole, closed, seq, Items, nil, one, Language}
-use Rattle.rdx_lang.specs.PatternView.{Slot, just, items_of}
-use Rattle.rdx_lang.specs.Rules.{Match, MatchItems, match_wild, match_kind, match_except, match_prefix, match_hole, match_lit, match_nt, match_named, match_in_hole, match_hide_hole, match_closed, match_seq, match_none, match_one, is_of_kind, is_one_of}
-use Rattle.rdx_lang.specs.Rules.{Split, SplitItems, split_hole, split_nt, split_named, split_in_hole, split_closed, split_seq, split_here, split_behind}
+use Rattle.rdx_lang.specs.Names.{names}
+use Rattle.rdx_lang.specs.Patterns.{Pattern, wild, of_kind, except, prefix, hole, lit, nt, named, in_hole, hide_hole, closed, seq, Items, nil, one, many, Language}
+use Rattle.rdx_lang.specs.PatternView.{Slot, just, repeated, items_of}
+use Rattle.rdx_lang.specs.Rules.{Match, MatchItems, MatchRun, match_wild, match_kind, match_except, match_prefix, match_hole, match_lit, match_nt, match_named, match_in_hole, match_hide_hole, match_closed, match_seq, match_none, match_one, match_many, run_end, run_more, is_of_kind, is_one_of}
+use Rattle.rdx_lang.specs.Rules.{Split, SplitItems, SplitRun, split_hole, split_nt, split_named, split_in_hole, split_closed, split_seq, split_here, split_behind, split_many, run_here, run_there, run_behind}
 use Rattle.rdx_lang.specs.declared.pattern.Kind.{Kind}
 use Rattle.rdx_lang.specs.declared.pattern.Ref.{Ref}
 
@@ -45,6 +48,20 @@ pub record ItemParts (L : Language) (p : Pattern) (ps : Items) (t : Tree) (ts : 
   pub first_matched : Match L p t first
   pub rest_matched : MatchItems L ps ts rest
   pub joined : IsJoin first rest b
+
+-- a run of p and the items behind it match ts, and what the repetition binds, joined with what these items bind, is b
+pub record ManyParts (L : Language) (p : Pattern) (n : Option (List ℕ)) (ps : Items) (ts : Trees) (b : Binding) : Type 0 where
+  pub turns : List Binding
+  pub first : Binding
+  pub rest : Binding
+  pub run : MatchRun L p ps ts turns rest
+  pub repeats : IsRepetition (names p) turns n first
+  pub joined : IsJoin first rest b
+
+-- what a run does at the term t with ts behind it: it has ended before t, or has a turn there
+pub data RunParts (L : Language) (p : Pattern) (ps : Items) (t : Tree) (ts : Trees) : List Binding → Binding → Type 0 where
+  ended : {d : Binding} → MatchItems L ps (cons t ts) d → RunParts L p ps t ts [] d
+  turned : {c d : Binding} {cs : List Binding} → Match L p t c → MatchRun L p ps ts cs d → RunParts L p ps t ts (c ∷ cs) d
 
 -- what q binds at t, whatever it is
 pub record SomeMatch (L : Language) (q : Pattern) (t : Tree) : Type 0 where
@@ -99,6 +116,24 @@ pub record ListSplit (L : Language) (ps : Items) (t C s : Tree) (b : Binding) : 
 pub data ItemSplit (L : Language) (p : Pattern) (ps : Items) (t : Tree) (ts : Trees) : ℕ → Tree → Tree → Binding → Type 0 where
   at_first : {D s : Tree} {c d b : Binding} → Split L p t D s c → MatchItems L ps ts d → IsJoin c d b → ItemSplit L p ps t ts zero D s b
   at_later : {k : ℕ} {D s : Tree} {c d b : Binding} → Match L p t c → SplitItems L ps ts k D s d → IsJoin c d b → ItemSplit L p ps t ts (suc k) D s b
+
+-- a run of p and the items behind it, one of whose terms is split, and what the repetition binds, joined with what these items bind, is b
+pub record ManySplit (L : Language) (p : Pattern) (n : Option (List ℕ)) (ps : Items) (ts : Trees) (k : ℕ) (D s : Tree) (b : Binding) : Type 0 where
+  pub turns : List Binding
+  pub first : Binding
+  pub rest : Binding
+  pub run : SplitRun L p ps ts k D s turns rest
+  pub repeats : IsRepetition (names p) turns n first
+  pub joined : IsJoin first rest b
+
+-- what a run in which one term is split does at the term t with ts behind it: it splits t in a turn, has a turn there and splits a later
+-- term, or has ended before t
+pub data RunSplit (L : Language) (p : Pattern) (ps : Items) (t : Tree) (ts : Trees) : ℕ → Tree → Tree → List Binding → Binding → Type 0 where
+  in_turn : {D s : Tree} {c d : Binding} {cs : List Binding} → Split L p t D s c → MatchRun L p ps ts cs d
+      → RunSplit L p ps t ts zero D s (c ∷ cs) d
+  in_later : {k : ℕ} {D s : Tree} {c d : Binding} {cs : List Binding} →
+      Match L p t c → SplitRun L p ps ts k D s cs d → RunSplit L p ps t ts (suc k) D s (c ∷ cs) d
+  behind_turns : {k : ℕ} {D s : Tree} {d : Binding} → SplitItems L ps (cons t ts) k D s d → RunSplit L p ps t ts k D s [] d
 
 module _ {L : Language} where
   -- `_`
@@ -162,12 +197,31 @@ module _ {L : Language} where
   pub item_inside : {p : Pattern} {ps : Items} {t : Tree} {ts : Trees} {b : Binding} → MatchItems L (one p ps) (cons t ts) b → ItemParts L p ps t ts b
   item_inside (match_one {c = c} {d = d} h g j) = record { first = c; rest = d; first_matched = h; rest_matched = g; joined = j }
 
-  -- items match as many terms as they are
-  pub same_length : {b : Binding} (slots : List Slot) (ts : List Tree) → MatchItems L (items_of slots) (trees ts) b → length slots ≡ length ts
-  same_length [] [] m = refl
-  same_length [] (t ∷ ts) m = elim m [ ]
-  same_length (just p ∷ slots) [] m = elim m [ ]
-  same_length (just p ∷ slots) (t ∷ ts) (match_one h g j) = ap suc (same_length slots ts g)
+  -- a repetition and the items behind it
+  pub many_inside : {p : Pattern} {n : Option (List ℕ)} {ps : Items} {ts : Trees} {b : Binding} → MatchItems L (many p n ps) ts b
+      → ManyParts L p n ps ts b
+  many_inside (match_many {cs = cs} {c = c} {d = d} h r j) = record { turns = cs; first = c; rest = d; run = h; repeats = r; joined = j }
+
+  -- a run at the end of the terms has no turn
+  pub run_at_end : {p : Pattern} {ps : Items} {cs : List Binding} {d : Binding} → MatchRun L p ps no_trees cs d
+      → (cs ≡ []) × MatchItems L ps no_trees d
+  run_at_end (run_end h) = (refl, h)
+
+  -- a run at a term
+  pub run_at_term : {p : Pattern} {ps : Items} {t : Tree} {ts : Trees} {cs : List Binding} {d : Binding} →
+      MatchRun L p ps (cons t ts) cs d → RunParts L p ps t ts cs d
+  run_at_term (run_end h) = ended h
+  run_at_term (run_more h r) = turned h r
+
+  -- items without repetitions match as many terms as they are
+  pub same_length : {b : Binding} (slots : List Slot) (ts : Trees) → are_single slots ≡ true → MatchItems L (items_of slots) ts b
+      → trees_count ts ≡ length slots
+  same_length [] no_trees a m = refl
+  same_length [] (cons t ts) a m = elim m [ ]
+  same_length (just p ∷ slots) no_trees a m = elim m [ ]
+  same_length (just p ∷ slots) (cons t ts) a (match_one h g j) =
+      let more : trees_count ts ≡ length slots = same_length slots ts a g in omega arith
+  same_length (repeated p n ∷ slots) ts a m = absurd cc
 
   -- ---- splitting
 
@@ -230,3 +284,31 @@ module _ {L : Language} where
   -- of no items none splits
   pub none_splits : {ts : Trees} {k : ℕ} {D s : Tree} {b : Binding} → SplitItems L nil ts k D s b → ⊥
   none_splits h = elim h [ ]
+
+  -- a repetition and the items behind it
+  pub many_splits : {p : Pattern} {n : Option (List ℕ)} {ps : Items} {ts : Trees} {k : ℕ} {D s : Tree} {b : Binding} →
+      SplitItems L (many p n ps) ts k D s b → ManySplit L p n ps ts k D s b
+  many_splits (split_many {cs = cs} {c = c} {d = d} h r j) = record { turns = cs; first = c; rest = d; run = h; repeats = r; joined = j }
+
+  -- a run at the end of the terms splits none in a turn
+  pub run_splits_end : {p : Pattern} {ps : Items} {k : ℕ} {D s : Tree} {cs : List Binding} {d : Binding} →
+      SplitRun L p ps no_trees k D s cs d → (cs ≡ []) × SplitItems L ps no_trees k D s d
+  run_splits_end (run_behind h) = (refl, h)
+
+  -- a run at a term
+  pub run_splits_term : {p : Pattern} {ps : Items} {t : Tree} {ts : Trees} {k : ℕ} {D s : Tree} {cs : List Binding} {d : Binding} →
+      SplitRun L p ps (cons t ts) k D s cs d → RunSplit L p ps t ts k D s cs d
+  run_splits_term (run_here h r) = in_turn h r
+  run_splits_term (run_there h r) = in_later h r
+  run_splits_term (run_behind h) = behind_turns h
+
+  -- items without repetitions, of which one splits, are as many as the terms
+  pub same_length_split : {k : ℕ} {D s : Tree} {b : Binding} (slots : List Slot) (ts : Trees) →
+      are_single slots ≡ true → SplitItems L (items_of slots) ts k D s b → trees_count ts ≡ length slots
+  same_length_split [] ts a h = elim h [ ]
+  same_length_split (just p ∷ slots) no_trees a h = elim h [ ]
+  same_length_split (just p ∷ slots) (cons t ts) a (split_here h g j) =
+      let more : trees_count ts ≡ length slots = same_length slots ts a g in omega arith
+  same_length_split (just p ∷ slots) (cons t ts) a (split_behind h g j) =
+      let more : trees_count ts ≡ length slots = same_length_split slots ts a g in omega arith
+  same_length_split (repeated p n ∷ slots) ts a h = absurd cc

@@ -11,12 +11,13 @@ use Rattle.rdx_lang.specs.Listing.{SplitsInto}
 use Rattle.rdx_lang.specs.Members.{In, here, there}
 use Rattle.rdx_lang.specs.Model.TotalOrders.{binding_cmp-total, decomposition_cmp-total}
 use Rattle.rdx_lang.specs.Order.{binding_cmp, decomposition_cmp}
-use Rattle.rdx_lang.specs.Patterns.{Pattern, wild, of_kind, except, prefix, hole, lit, nt, named, in_hole, hide_hole, closed, seq, Items, nil, one, Definition, Language}
-use Rattle.rdx_lang.specs.Rules.{Match, IsAlternative, Split, SplitItems, split_hole, split_nt, split_named, split_in_hole, split_closed, split_seq, split_here, split_behind}
+use Rattle.rdx_lang.specs.Patterns.{Pattern, wild, of_kind, except, prefix, hole, lit, nt, named, in_hole, hide_hole, closed, seq, Items, nil, one, many, Definition, Language}
+use Rattle.rdx_lang.specs.Rules.{Match, IsAlternative, Split, SplitItems, SplitRun, split_hole, split_nt, split_named, split_in_hole, split_closed, split_seq, split_here, split_behind, split_many, run_here, run_there, run_behind}
 use Rattle.rdx_lang.specs.WellFormed.{defined}
 use Rattle.rdx_lang.specs.declared.pattern.Ref.{Ref}
 use Rattle.rdx_lang.proofs.Finite.{sorted, listed}
 use Rattle.rdx_lang.proofs.FinitePatterns.{FinitelyMany, FinitelyManyItems, finite_wild, finite_kind, finite_except, finite_prefix, finite_hole, finite_lit, finite_nt, finite_named, finite_in_hole, finite_hide_hole, finite_closed, finite_no_list, finite_seq, finite_none_left, finite_no_term, finite_no_item, finite_one_more}
+use Rattle.rdx_lang.proofs.FiniteRuns.{FinitelyManyRuns, finite_no_turn, finite_turn_more, finite_many}
 use Rattle.rdx_lang.proofs.MemberLaws.{map-in}
 use Rattle.rdx_lang.proofs.OrderLaws.{binding_cmp-tells, decomposition_cmp-tells}
 
@@ -33,6 +34,11 @@ part_of_part {t = t} {s = s} (inl d) (inr l) = inr (subst (λ (w : Tree). tree_n
 part_of_part {t = t} (inr l) (inl e) = inr (subst (λ (w : Tree). tree_nodes w < tree_nodes t) (sym e.1) l)
 part_of_part (inr l) (inr m) = inr (omega (arith, l, m))
 
+-- the part is no larger than the term
+no_larger : {L : Language} {p : Pattern} {t u : Tree} → WholeOrLess L p t u → tree_nodes u ≤ tree_nodes t
+no_larger {t = t} {u = u} (inl e) = let n : tree_nodes u ≡ tree_nodes t = ap tree_nodes e.1 in omega (arith, n)
+no_larger (inr l) = omega (arith, l)
+
 mutual
   -- what stands in the hole is the whole term, if the pattern is Empty, or smaller
   split_part : {L : Language} {p : Pattern} {t C u : Tree} {b : Binding} → Split L p t C u b → WholeOrLess L p t u
@@ -46,11 +52,16 @@ mutual
   -- the part of an item is no larger than all items
   item_part : {L : Language} {ps : Items} {ts : Trees} {k : ℕ} {D u : Tree} {b : Binding} → SplitItems L ps ts k D u b
       → tree_nodes u ≤ trees_nodes ts
-  item_part (split_here {t = t} {s = s} {ts = ts} h g j) = elim (split_part h) [
-    | inl e ↦ let n : tree_nodes s ≡ tree_nodes t = ap tree_nodes e.1 in omega (arith, n)
-    | inr l ↦ omega (arith, l)
-  ]
+  item_part (split_here h g j) = let l = no_larger (split_part h) in omega (arith, l)
   item_part (split_behind m h j) = let l = item_part h in omega (arith, l)
+  item_part (split_many r k j) = run_part r
+
+  -- so is the part of a term in a run, or behind it
+  run_part : {L : Language} {p : Pattern} {ps : Items} {ts : Trees} {k : ℕ} {D u : Tree} {cs : List Binding} {d : Binding}
+      → SplitRun L p ps ts k D u cs d → tree_nodes u ≤ trees_nodes ts
+  run_part (run_here h r) = let l = no_larger (split_part h) in omega (arith, l)
+  run_part (run_there m r) = let l = run_part r in omega (arith, l)
+  run_part (run_behind h) = item_part h
 
 -- ---- lists of nonterminals
 
@@ -115,14 +126,28 @@ module _ (L : Language) where
       by_part (inl e) = subst (FinitelyMany L r) (sym e.1) (whole e.0)
       by_part (inr l) = smaller d.part l
 
+  -- there are finitely many for all terms that are no larger than these
+  abbrev AtMost : Trees → Type 0
+  AtMost ts = (u : Tree) → tree_nodes u ≤ trees_nodes ts → (p : Pattern) → FinitelyMany L p u
+
+  -- so there are at the terms behind the first
+  at_rest : (t : Tree) (ts : Trees) → AtMost (tree.cons t ts) → AtMost ts
+  at_rest t ts f u l q = f u (omega (arith, l)) q
+
+  -- runs, where there are finitely many for the items behind them, wherever these begin
+  by_runs : (p : Pattern) (ps : Items) → ((us : Trees) → AtMost us → FinitelyManyItems L ps us) → (ts : Trees) → AtMost ts
+      → FinitelyManyRuns L p ps ts
+  by_runs p ps g tree.nil f = finite_no_turn L p ps (g tree.nil f)
+  by_runs p ps g (tree.cons t ts) f =
+      finite_turn_more L p ps t ts (g (tree.cons t ts) f) (f t (omega arith) p) (by_runs p ps g ts (at_rest t ts f))
+
   -- items, where there are finitely many for each of these terms
-  by_items : (ts : Trees) → ((u : Tree) → tree_nodes u ≤ trees_nodes ts → (p : Pattern) → FinitelyMany L p u) → (ps : Items)
-      → FinitelyManyItems L ps ts
-  by_items tree.nil f nil = finite_none_left L
-  by_items tree.nil f (one p ps) = finite_no_term L p ps
-  by_items (tree.cons t ts) f nil = finite_no_item L t ts
-  by_items (tree.cons t ts) f (one p ps) =
-      finite_one_more L p ps t ts (f t (omega arith) p) (by_items ts (λ u l q. f u (omega (arith, l)) q) ps)
+  by_items : (ps : Items) (ts : Trees) → AtMost ts → FinitelyManyItems L ps ts
+  by_items nil tree.nil f = finite_none_left L
+  by_items nil (tree.cons t ts) f = finite_no_item L t ts
+  by_items (one p ps) tree.nil f = finite_no_term L p ps
+  by_items (one p ps) (tree.cons t ts) f = finite_one_more L p ps t ts (f t (omega arith) p) (by_items ps ts (at_rest t ts f))
+  by_items (many p n ps) ts f = finite_many L p ps n ts (by_runs p ps (λ us g. by_items ps us g) ts f)
 
   -- list patterns, where there are finitely many for all smaller terms
   by_list : (t : Tree) → ((u : Tree) → tree_nodes u < tree_nodes t → (p : Pattern) → FinitelyMany L p u) → (ps : Items)
@@ -132,7 +157,7 @@ module _ (L : Language) where
   by_list (tree.truth h) f ps = finite_no_list L ps (tree.truth h) (λ m ts e. absurd cc)
   by_list (tree.text x) f ps = finite_no_list L ps (tree.text x) (λ m ts e. absurd cc)
   by_list (tree.symbol x) f ps = finite_no_list L ps (tree.symbol x) (λ m ts e. absurd cc)
-  by_list (tree.list m ts) f ps = finite_seq L ps m ts (by_items ts (λ u l q. f u (omega (arith, l)) q) ps)
+  by_list (tree.list m ts) f ps = finite_seq L ps m ts (by_items ps ts (λ u l q. f u (omega (arith, l)) q))
 
   -- at one term, where there are finitely many for all smaller ones
   module _ (free : IsFree L) (t : Tree) (smaller : (u : Tree) → tree_nodes u < tree_nodes t → (p : Pattern) → FinitelyMany L p u) where

@@ -1,18 +1,18 @@
 -- What a pattern splits a term into is fixed by a path: the part stands where it leads, and the context is the term with the hole in its place.
-use Rattle.std.proofs.Common.{◌≡◌, ℕ, ◌<◌, ◌≤◌, IsTrue, Option, Some, List, ◌∷◌, ◌++◌, refl, sym, ◌∙◌, ap, subst, arith}
+use Rattle.std.proofs.Common.{◌≡◌, ℕ, zero, suc, ◌<◌, ◌≤◌, IsTrue, Option, Some, List, ◌∷◌, ◌++◌, refl, sym, ◌∙◌, ap, subst, arith}
 use Rattle.rdx_term.specs.AtPaths.{IsPlace, tree_at, context_at}
 use Rattle.rdx_term.specs.Bare.{bare}
 use Rattle.rdx_term.specs.Context.{is_context}
 use Rattle.rdx_term.specs.Fill.{fill_of}
 use Rattle.rdx_term.specs.Items.{trees_count, item_at, put_at}
 use Rattle.rdx_term.specs.Path.{path}
-use Rattle.rdx_term.specs.Tree.{Tree, list, Trees, tree_depth, tree_nodes}
+use Rattle.rdx_term.specs.Tree.{Tree, list, Trees, cons, tree_depth, tree_nodes}
 use Rattle.rdx_term.specs.Tree.{hole as the_hole}
 use Rattle.rdx_term.proofs.AtPaths.{IsPlace-item, tree_at-item, context_at-item, IsPlace-++, tree_at-++, fill_of-context_at, path-context_at, is_context-context_at, bare-refilled, context_at_le-depth, context_at_le-nodes, tree_at_le-depth, tree_at_le-nodes}
 use Rattle.rdx_lang.specs.Bindings.{Binding}
 use Rattle.rdx_lang.specs.Laws.{IsSplitOf, IsAlongPath}
 use Rattle.rdx_lang.specs.Patterns.{Pattern, Items, Language}
-use Rattle.rdx_lang.specs.Rules.{Split, SplitItems, split_hole, split_nt, split_named, split_in_hole, split_closed, split_seq, split_here, split_behind}
+use Rattle.rdx_lang.specs.Rules.{Split, SplitItems, SplitRun, split_hole, split_nt, split_named, split_in_hole, split_closed, split_seq, split_here, split_behind, split_many, run_here, run_there, run_behind}
 
 -- ---- along a path
 
@@ -45,7 +45,15 @@ pub record IsItemAlong (ts : Trees) (k : ℕ) (D s : Tree) : Type 0 where
   pub inside : k < trees_count ts
   pub item : IsAlongPath (item_at ts k the_hole) D s
 
--- so is the list
+-- the first item is, where its term is
+first_along : {t : Tree} {ts : Trees} {D s : Tree} → IsAlongPath t D s → IsItemAlong (cons t ts) zero D s
+first_along {ts = ts} a = record { inside = omega arith; item = a }
+
+-- and a later one, where it is behind the first
+later_along : {t : Tree} {ts : Trees} {k : ℕ} {D s : Tree} → IsItemAlong ts k D s → IsItemAlong (cons t ts) (suc k) D s
+later_along {ts = ts} {k = k} a = let i : k < trees_count ts = a.inside in record { inside = omega arith; item = a.item }
+
+-- so is the list around it
 pub around_item : (m : Option ℕ) (ts : Trees) (k : ℕ) (D s : Tree) → IsItemAlong ts k D s → IsAlongPath (list m ts) (list (Some k) (put_at ts k D)) s
 around_item m ts k D s a =
     let item : Tree = item_at ts k the_hole in
@@ -70,11 +78,16 @@ mutual
 
   -- so is that of the item that splits
   pub items-along : {L : Language} {ps : Items} {ts : Trees} {k : ℕ} {D s : Tree} {b : Binding} → SplitItems L ps ts k D s b → IsItemAlong ts k D s
-  items-along (split_here {ts = ts} h g j) = record { inside = omega arith; item = split-along h }
-  items-along (split_behind {ts = ts} {k = k} h g j) =
-      let a = items-along g in
-      let i : k < trees_count ts = a.inside in
-      record { inside = omega arith; item = a.item }
+  items-along (split_here h g j) = first_along (split-along h)
+  items-along (split_behind h g j) = later_along (items-along g)
+  items-along (split_many h r j) = run-along h
+
+  -- be it in a turn of a repetition, or behind the turns
+  run-along : {L : Language} {p : Pattern} {ps : Items} {ts : Trees} {k : ℕ} {D s : Tree} {cs : List Binding} {d : Binding} →
+      SplitRun L p ps ts k D s cs d → IsItemAlong ts k D s
+  run-along (run_here h r) = first_along (split-along h)
+  run-along (run_there h r) = later_along (run-along r)
+  run-along (run_behind g) = items-along g
 
 -- what is split along a path is put together again, and neither part is larger than it
 pub put_together : (t C s : Tree) → IsAlongPath t C s → IsSplitOf t C s

@@ -1,6 +1,7 @@
--- What a repetition binds: each name to the sequence of what it stands for in each turn.
-use Rattle.std.specs.Prelude.{◌≡◌, ℕ, List, [], ◌∷◌}
-use Rattle.rdx_lang.specs.Bindings.{Value, many, Values, none, more, Binding, pairs, bound_names}
+-- What a repetition binds: each name to the sequence of what it stands for in each turn, and the length name to how many turns there are.
+use Rattle.std.specs.Prelude.{◌≡◌, ℕ, List, [], ◌∷◌, length, Option, Some, None}
+use Rattle.rdx_lang.specs.Bindings.{Value, many, len, Values, none, more, Binding, pairs, bound_names, one_name}
+use Rattle.rdx_lang.specs.Join.{IsJoin}
 use Rattle.rdx_lang.specs.Members.{In}
 
 -- vs is what the name x stands for in each of these bindings, in their order
@@ -18,3 +19,8 @@ pub record IsSequenceOf (x : List ℕ) (bs : List Binding) (v : Value) : Type 0 
 pub record IsCollection (xs : List (List ℕ)) (bs : List Binding) (c : Binding) : Type 0 where
   pub names : bound_names c ≡ xs
   pub sequences : (x : List ℕ) (v : Value) → In (x, v) (pairs c) → IsSequenceOf x bs v
+
+-- b is what a repetition of a pattern with the names xs binds, whose turns bind cs, without a length name or with one
+pub data IsRepetition (xs : List (List ℕ)) (cs : List Binding) : Option (List ℕ) → Binding → Type 0 where
+  without_length : {b : Binding} → IsCollection xs cs b → IsRepetition xs cs None b
+  with_length : {x : List ℕ} {c b : Binding} → IsCollection xs cs c → IsJoin c (one_name x (len (length cs))) b → IsRepetition xs cs (Some x) b

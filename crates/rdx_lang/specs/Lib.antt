@@ -3,6 +3,8 @@ pub mod Ascending
 pub mod References
 pub mod Patterns
 pub mod PatternView
+pub mod Depths
+pub mod Met
 pub mod WellFormed
 pub mod Lookup
 pub mod Bindings
@@ -24,5 +26,6 @@ pub mod Listing
 pub mod Names
 pub mod Laws
 pub mod Examples
+pub mod RepetitionExamples
 pub mod Model
 pub mod Inside

@@ -2,7 +2,7 @@
 -- "Patterns").
 use Rattle.std.specs.Prelude.{ℕ, Bool, false, ◌||◌, List, [], ◌∷◌, bytes_eq}
 use Rattle.rdx_term.specs.Tree.{Tree, symbol}
-use Rattle.rdx_lang.specs.Patterns.{Pattern, wild, of_kind, except, prefix, hole, lit, nt, named, in_hole, hide_hole, closed, seq, Items, nil, one, Definition, Language}
+use Rattle.rdx_lang.specs.Patterns.{Pattern, wild, of_kind, except, prefix, hole, lit, nt, named, in_hole, hide_hole, closed, seq, Items, nil, one, many, Definition, Language}
 
 -- the term is this symbol
 abbrev pub is_symbol : List ℕ → Tree → Bool
@@ -29,6 +29,7 @@ abbrev mutual
   pub items_mention : List ℕ → Items → Bool
   items_mention s nil = false
   items_mention s (one p ps) = mentions s p || items_mention s ps
+  items_mention s (many p n ps) = mentions s p || items_mention s ps
 
 -- it is a literal in one of these patterns
 abbrev pub any_mentions : List ℕ → List Pattern → Bool

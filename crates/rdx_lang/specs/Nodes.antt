@@ -1,6 +1,6 @@
 -- How many nodes patterns have: a pattern is a node, and so is each pattern inside it.
 use Rattle.std.specs.Prelude.{ℕ, ◌+◌, List, [], ◌∷◌}
-use Rattle.rdx_lang.specs.Patterns.{Pattern, wild, of_kind, except, prefix, hole, lit, nt, named, in_hole, hide_hole, closed, seq, Items, nil, one, Definition}
+use Rattle.rdx_lang.specs.Patterns.{Pattern, wild, of_kind, except, prefix, hole, lit, nt, named, in_hole, hide_hole, closed, seq, Items, nil, one, many, Definition}
 
 abbrev mutual
   -- how many nodes a pattern has, with its own
@@ -22,6 +22,7 @@ abbrev mutual
   pub items_nodes : Items → ℕ
   items_nodes nil = 0
   items_nodes (one p ps) = pattern_nodes p + items_nodes ps
+  items_nodes (many p n ps) = pattern_nodes p + items_nodes ps
 
 -- how many nodes the patterns have together
 abbrev pub patterns_nodes : List Pattern → ℕ

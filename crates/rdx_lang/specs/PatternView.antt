@@ -1,7 +1,7 @@
 -- The patterns and languages that the code's values stand for.
-use Rattle.std.specs.Prelude.{List, [], ◌∷◌, map}
+use Rattle.std.specs.Prelude.{ℕ, List, [], ◌∷◌, map, Option}
 use Rattle.rdx_term.specs.View.{tree_of}
-use Rattle.rdx_lang.specs.Patterns.{Pattern, wild, of_kind, except, prefix, hole, lit, nt, named, in_hole, hide_hole, closed, seq, Items, nil, one, Definition, Language}
+use Rattle.rdx_lang.specs.Patterns.{Pattern, wild, of_kind, except, prefix, hole, lit, nt, named, in_hole, hide_hole, closed, seq, Items, nil, one, many, Definition, Language}
 use Rattle.rdx_lang.specs.declared.language.Language as code_language
 use Rattle.rdx_lang.specs.declared.pattern.Item as code_item
 use Rattle.rdx_lang.specs.declared.pattern.Item.TheOpen as layer
@@ -13,11 +13,13 @@ use Rattle.std.specs.declared.alloc.Global.{Global}
 -- an item of a list pattern
 pub data Slot : Type 0 where
   just : Pattern → Slot
+  repeated : Pattern → Option (List ℕ) → Slot
 
 -- items in their order
 abbrev pub items_of : List Slot → Items
 items_of [] = nil
 items_of (just p ∷ slots) = one p (items_of slots)
+items_of (repeated p n ∷ slots) = many p n (items_of slots)
 
 -- a form of patterns, once its parts are known
 abbrev pub pattern_step : layer.Pat-F Slot Pattern → Pattern
@@ -37,6 +39,7 @@ pattern_step (layer.Seq slots) = seq (items_of slots.items)
 -- a form of items, once its parts are known
 abbrev pub slot_step : layer.Item-F Slot Pattern → Slot
 slot_step (layer.One p) = just p
+slot_step (layer.Many p n) = repeated p n
 
 -- the pattern that a pattern of the code stands for
 abbrev pub pattern_of : code_pattern.Pat → Pattern

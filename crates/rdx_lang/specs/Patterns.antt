@@ -1,5 +1,5 @@
 -- Patterns and languages, as plain data (after the Redex reference manual, "Patterns").
-use Rattle.std.specs.Prelude.{ℕ, List}
+use Rattle.std.specs.Prelude.{ℕ, List, Option}
 use Rattle.rdx_term.specs.Tree.{Tree}
 use Rattle.rdx_lang.specs.declared.pattern.Kind.{Kind}
 use Rattle.rdx_lang.specs.declared.pattern.Ref.{Ref}
@@ -21,10 +21,12 @@ mutual
     closed : Pattern → Pattern
     seq : Items → Pattern
 
-  -- the items of a list pattern, each by its pattern
+  -- the items of a list pattern: one by its pattern, or a repetition of any number of items by its pattern, an ellipsis `...` behind it or,
+  -- with a name for their number, `..._a`
   pub data Items : Type 0 where
     nil : Items
     one : Pattern → Items → Items
+    many : Pattern → Option (List ℕ) → Items → Items
 
 -- a nonterminal with its alternatives
 abbrev pub Definition : Type 0

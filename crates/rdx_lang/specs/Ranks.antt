@@ -5,7 +5,7 @@
 use Rattle.std.specs.Prelude.{◌≡◌, ℕ, ◌<◌, List, [], ◌∷◌, drop, length, if◌then◌else◌}
 use Rattle.rdx_lang.specs.Empty.{IsEmpty}
 use Rattle.rdx_lang.specs.Nodes.{pattern_nodes, patterns_nodes, definitions_nodes}
-use Rattle.rdx_lang.specs.Patterns.{Pattern, wild, of_kind, except, prefix, hole, lit, nt, named, in_hole, hide_hole, closed, seq, Items, nil, one, Definition, Language}
+use Rattle.rdx_lang.specs.Patterns.{Pattern, wild, of_kind, except, prefix, hole, lit, nt, named, in_hole, hide_hole, closed, seq, Items, nil, one, many, Definition, Language}
 use Rattle.rdx_lang.specs.References.{is_same}
 use Rattle.rdx_lang.specs.declared.pattern.Ref.{Ref}
 
@@ -51,6 +51,7 @@ abbrev mutual
   pub FallInItems : Language → (Ref → List ℕ) → Items → List ℕ → Type 0
   FallInItems L roots nil ns = Unit {0}
   FallInItems L roots (one p ps) ns = FallIn L roots p ns × FallInItems L roots ps (drop (pattern_nodes p) ns)
+  FallInItems L roots (many p n ps) ns = FallIn L roots p ns × FallInItems L roots ps (drop (pattern_nodes p) ns)
 
 -- so do they in the patterns, one behind the other
 abbrev pub FallInAll : Language → (Ref → List ℕ) → List Pattern → List ℕ → Type 0

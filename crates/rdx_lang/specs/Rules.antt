@@ -1,7 +1,7 @@
 -- When a pattern of a language matches a term, and when it splits a term into a context and a part, and with which binding: the two least
 -- relations with these rules, a constructor for each (Klein, McCarthy, Jaconette and Findler, "A semantics for context-sensitive reduction
 -- semantics", APLAS 2011).
-use Rattle.std.specs.Prelude.{◌≡◌, ◌↔◌, ℕ, zero, suc, ℤ, pos, negsuc, nat_eq, Bool, true, false, not, IsTrue, IsFalse, List, Option, Some, bytes_eq}
+use Rattle.std.specs.Prelude.{◌≡◌, ◌↔◌, ℕ, zero, suc, ℤ, pos, negsuc, nat_eq, Bool, true, false, not, IsTrue, IsFalse, List, [], ◌∷◌, Option, Some, bytes_eq}
 use Rattle.std.specs.List.{list_any, starts_with}
 use Rattle.rdx_term.specs.Tree.{Tree, integer, truth, text, symbol, list, Trees, cons}
 use Rattle.rdx_term.specs.Tree.{nil as no_trees}
@@ -12,9 +12,11 @@ use Rattle.rdx_term.specs.Items.{put_at}
 use Rattle.rdx_lang.specs.Members.{In}
 use Rattle.rdx_lang.specs.Bindings.{Binding, no_names, one_name}
 use Rattle.rdx_lang.specs.Bindings.{one as one_term}
+use Rattle.rdx_lang.specs.Collections.{IsRepetition}
 use Rattle.rdx_lang.specs.Join.{IsJoin}
 use Rattle.rdx_lang.specs.Literals.{is_mentioned}
-use Rattle.rdx_lang.specs.Patterns.{Pattern, wild, of_kind, except, prefix, hole, lit, nt, named, in_hole, hide_hole, closed, seq, Items, nil, one, Language}
+use Rattle.rdx_lang.specs.Names.{names}
+use Rattle.rdx_lang.specs.Patterns.{Pattern, wild, of_kind, except, prefix, hole, lit, nt, named, in_hole, hide_hole, closed, seq, Items, nil, one, many, Language}
 use Rattle.rdx_lang.specs.declared.pattern.Kind.{Kind}
 use Rattle.rdx_lang.specs.declared.pattern.Kind.TheVariants.{Any, Number, Natural, Integer, Real, Text, Boolean, Variable, Unmentioned}
 use Rattle.rdx_lang.specs.declared.pattern.Ref.{Ref}
@@ -83,14 +85,15 @@ AreAlternatives L x ps = (p : Pattern) → (In p ps ↔ IsAlternative L x p)
 -- The rules of matching. A literal matches the terms that are equal to it with marks forgotten, and `hole` the hole. A nonterminal matches
 -- what one of its alternatives matches, and binds nothing, whatever the alternative binds. A pattern with a name binds what its part binds,
 -- joined with the name for the term; `in-hole` what its left part binds as it splits the term, joined with what its right part binds as it
--- matches what stands in the hole; a list pattern the join of what its items bind. Where a join does not exist there is no match. The marks
--- of a term count in joins alone.
+-- matches what stands in the hole; a list pattern the join of what its items bind. A repetition matches any number of items, one after the
+-- other, each by its pattern, and binds each name to the sequence of what the turns bind, and its length name to their number. Where a join
+-- does not exist there is no match. The marks of a term count in joins alone.
 --
 -- The rules of splitting. `hole` splits each term into the hole and the term. A nonterminal splits it as its alternatives do, and binds
 -- nothing. A pattern with a name binds the name to the context. `in-hole` splits what its left part has left in the hole once more, by its
 -- right part, and puts the second context into the first. A list pattern splits a list where exactly one of its items splits and all others
--- match; the context is the list with the item's context in place of the item, marked there. No other pattern splits a term: `hide-hole`
--- does not, whatever its part does.
+-- match, be it by itself or in a turn of a repetition; the context is the list with the item's context in place of the item, marked there.
+-- No other pattern splits a term: `hide-hole` does not, whatever its part does.
 mutual
   -- p matches t and binds b
   pub data Match (L : Language) : Pattern → Tree → Binding → Type 0 where
@@ -109,11 +112,20 @@ mutual
     match_closed : {q : Pattern} {t : Tree} {c : Binding} → Match L q t c → Match L (closed q) t no_names
     match_seq : {ps : Items} {m : Option ℕ} {ts : Trees} {b : Binding} → MatchItems L ps ts b → Match L (seq ps) (list m ts) b
 
-  -- the items of a list pattern match the terms of a list one by one, and bind b together
+  -- the items of a list pattern match the terms of a list, and bind b together
   pub data MatchItems (L : Language) : Items → Trees → Binding → Type 0 where
     match_none : MatchItems L nil no_trees no_names
     match_one : {p : Pattern} {ps : Items} {t : Tree} {ts : Trees} {c d b : Binding} →
         Match L p t c → MatchItems L ps ts d → IsJoin c d b → MatchItems L (one p ps) (cons t ts) b
+    match_many : {p : Pattern} {n : Option (List ℕ)} {ps : Items} {ts : Trees} {cs : List Binding} {c d b : Binding} →
+        MatchRun L p ps ts cs d → IsRepetition (names p) cs n c → IsJoin c d b → MatchItems L (many p n ps) ts b
+
+  -- p matches some first terms of a list, or none, one after the other, and binds cs in these turns; the items ps match the others, and
+  -- bind d
+  pub data MatchRun (L : Language) : Pattern → Items → Trees → List Binding → Binding → Type 0 where
+    run_end : {p : Pattern} {ps : Items} {ts : Trees} {d : Binding} → MatchItems L ps ts d → MatchRun L p ps ts [] d
+    run_more : {p : Pattern} {ps : Items} {t : Tree} {ts : Trees} {c d : Binding} {cs : List Binding} →
+        Match L p t c → MatchRun L p ps ts cs d → MatchRun L p ps (cons t ts) (c ∷ cs) d
 
   -- p splits t into the context C and the part s, and binds b
   pub data Split (L : Language) : Pattern → Tree → Tree → Tree → Binding → Type 0 where
@@ -134,3 +146,14 @@ mutual
         Split L p t D s c → MatchItems L ps ts d → IsJoin c d b → SplitItems L (one p ps) (cons t ts) zero D s b
     split_behind : {p : Pattern} {ps : Items} {t D s : Tree} {ts : Trees} {k : ℕ} {c d b : Binding} →
         Match L p t c → SplitItems L ps ts k D s d → IsJoin c d b → SplitItems L (one p ps) (cons t ts) (suc k) D s b
+    split_many : {p : Pattern} {n : Option (List ℕ)} {ps : Items} {ts : Trees} {k : ℕ} {D s : Tree} {cs : List Binding} {c d b : Binding} →
+        SplitRun L p ps ts k D s cs d → IsRepetition (names p) cs n c → IsJoin c d b → SplitItems L (many p n ps) ts k D s b
+
+  -- the same as in MatchRun, but that exactly one term, at place k, is split into D and s: in one of the turns, or behind them
+  pub data SplitRun (L : Language) : Pattern → Items → Trees → ℕ → Tree → Tree → List Binding → Binding → Type 0 where
+    run_here : {p : Pattern} {ps : Items} {t D s : Tree} {ts : Trees} {c d : Binding} {cs : List Binding} →
+        Split L p t D s c → MatchRun L p ps ts cs d → SplitRun L p ps (cons t ts) zero D s (c ∷ cs) d
+    run_there : {p : Pattern} {ps : Items} {t D s : Tree} {ts : Trees} {k : ℕ} {c d : Binding} {cs : List Binding} →
+        Match L p t c → SplitRun L p ps ts k D s cs d → SplitRun L p ps (cons t ts) (suc k) D s (c ∷ cs) d
+    run_behind : {p : Pattern} {ps : Items} {ts : Trees} {k : ℕ} {D s : Tree} {d : Binding} →
+        SplitItems L ps ts k D s d → SplitRun L p ps ts k D s [] d

@@ -1,6 +1,7 @@
 -- Which patterns and languages are well formed.
 use Rattle.std.specs.Prelude.{Bool, true, ◌&&◌, IsTrue, List, [], ◌∷◌, map}
-use Rattle.rdx_lang.specs.Patterns.{Pattern, wild, of_kind, except, prefix, hole, lit, nt, named, in_hole, hide_hole, closed, seq, Items, nil, one, Definition, Language}
+use Rattle.rdx_lang.specs.Depths.{has_fitting_names}
+use Rattle.rdx_lang.specs.Patterns.{Pattern, wild, of_kind, except, prefix, hole, lit, nt, named, in_hole, hide_hole, closed, seq, Items, nil, one, many, Definition, Language}
 use Rattle.rdx_lang.specs.References.{is_among, are_distinct}
 use Rattle.rdx_lang.specs.declared.pattern.Ref.{Ref}
 
@@ -24,10 +25,11 @@ abbrev mutual
   pub have_known_nonterminals : List Ref → Items → Bool
   have_known_nonterminals xs nil = true
   have_known_nonterminals xs (one p ps) = has_known_nonterminals xs p && have_known_nonterminals xs ps
+  have_known_nonterminals xs (many p n ps) = has_known_nonterminals xs p && have_known_nonterminals xs ps
 
--- the pattern is well formed where these nonterminals are defined: each that stands in it is one of them
+-- the pattern is well formed where these nonterminals are defined: each that stands in it is one of them, and its names are at one depth
 abbrev pub is_well_formed : List Ref → Pattern → Bool
-is_well_formed xs p = has_known_nonterminals xs p
+is_well_formed xs p = has_known_nonterminals xs p && has_fitting_names p
 
 -- all patterns of a list pass
 abbrev pub all_patterns : (Pattern → Bool) → List Pattern → Bool

@@ -9,6 +9,7 @@ use crate::lookup::alternatives;
 use crate::well_formed::is_well_formed;
 use crate::{Language, Pat, Ranks, Ref};
 use rdx_term::NoMemory;
+use std::alloc::Global;
 
 /// A well-formed language, with ranks that fall along every left edge of its patterns. So none of
 /// its nonterminals leads to itself with nothing of a term taken off between.
@@ -76,15 +77,21 @@ impl CheckedPat {
     ghost use Rattle.rdx_lang.specs.PatternView.{pattern_of};
     ghost use Rattle.rdx_lang.specs.WellFormed.{is_well_formed_in};
 
-    /// The pattern, where each nonterminal in it is one of the language's; else `None`.
-    pub fn new(language: &CheckedLang, pat: Pat) -> Result<Option<CheckedPat>, NoMemory>
+    /// The pattern, where each nonterminal in it is one of the language's, each of its names has one
+    /// depth, below 2^32, and none is a length name as well, which holds of the pattern in each
+    /// closed one in it by itself; else `None`.
+    pub fn new(
+        alloc: Global,
+        language: &CheckedLang,
+        pat: Pat,
+    ) -> Result<Option<CheckedPat>, NoMemory>
         ensures same { IfOk result (λ r. IfSome r (λ c. pattern_in c ≡ pattern_of pat)) }
         ensures some { IfOk result (λ r. IfSome r
             (λ c. IsTrue (is_well_formed_in (language_in language.now) (pattern_of pat)))) }
         ensures none { IfOk result (λ r. IfNone r
             (IsFalse (is_well_formed_in (language_in language.now) (pattern_of pat)))) }
     {
-        if is_well_formed(language.language(), &pat) {
+        if is_well_formed(alloc, language.language(), &pat)? {
             Ok(Some(CheckedPat { pat }))
         } else {
             Ok(None)

@@ -4,6 +4,7 @@ ghost use Rattle.rdx_lang.specs.Order.{value_cmp, binding_cmp, decomposition_cmp
 ghost use Rattle.rdx_lang.specs.Order.{TellsApart};
 ghost use Rattle.rdx_lang.specs.Examples.{TwoEqual, TwoDifferent, TwoMarks, NameAround, NameAroundItself, Forgotten, OnceForTwo, Mentioned, ExceptMentionsNone, NonterminalsAreNotMentioned, PrefixFirst, ItemsDecide, FirstPairDecides, NameKeepsTheTerm, ListTakesOff};
 ghost use Rattle.rdx_lang.specs.Examples.{InEachPlace, AtEitherHole, HiddenSplitsNothing, OneItemSplits, NeverAtBoth, ContextInContext, NameOfATerm, EqualContexts, ContextsWithMarks, EmptyThroughAnother, EmptyLeadsOn, ContextTakesOff};
+ghost use Rattle.rdx_lang.specs.RepetitionExamples.{EachDivision, NoTurn, EqualLengths, EqualSequences, SequenceOfSequences, OneTurnSplits};
 ghost use Rattle.rdx_lang.specs.Laws.{OneListing, OneSplitsListing, SomeListing, SomeSplitsListing, OneJoin, JoinAgrees, JoinExists, NamesAscend, BindsAMap, BindsItsNames, SplitBindsAMap, SplitBindsItsNames, SplitFills, SplitHasPath, WholeIsEmpty, EmptySplitsAll, EmptyIsDecided, FreeOrRecursive, RanksFall, EdgesFall, RankedIsFree};
 
 /// The order of values is total, and values that it doesn't tell apart are equal.
@@ -119,4 +120,10 @@ pub fn worked_examples()
     ensures empty_through_another { EmptyThroughAnother }
     ensures empty_leads_on { EmptyLeadsOn }
     ensures context_takes_off { ContextTakesOff }
+    ensures each_division { EachDivision }
+    ensures no_turn { NoTurn }
+    ensures equal_lengths { EqualLengths }
+    ensures equal_sequences { EqualSequences }
+    ensures sequence_of_sequences { SequenceOfSequences }
+    ensures one_turn_splits { OneTurnSplits }
 {}

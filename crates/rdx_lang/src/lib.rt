@@ -25,19 +25,24 @@
 
 mod binding;
 mod checked;
+mod depths;
+mod key;
 mod language;
 pub mod laws;
 mod lookup;
 mod matcher;
+mod names;
 mod order;
 mod pattern;
 mod reference;
 mod sharing;
 mod split;
+mod uses;
 mod well_formed;
 
 pub use binding::{Binding, Value};
 pub use checked::{CheckedLang, CheckedPat};
+pub use depths::Depths;
 pub use language::{Language, Ranks};
 pub use matcher::Matcher;
 pub use pattern::{Item, Kind, Pat, Ref};

@@ -72,4 +72,7 @@ pub enum Pat {
 pub enum Item {
     /// One term, by this pattern.
     One(Pat),
+    /// Any number of terms, each by this pattern; the name, where there is one, stands for their
+    /// number.
+    Many(Pat, Option<Name>),
 }

@@ -17,6 +17,16 @@ fn share_names(alloc: Global, names: &[Name]) -> Result<Vec<Name>, NoMemory>
     Ok(shared)
 }
 
+// The same length name, where there is one.
+fn share_length(length: &Option<Name>) -> Result<Option<Name>, NoMemory>
+    ensures { IfOk result (λ shared. shared ≡ length.now) }
+{
+    match length {
+        Some(name) => Ok(Some(name.share()?)),
+        None => Ok(None),
+    }
+}
+
 impl Pat {
     /// The same pattern once more; its names and terms are shared.
     #[cycle(share)]
@@ -61,6 +71,7 @@ impl Item {
     {
         match self {
             Item::One(pat) => Ok(Item::One(pat.share(alloc)?)),
+            Item::Many(pat, length) => { Ok(Item::Many(pat.share(alloc)?, share_length(length)?)) }
         }
     }
 }

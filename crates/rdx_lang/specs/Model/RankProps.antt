@@ -2,7 +2,7 @@
 use Rattle.std.specs.Prelude.{ℕ, ◌<◌, List, [], ◌∷◌, length, drop}
 use Rattle.std.proofs.Math.Bridge.{le_prop}
 use Rattle.std.proofs.Math.Nat.{ℕ_set}
-use Rattle.rdx_lang.specs.Patterns.{Pattern, wild, of_kind, except, prefix, hole, lit, nt, named, in_hole, hide_hole, closed, seq, Items, nil, one, Definition, Language}
+use Rattle.rdx_lang.specs.Patterns.{Pattern, wild, of_kind, except, prefix, hole, lit, nt, named, in_hole, hide_hole, closed, seq, Items, nil, one, many, Definition, Language}
 use Rattle.rdx_lang.specs.Empty.{IsEmpty}
 use Rattle.rdx_lang.specs.Nodes.{pattern_nodes, patterns_nodes, definitions_nodes}
 use Rattle.rdx_lang.specs.Ranks.{first_rank, roots_among, AreBelow, FallIn, FallInItems, FallInAll, FallAmong, AreRanks}
@@ -40,6 +40,7 @@ mutual
   FallInItems-prop : (L : Language) (roots : Ref → List ℕ) (ps : Items) (ns : List ℕ) → IsProp (FallInItems L roots ps ns)
   FallInItems-prop L roots nil ns = Unit-prop
   FallInItems-prop L roots (one p ps) ns = ×_prop (FallIn-prop L roots p ns) (FallInItems-prop L roots ps (drop (pattern_nodes p) ns))
+  FallInItems-prop L roots (many p n ps) ns = ×_prop (FallIn-prop L roots p ns) (FallInItems-prop L roots ps (drop (pattern_nodes p) ns))
 
 -- ranks fall in patterns in one way at most
 FallInAll-prop : (L : Language) (roots : Ref → List ℕ) (ps : List Pattern) (ns : List ℕ) → IsProp (FallInAll L roots ps ns)

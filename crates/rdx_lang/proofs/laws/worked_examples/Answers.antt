@@ -1,5 +1,6 @@
 use Rattle.rdx_lang.proofs.Examples.{two_equal, two_different, two_marks, name_around, name_around_itself, forgotten, once_for_two, mentioned, except_mentions_none, nonterminals_are_not_mentioned, prefix_first, items_decide, first_pair_decides, name_keeps_the_term, list_takes_off}
 use Rattle.rdx_lang.proofs.Examples.{in_each_place, at_either_hole, hidden_splits_nothing, one_item_splits, never_at_both, context_in_context, name_of_a_term, equal_contexts, contexts_with_marks, empty_through_another, empty_leads_on, context_takes_off}
+use Rattle.rdx_lang.proofs.RepetitionExamples.{each_division, no_turn, equal_lengths, equal_sequences, sequence_of_sequences, one_turn_splits}
 use Rattle.rdx_lang.proofs.laws.worked_examples.Goals as goal
 
 pub returns-clause-two_equal : goal.returns-clause-two_equal
@@ -82,3 +83,21 @@ returns-clause-empty_leads_on c = empty_leads_on
 
 pub returns-clause-context_takes_off : goal.returns-clause-context_takes_off
 returns-clause-context_takes_off c = context_takes_off
+
+pub returns-clause-each_division : goal.returns-clause-each_division
+returns-clause-each_division c = each_division
+
+pub returns-clause-no_turn : goal.returns-clause-no_turn
+returns-clause-no_turn c = no_turn
+
+pub returns-clause-equal_lengths : goal.returns-clause-equal_lengths
+returns-clause-equal_lengths c = equal_lengths
+
+pub returns-clause-equal_sequences : goal.returns-clause-equal_sequences
+returns-clause-equal_sequences c = equal_sequences
+
+pub returns-clause-sequence_of_sequences : goal.returns-clause-sequence_of_sequences
+returns-clause-sequence_of_sequences c = sequence_of_sequences
+
+pub returns-clause-one_turn_splits : goal.returns-clause-one_turn_splits
+returns-clause-one_turn_splits c = one_turn_splits

@@ -3,7 +3,7 @@ use Rattle.rdx_lang.specs.PatternView.{language_of, slot_of, items_of}
 use Rattle.rdx_lang.specs.WellFormed as model
 use Rattle.rdx_lang.proofs.well_formed.+known.Given as goal
 
-abbrev pub invariant-have_known_nonterminals-loop-pat : goal.invariant-have_known_nonterminals-loop-pat
-invariant-have_known_nonterminals-loop-pat l =
-    model.have_known_nonterminals (model.defined (language_of l.language)) (items_of (map slot_of (drop l.pat-index l.items)))
+abbrev pub invariant-have_known_nonterminals-loop-item : goal.invariant-have_known_nonterminals-loop-item
+invariant-have_known_nonterminals-loop-item l =
+    model.have_known_nonterminals (model.defined (language_of l.language)) (items_of (map slot_of (drop l.item-index l.items)))
     ≡ model.have_known_nonterminals (model.defined (language_of l.language)) (items_of (map slot_of l.items))
