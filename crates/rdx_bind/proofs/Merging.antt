@@ -6,9 +6,9 @@ use Rattle.rdx_lang.proofs.Collecting.{In_along}
 use Rattle.rdx_lang.specs.Ascending.{IsBelow}
 use Rattle.rdx_lang.specs.Bindings.{Pair, Binding, name_cmp, bound_names, HasAscendingNames}
 use Rattle.rdx_lang.specs.Join.{IsJoin}
-use Rattle.rdx_lang.proofs.JoinLaws.{join_agrees}
+use Rattle.rdx_lang.proofs.JoinLaws.{join_agrees, turned_join}
 use Rattle.rdx_lang.specs.Members.{In, here, there}
-use Rattle.rdx_lang.proofs.NameLaws.{above_first, below_all, turned_join}
+use Rattle.rdx_lang.proofs.NameLists.{above_first, below_all}
 use Rattle.rdx_lang.proofs.OrderLaws.{name_cmp-tells}
 
 -- ---- a name below all names of a binding

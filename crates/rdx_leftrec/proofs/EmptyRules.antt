@@ -10,19 +10,19 @@ use Rattle.rdx_lang.specs.Members.{In, here, there}
 use Rattle.rdx_lang.specs.Patterns.{Pattern, wild, of_kind, except, prefix, hole, lit, nt, named, in_hole, hide_hole, closed, seq, Definition, Language}
 use Rattle.rdx_lang.specs.References.{is_among}
 use Rattle.rdx_lang.specs.Rules.{IsAlternative}
-use Rattle.rdx_lang.specs.WellFormed.{is_well_formed, all_alternatives, defined, IsWellFormed}
+use Rattle.rdx_lang.specs.WellFormed.{has_known_nonterminals, all_alternatives, defined, IsWellFormed}
 use Rattle.rdx_lang.specs.declared.pattern.Ref.{Ref}
 use Rattle.rdx_leftrec.specs.Inside.EmptyRules.{Rule, Follows, follows, AreWithin, IsLeast, is_empty_alone, may_be_empty, needs, alternatives_rules, definitions_rules, language_rules, empty_by}
 use Rattle.rdx_leftrec.specs.Inside.Leads.{place, places}
 use Rattle.rdx_leftrec.specs.Inside.Reach.{IsMarked}
 use Rattle.rdx_leftrec.proofs.Lists.{At, at-in, in-at, at_same, at-length}
 use Rattle.rdx_leftrec.proofs.Marks.{marked-inside, marked-replicate}
-use Rattle.rdx_leftrec.proofs.Places.{place-at, at-place, inside-place, all_alternatives-in, in-chosen, chosen-in}
+use Rattle.rdx_leftrec.proofs.Places.{place-at, at-place, inside-place, all_alternatives-in, are_known, in-chosen, chosen-in}
 
 -- ---- what has to be Empty for a pattern to be so
 
--- a well-formed pattern needs nonterminals that are there
-needs-among : (xs : List Ref) (p : Pattern) (z : Ref) → is_well_formed xs p ≡ true → In z (needs p) → is_among z xs ≡ true
+-- a pattern whose nonterminals are there needs such
+needs-among : (xs : List Ref) (p : Pattern) (z : Ref) → has_known_nonterminals xs p ≡ true → In z (needs p) → is_among z xs ≡ true
 needs-among xs wild z h i = elim i [ ]
 needs-among xs (of_kind k) z h i = elim i [ ]
 needs-among xs (except rs) z h i = elim i [ ]
@@ -33,8 +33,8 @@ needs-among xs (nt x) z h (here e) = subst (λ (y : Ref). is_among y xs ≡ true
 needs-among xs (nt x) z h (there i) = elim i [ ]
 needs-among xs (named x q) z h i = needs-among xs q z h i
 needs-among xs (in_hole q r) z h i = elim (in-append (needs q) (needs r) z i) [
-  | inl l ↦ needs-among xs q z (first_so (is_well_formed xs q) (is_well_formed xs r) h) l
-  | inr l ↦ needs-among xs r z (second_so (is_well_formed xs q) (is_well_formed xs r) h) l
+  | inl l ↦ needs-among xs q z (first_so (has_known_nonterminals xs q) (has_known_nonterminals xs r) h) l
+  | inr l ↦ needs-among xs r z (second_so (has_known_nonterminals xs q) (has_known_nonterminals xs r) h) l
 ]
 needs-among xs (hide_hole q) z h i = elim i [ ]
 needs-among xs (closed q) z h i = needs-among xs q z h i
@@ -124,8 +124,8 @@ module _ (L : Language) (w : IsWellFormed L) where
   -- what a rule asks for is defined
   part-defined : (r : Rule) (k : IsRuleOf (defined L) 0 L.nonterminals r) (z : Ref) → In z (needs k.pattern) → (d : Definition) × At L.nonterminals (place z (defined L)) d × (z ≡ d.0)
   part-defined r k z i =
-      let f : is_well_formed (defined L) k.pattern ≡ true =
-      all_alternatives-in (is_well_formed (defined L)) L.nonterminals k.definition k.pattern w.well_formed (at-in L.nonterminals k.behind k.definition k.at) k.among in
+      let f : has_known_nonterminals (defined L) k.pattern ≡ true =
+      are_known L k.definition k.pattern w (at-in L.nonterminals k.behind k.definition k.at) k.among in
       at-place L.nonterminals z (needs-among (defined L) k.pattern z f i)
 
   -- all places in the rules are there

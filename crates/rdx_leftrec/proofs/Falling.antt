@@ -4,7 +4,7 @@ use Rattle.std.proofs.lemmas.List.{drop_at}
 use Rattle.rdx_lang.specs.Empty.{IsEmpty, TellsEmpty, is_empty}
 use Rattle.rdx_lang.specs.Lookup.{alternatives_among, alternatives_of}
 use Rattle.rdx_lang.specs.Members.{In, here, there}
-use Rattle.rdx_lang.specs.Patterns.{Pattern, wild, of_kind, except, prefix, hole, lit, nt, named, in_hole, hide_hole, closed, seq, Items, nil, one, Definition, Language}
+use Rattle.rdx_lang.specs.Patterns.{Pattern, wild, of_kind, except, prefix, hole, lit, nt, named, in_hole, hide_hole, closed, seq, Items, nil, one, many, Definition, Language}
 use Rattle.rdx_lang.specs.Nodes.{pattern_nodes, items_nodes, patterns_nodes, definitions_nodes}
 use Rattle.rdx_lang.specs.Ranks.{first_rank, root_ranks, roots_among, AreBelow, FallIn, FallInItems, FallInAll, FallAmong, AreRanks}
 use Rattle.rdx_lang.specs.LeftNumbers.{left_number}
@@ -39,6 +39,10 @@ module _ (E : Ref → Bool) (R : Ref → ℕ) where
     length-items_ranks : (ps : Items) → length (items_ranks E R ps) ≡ items_nodes ps
     length-items_ranks nil = refl
     length-items_ranks (one p ps) =
+        let k = length-pattern_ranks p in
+        let l = length-items_ranks ps in
+        omega (arith, length-append (pattern_ranks E R p) (items_ranks E R ps))
+    length-items_ranks (many p n ps) =
         let k = length-pattern_ranks p in
         let l = length-items_ranks ps in
         omega (arith, length-append (pattern_ranks E R p) (items_ranks E R ps))
@@ -119,6 +123,13 @@ module _ (E : Ref → Bool) (R : Ref → ℕ) where
   -- ---- ranks fall, where the number of each nonterminal is above the ranks of the roots of its alternatives
 
   module _ (L : Language) (t : TellsEmpty L E) (roots : Ref → List ℕ) (above : (x : Ref) → AreBelow (roots x) (R x)) where
+    -- in items, where they do in the pattern of the first and in those behind it
+    falls-first : (p : Pattern) (ps : Items) (rest : List ℕ) → FallIn L roots p (pattern_ranks E R p ++ (items_ranks E R ps ++ rest))
+        → FallInItems L roots ps (items_ranks E R ps ++ rest) → FallInItems L roots (one p ps) (items_ranks E R (one p ps) ++ rest)
+    falls-first p ps rest h k =
+        subst (λ (ns : List ℕ). FallInItems L roots (one p ps) ns) (sym (append_assoc (pattern_ranks E R p) (items_ranks E R ps) rest))
+        (h, subst (λ (ns : List ℕ). FallInItems L roots ps ns) (sym (drop-pattern_ranks p (items_ranks E R ps ++ rest))) k)
+
     mutual
       -- in a pattern
       falls-pattern : (p : Pattern) (rest : List ℕ) → FallIn L roots p (pattern_ranks E R p ++ rest)
@@ -153,8 +164,8 @@ module _ (E : Ref → Bool) (R : Ref → ℕ) where
       -- in items
       falls-items : (ps : Items) (rest : List ℕ) → FallInItems L roots ps (items_ranks E R ps ++ rest)
       falls-items nil rest = tt
-      falls-items (one p ps) rest = subst (λ (ns : List ℕ). FallInItems L roots (one p ps) ns) (sym (append_assoc (pattern_ranks E R p) (items_ranks E R ps) rest))
-          (falls-pattern p (items_ranks E R ps ++ rest), subst (λ (ns : List ℕ). FallInItems L roots ps ns) (sym (drop-pattern_ranks p (items_ranks E R ps ++ rest))) (falls-items ps rest))
+      falls-items (one p ps) rest = falls-first p ps rest (falls-pattern p (items_ranks E R ps ++ rest)) (falls-items ps rest)
+      falls-items (many p n ps) rest = falls-first p ps rest (falls-pattern p (items_ranks E R ps ++ rest)) (falls-items ps rest)
 
     -- in the patterns of a list
     falls-patterns : (ps : List Pattern) (rest : List ℕ) → FallInAll L roots ps (patterns_ranks E R ps ++ rest)

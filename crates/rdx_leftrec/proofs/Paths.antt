@@ -6,7 +6,7 @@ use Rattle.rdx_lang.specs.Empty.{TellsEmpty, is_empty}
 use Rattle.rdx_lang.specs.Members.{In, here, there}
 use Rattle.rdx_lang.specs.Patterns.{Pattern, wild, of_kind, except, prefix, hole, lit, nt, named, in_hole, hide_hole, closed, seq, Definition, Language}
 use Rattle.rdx_lang.specs.Rules.{IsAlternative}
-use Rattle.rdx_lang.specs.WellFormed.{is_well_formed, defined, IsWellFormed}
+use Rattle.rdx_lang.specs.WellFormed.{has_known_nonterminals, defined, IsWellFormed}
 use Rattle.rdx_lang.specs.declared.pattern.Ref.{Ref}
 use Rattle.rdx_lang.proofs.Emptiness.{is_empty-exact}
 use Rattle.rdx_lang.proofs.FirstRecursive.{first_recursive-same}
@@ -18,7 +18,7 @@ use Rattle.rdx_leftrec.specs.Inside.Reach.{targets_at, Path, once, more, AreTarg
 use Rattle.rdx_leftrec.specs.declared.recursion.LeftRec.{LeftRec}
 use Rattle.rdx_leftrec.specs.declared.recursion.LeftRec.TheVariants.{LeftRecursive, NoMemory}
 use Rattle.rdx_leftrec.proofs.Lists.{At, at_inside, at-length, at-in, in-at, at_same, at-map, at-split, in-take}
-use Rattle.rdx_leftrec.proofs.Places.{place-at, at-place, all_alternatives-in, in-chosen, chosen-in, leads-among, all_leads-in, in-all_leads}
+use Rattle.rdx_leftrec.proofs.Places.{place-at, at-place, are_known, in-chosen, chosen-in, leads-among, all_leads-in, in-all_leads}
 
 -- left edges after left edges
 reaches_on : {L : Language} {p q r : Pattern} → Reaches L p q → Reaches L q r → Reaches L p r
@@ -68,7 +68,7 @@ module _ (L : Language) (w : IsWellFormed L) (E : Ref → Bool) (t : TellsEmpty 
       let m : (z : Ref) × In z (all_leads E d.1) × (k ≡ place z (defined L)) =
       in-map (λ (z : Ref). place z (defined L)) (all_leads E d.1) k (subst (λ (ks : List ℕ). In k ks) (targets-at i d a) h) in
       let q : (p : Pattern) × In p d.1 × In m.0 (leads E p) = all_leads-in E d.1 m.0 m.1 in
-      let f : is_well_formed (defined L) q.0 ≡ true = all_alternatives-in (is_well_formed (defined L)) L.nonterminals d q.0 w.well_formed (at-in L.nonterminals i d a) q.1 in
+      let f : has_known_nonterminals (defined L) q.0 ≡ true = are_known L d q.0 w (at-in L.nonterminals i d a) q.1 in
       let e : (c : Definition) × At L.nonterminals (place m.0 (defined L)) c × (m.0 ≡ c.0) = at-place L.nonterminals m.0 (leads-among E (defined L) q.0 m.0 f q.2) in (
         e.0,
         subst (λ (j : ℕ). At L.nonterminals j e.0) (sym m.2) e.1,

@@ -5,10 +5,11 @@ use Rattle.std.specs.Cmp.{first_so, second_so}
 use Rattle.rdx_lang.proofs.LookupLaws.{is_same-equal, equal-is_same, not_true, is_among-defined}
 use Rattle.rdx_lang.proofs.MemberLaws.{in-append, append-left, append-right}
 use Rattle.rdx_lang.specs.Members.{In, here, there}
+use Rattle.rdx_lang.specs.Depths.{has_fitting_names}
 use Rattle.rdx_lang.specs.Empty.{is_empty}
-use Rattle.rdx_lang.specs.Patterns.{Pattern, wild, of_kind, except, prefix, hole, lit, nt, named, in_hole, hide_hole, closed, seq, Definition}
+use Rattle.rdx_lang.specs.Patterns.{Pattern, wild, of_kind, except, prefix, hole, lit, nt, named, in_hole, hide_hole, closed, seq, Definition, Language}
 use Rattle.rdx_lang.specs.References.{is_same, is_among, are_distinct}
-use Rattle.rdx_lang.specs.WellFormed.{is_well_formed, all_patterns, all_alternatives}
+use Rattle.rdx_lang.specs.WellFormed.{has_known_nonterminals, is_well_formed, all_patterns, all_alternatives, defined, IsWellFormed}
 use Rattle.rdx_lang.specs.declared.pattern.Ref.{Ref}
 use Rattle.rdx_leftrec.specs.Inside.Leads.{leads, all_leads, place}
 use Rattle.rdx_leftrec.proofs.Lists.{At, at-in}
@@ -75,6 +76,13 @@ all_alternatives-in test (c ∷ ds) d p h (here e) j =
     all_patterns-in test c.1 p (first_so (all_patterns test c.1) (all_alternatives test ds) h) (subst (λ (ps : List Pattern). In p ps) (ap (λ (b : Definition). b.1) e) j)
 all_alternatives-in test (c ∷ ds) d p h (there i) j = all_alternatives-in test ds d p (second_so (all_patterns test c.1) (all_alternatives test ds) h) i j
 
+-- the nonterminals in an alternative of a well-formed language are there
+pub are_known : (L : Language) (d : Definition) (p : Pattern) → IsWellFormed L → In d L.nonterminals → In p d.1
+    → has_known_nonterminals (defined L) p ≡ true
+are_known L d p w i j =
+    let f : is_well_formed (defined L) p ≡ true = all_alternatives-in (is_well_formed (defined L)) L.nonterminals d p w.well_formed i j in
+    first_so (has_known_nonterminals (defined L) p) (has_fitting_names p) f
+
 -- what a list has, where the other choice is the empty list
 pub in-chosen : {A : Type 0} (b : Bool) (xs : List A) (x : A) → In x (if b then xs else []) → (b ≡ true) × In x xs
 in-chosen true xs x h = (refl, h)
@@ -85,8 +93,9 @@ pub chosen-in : {A : Type 0} (b : Bool) (xs : List A) (x : A) → b ≡ true →
 chosen-in true xs x e h = h
 chosen-in false xs x e h = absurd cc
 
--- a well-formed pattern leads to nonterminals that are there
-pub leads-among : (E : Ref → Bool) (xs : List Ref) (p : Pattern) (z : Ref) → is_well_formed xs p ≡ true → In z (leads E p) → is_among z xs ≡ true
+-- a pattern whose nonterminals are there leads to such
+pub leads-among : (E : Ref → Bool) (xs : List Ref) (p : Pattern) (z : Ref) → has_known_nonterminals xs p ≡ true → In z (leads E p)
+    → is_among z xs ≡ true
 leads-among E xs wild z h i = elim i [ ]
 leads-among E xs (of_kind k) z h i = elim i [ ]
 leads-among E xs (except rs) z h i = elim i [ ]
@@ -97,8 +106,10 @@ leads-among E xs (nt x) z h (here e) = subst (λ (y : Ref). is_among y xs ≡ tr
 leads-among E xs (nt x) z h (there i) = elim i [ ]
 leads-among E xs (named x q) z h i = leads-among E xs q z h i
 leads-among E xs (in_hole q r) z h i = elim (in-append (leads E q) (if is_empty E q then leads E r else []) z i) [
-  | inl l ↦ leads-among E xs q z (first_so (is_well_formed xs q) (is_well_formed xs r) h) l
-  | inr l ↦ leads-among E xs r z (second_so (is_well_formed xs q) (is_well_formed xs r) h) (in-chosen (is_empty E q) (leads E r) z l).1
+  | inl l ↦ leads-among E xs q z (first_so (has_known_nonterminals xs q) (has_known_nonterminals xs r) h) l
+  | inr l ↦
+      let k : has_known_nonterminals xs r ≡ true = second_so (has_known_nonterminals xs q) (has_known_nonterminals xs r) h in
+      leads-among E xs r z k (in-chosen (is_empty E q) (leads E r) z l).1
 ]
 leads-among E xs (hide_hole q) z h i = leads-among E xs q z h i
 leads-among E xs (closed q) z h i = leads-among E xs q z h i

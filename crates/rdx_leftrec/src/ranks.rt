@@ -202,7 +202,8 @@ fn rank_items(
         items_ranks (empty_by (language_of language.now) empty.now)
         (number_in (language_of language.now) numbers.now) (items_of (map slot_of items.now))) }
 {
-    for Item::One(pat) in items {
+    for item in items {
+        let (Item::One(pat) | Item::Many(pat, _)) = item;
         rank_nodes(language, empty, numbers, pat, ranks)?;
     }
     Ok(())

@@ -1,14 +1,14 @@
 // The check on small languages.
 use crate::{LeftRec, check};
-use Shape::{Any, Closed, HideHole, Hole, InHole, List, Named, To};
+use Shape::{Any, Closed, HideHole, Hole, InHole, List, Named, Repeated, To};
 use rdx_lang::{Item, Kind, Language, Pat, Ranks, Ref};
 use rdx_term::{Name, NoMemory};
 use std::alloc::Global;
 use std::rc::RcStr;
 use std::test::Fail;
 
-// A pattern: `any`, `hole`, a nonterminal, one with a name, `in-hole`, `hide-hole`, a closed one, or
-// a list of one item.
+// A pattern: `any`, `hole`, a nonterminal, one with a name, `in-hole`, `hide-hole`, a closed one, a
+// list of one item, or a list of any number of items.
 #[derive(Clone, Copy)]
 enum Shape {
     Any,
@@ -19,6 +19,7 @@ enum Shape {
     HideHole(&'static Shape),
     Closed(&'static Shape),
     List(&'static Shape),
+    Repeated(&'static Shape),
 }
 
 // Nonterminals, each with its alternatives, and the first of them that reaches itself.
@@ -27,7 +28,7 @@ type Row = (
     Option<&'static str>,
 );
 
-const ROWS: [Row; 11] = [
+const ROWS: [Row; 13] = [
     (&[("e", &[Any])], None),
     (&[("e", &[To("e")])], Some("e")),
     (&[("e", &[Any, Named(&To("e"))])], Some("e")),
@@ -42,10 +43,17 @@ const ROWS: [Row; 11] = [
         Some("e"),
     ),
     (&[("e", &[To("f")]), ("f", &[Any, To("f")])], Some("f")),
+    // A list takes something off the term.
     (&[("e", &[List(&To("e"))])], None),
     (
         &[("e", &[List(&To("f")), Any]), ("f", &[Named(&To("e"))])],
         None,
+    ),
+    // So does a list of any number of items, even of none.
+    (&[("e", &[Repeated(&To("e"))])], None),
+    (
+        &[("e", &[To("f")]), ("f", &[Repeated(&To("e")), To("e")])],
+        Some("e"),
     ),
     (
         &[
@@ -58,7 +66,7 @@ const ROWS: [Row; 11] = [
     (&[], None),
 ];
 
-const CONTEXTS: [Row; 17] = [
+const CONTEXTS: [Row; 18] = [
     // The left part of `in-hole` is matched against the same term.
     (
         &[
@@ -81,6 +89,13 @@ const CONTEXTS: [Row; 17] = [
         &[
             ("E", &[Hole, InHole(&To("F"), &To("E"))]),
             ("F", &[List(&Hole)]),
+        ],
+        None,
+    ),
+    (
+        &[
+            ("E", &[Hole, InHole(&To("F"), &To("E"))]),
+            ("F", &[Repeated(&Hole)]),
         ],
         None,
     ),
@@ -194,11 +209,20 @@ fn pattern(alloc: Global, shape: &Shape) -> Result<Pat, NoMemory> {
         }
         List(item) => {
             let item = pattern(alloc, item)?;
-            let mut items = Vec::new(alloc);
-            items.push(Item::One(item))?;
-            Ok(Pat::Seq(items))
+            list(alloc, Item::One(item))
+        }
+        Repeated(item) => {
+            let item = pattern(alloc, item)?;
+            list(alloc, Item::Many(item, None))
         }
     }
+}
+
+// The list pattern with this item.
+fn list(alloc: Global, item: Item) -> Result<Pat, NoMemory> {
+    let mut items = Vec::new(alloc);
+    items.push(item)?;
+    Ok(Pat::Seq(items))
 }
 
 fn language(alloc: Global, rules: &[(&str, &[Shape])]) -> Result<Language, NoMemory> {
@@ -227,7 +251,7 @@ fn is_named(found: &Result<Ranks, LeftRec>, expected: Option<&str>) -> bool {
 fn agrees(alloc: Global, row: Row) -> Result<bool, NoMemory> {
     let (rules, expected) = row;
     let language = language(alloc, rules)?;
-    if !language.is_well_formed() {
+    if !language.is_well_formed(alloc)? {
         return Ok(false);
     }
     let found = check(alloc, &language);

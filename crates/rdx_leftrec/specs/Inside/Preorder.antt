@@ -1,6 +1,6 @@
 -- The ranks of the nodes of patterns in pre-order, from a number for each nonterminal, where E tells which of them are Empty.
 use Rattle.std.specs.Prelude.{ℕ, Bool, List, [], ◌∷◌, ◌++◌}
-use Rattle.rdx_lang.specs.Patterns.{Pattern, wild, of_kind, except, prefix, hole, lit, nt, named, in_hole, hide_hole, closed, seq, Items, nil, one, Definition}
+use Rattle.rdx_lang.specs.Patterns.{Pattern, wild, of_kind, except, prefix, hole, lit, nt, named, in_hole, hide_hole, closed, seq, Items, nil, one, many, Definition}
 use Rattle.rdx_lang.specs.LeftNumbers.{left_number}
 use Rattle.rdx_lang.specs.declared.pattern.Ref.{Ref}
 
@@ -24,6 +24,7 @@ abbrev mutual
   pub items_ranks : (Ref → Bool) → (Ref → ℕ) → Items → List ℕ
   items_ranks E R nil = []
   items_ranks E R (one p ps) = pattern_ranks E R p ++ items_ranks E R ps
+  items_ranks E R (many p n ps) = pattern_ranks E R p ++ items_ranks E R ps
 
 -- those of the nodes of the patterns of a list
 abbrev pub patterns_ranks : (Ref → Bool) → (Ref → ℕ) → List Pattern → List ℕ

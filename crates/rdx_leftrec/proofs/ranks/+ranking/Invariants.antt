@@ -5,7 +5,7 @@ use Rattle.rdx_leftrec.specs.Inside.Numbers.{number_in}
 use Rattle.rdx_leftrec.specs.Inside.Preorder.{items_ranks}
 use Rattle.rdx_leftrec.proofs.ranks.+ranking.Given as goal
 
-abbrev pub invariant-rank_items-loop-pat : goal.invariant-rank_items-loop-pat
-invariant-rank_items-loop-pat l =
-    l.ranks.items ++ items_ranks (empty_by (language_of l.language) l.empty) (number_in (language_of l.language) l.numbers) (items_of (map slot_of (drop l.pat-index l.items)))
+abbrev pub invariant-rank_items-loop-item : goal.invariant-rank_items-loop-item
+invariant-rank_items-loop-item l =
+    l.ranks.items ++ items_ranks (empty_by (language_of l.language) l.empty) (number_in (language_of l.language) l.numbers) (items_of (map slot_of (drop l.item-index l.items)))
     ≡ l.initial.ranks.items ++ items_ranks (empty_by (language_of l.language) l.empty) (number_in (language_of l.language) l.numbers) (items_of (map slot_of l.items))
