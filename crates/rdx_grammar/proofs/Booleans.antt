@@ -32,6 +32,11 @@ pub and_both : (a b : Bool) → a ≡ true → b ≡ true → (a && b) ≡ true
 and_both true b e f = f
 and_both false b e f = absurd cc
 
+-- the second of two never holds
+pub second-false : (a : Bool) (P : Type 0) → (a && false) ≡ true → P
+second-false true P e = absurd cc
+second-false false P e = absurd cc
+
 -- the first of two doesn't hold, and the second does
 pub not_and_true : (a b : Bool) → (not a && b) ≡ true → (a ≡ false) × (b ≡ true)
 not_and_true true b e = absurd cc

@@ -2,11 +2,12 @@
 use Rattle.std.proofs.Common.{◌≡◌, ◌++◌, ℕ, Bool, true, false, List, [], ◌∷◌, Option, Some, None, map, refl, if◌then◌else◌}
 use Rattle.std.specs.Prelude.{codes}
 use Rattle.rdx_sexp.specs.Sexp.{Sexp}
+use Rattle.rdx_lang.specs.Depths.{has_fitting_names}
 use Rattle.rdx_lang.specs.Lookup.{alternatives_of, alternatives_among}
-use Rattle.rdx_lang.specs.Patterns.{Pattern, wild, of_kind, except, prefix, hole, lit, nt, named, in_hole, hide_hole, closed, seq, Items, nil, one, Language}
+use Rattle.rdx_lang.specs.Patterns.{Pattern, wild, of_kind, except, prefix, hole, lit, nt, named, in_hole, hide_hole, closed, seq, Items, nil, one, many, Language}
 use Rattle.rdx_lang.specs.Patterns as model
 use Rattle.rdx_lang.specs.References.{is_same, is_among}
-use Rattle.rdx_lang.specs.WellFormed.{is_well_formed, have_known_nonterminals, all_patterns, all_alternatives}
+use Rattle.rdx_lang.specs.WellFormed.{is_well_formed, has_known_nonterminals, have_known_nonterminals, all_patterns, all_alternatives}
 use Rattle.rdx_lang.specs.declared.pattern.Ref.{Ref}
 use Rattle.rdx_lang.specs.declared.pattern.Ref.TheVariants.{Nt}
 use Rattle.rdx_grammar.specs.Extension.{heads, redefined, added}
@@ -21,29 +22,38 @@ use Rattle.rdx_grammar.proofs.ExtendedNames.{Within}
 -- ---- patterns over more nonterminals
 
 mutual
-  -- a pattern
-  pub is_well_formed-within : (xs ys : List Ref) → Within xs ys → (p : Pattern) → is_well_formed xs p ≡ true → is_well_formed ys p ≡ true
-  is_well_formed-within xs ys w wild e = refl
-  is_well_formed-within xs ys w (of_kind k) e = refl
-  is_well_formed-within xs ys w (except rs) e = refl
-  is_well_formed-within xs ys w (prefix r) e = refl
-  is_well_formed-within xs ys w hole e = refl
-  is_well_formed-within xs ys w (lit u) e = refl
-  is_well_formed-within xs ys w (nt x) e = w x e
-  is_well_formed-within xs ys w (named x q) e = is_well_formed-within xs ys w q e
-  is_well_formed-within xs ys w (in_hole q r) e =
-      let k = and_true (is_well_formed xs q) (is_well_formed xs r) e in
-      and_both (is_well_formed ys q) (is_well_formed ys r) (is_well_formed-within xs ys w q k.0) (is_well_formed-within xs ys w r k.1)
-  is_well_formed-within xs ys w (hide_hole q) e = is_well_formed-within xs ys w q e
-  is_well_formed-within xs ys w (closed q) e = is_well_formed-within xs ys w q e
-  is_well_formed-within xs ys w (seq ps) e = have_known_nonterminals-within xs ys w ps e
+  -- a pattern whose nonterminals are known
+  pub has_known_nonterminals-within : (xs ys : List Ref) → Within xs ys → (p : Pattern) → has_known_nonterminals xs p ≡ true → has_known_nonterminals ys p ≡ true
+  has_known_nonterminals-within xs ys w wild e = refl
+  has_known_nonterminals-within xs ys w (of_kind k) e = refl
+  has_known_nonterminals-within xs ys w (except rs) e = refl
+  has_known_nonterminals-within xs ys w (prefix r) e = refl
+  has_known_nonterminals-within xs ys w hole e = refl
+  has_known_nonterminals-within xs ys w (lit u) e = refl
+  has_known_nonterminals-within xs ys w (nt x) e = w x e
+  has_known_nonterminals-within xs ys w (named x q) e = has_known_nonterminals-within xs ys w q e
+  has_known_nonterminals-within xs ys w (in_hole q r) e =
+      let k = and_true (has_known_nonterminals xs q) (has_known_nonterminals xs r) e in
+      and_both (has_known_nonterminals ys q) (has_known_nonterminals ys r) (has_known_nonterminals-within xs ys w q k.0) (has_known_nonterminals-within xs ys w r k.1)
+  has_known_nonterminals-within xs ys w (hide_hole q) e = has_known_nonterminals-within xs ys w q e
+  has_known_nonterminals-within xs ys w (closed q) e = has_known_nonterminals-within xs ys w q e
+  has_known_nonterminals-within xs ys w (seq ps) e = have_known_nonterminals-within xs ys w ps e
 
   -- items
   have_known_nonterminals-within : (xs ys : List Ref) → Within xs ys → (ps : Items) → have_known_nonterminals xs ps ≡ true → have_known_nonterminals ys ps ≡ true
   have_known_nonterminals-within xs ys w nil e = refl
   have_known_nonterminals-within xs ys w (one p ps) e =
-      let k = and_true (is_well_formed xs p) (have_known_nonterminals xs ps) e in
-      and_both (is_well_formed ys p) (have_known_nonterminals ys ps) (is_well_formed-within xs ys w p k.0) (have_known_nonterminals-within xs ys w ps k.1)
+      let k = and_true (has_known_nonterminals xs p) (have_known_nonterminals xs ps) e in
+      and_both (has_known_nonterminals ys p) (have_known_nonterminals ys ps) (has_known_nonterminals-within xs ys w p k.0) (have_known_nonterminals-within xs ys w ps k.1)
+  have_known_nonterminals-within xs ys w (many p n ps) e =
+      let k = and_true (has_known_nonterminals xs p) (have_known_nonterminals xs ps) e in
+      and_both (has_known_nonterminals ys p) (have_known_nonterminals ys ps) (has_known_nonterminals-within xs ys w p k.0) (have_known_nonterminals-within xs ys w ps k.1)
+
+-- a pattern whose names fit
+is_well_formed-within : (xs ys : List Ref) → Within xs ys → (p : Pattern) → is_well_formed xs p ≡ true → is_well_formed ys p ≡ true
+is_well_formed-within xs ys w p e =
+    let k = and_true (has_known_nonterminals xs p) (has_fitting_names p) e in
+    and_both (has_known_nonterminals ys p) (has_fitting_names p) (has_known_nonterminals-within xs ys w p k.0) k.1
 
 -- alternatives
 all_patterns-within : (xs ys : List Ref) → Within xs ys → (ps : List Pattern) → all_patterns (is_well_formed xs) ps ≡ true → all_patterns (is_well_formed ys) ps ≡ true
@@ -90,36 +100,54 @@ module _ (test : Pattern → Bool) where
 
   -- ---- what is read
 
-  module _ (base : Language) (ns : List (List ℕ)) (old : all_alternatives test base.nonterminals ≡ true) (read : (d : Sexp) → test (reading ns InGrammar d) ≡ true) where
+  -- the alternatives that are written pass
+  abbrev pub AreReadWell : List (List ℕ) → List Sexp → Type 0
+  AreReadWell ns [] = Unit {0}
+  AreReadWell ns (d ∷ ds) = (is_word (codes "....") d ≡ false → test (reading ns InGrammar d) ≡ true) × AreReadWell ns ds
+
+  -- those of a definition do, where there is one
+  abbrev pub IsReadWell : List (List ℕ) → Option Definition → Type 0
+  IsReadWell ns None = Unit {0}
+  IsReadWell ns (Some def) = AreReadWell ns def.alternatives
+
+  -- those of all definitions do
+  abbrev pub AreAllReadWell : List (List ℕ) → List Sexp → Type 0
+  AreAllReadWell ns [] = Unit {0}
+  AreAllReadWell ns (d ∷ ds) = IsReadWell ns (definition_in d) × AreAllReadWell ns ds
+
+  module _ (base : Language) (ns : List (List ℕ)) (old : all_alternatives test base.nonterminals ≡ true) where
     -- one alternative, or those that are inherited
-    written : (b : Bool) (x : Ref) (d : Sexp) → all_patterns test (if b then alternatives_of base x else reading ns InGrammar d ∷ []) ≡ true
-    written true x d = all_patterns-among base.nonterminals x old
-    written false x d = and_both (test (reading ns InGrammar d)) true (read d) refl
+    written : (x : Ref) (d : Sexp) → (is_word (codes "....") d ≡ false → test (reading ns InGrammar d) ≡ true) → all_patterns test (if is_word (codes "....") d then alternatives_of base x else reading ns InGrammar d ∷ []) ≡ true
+    written x d h = by_word (is_word (codes "....") d) h
+      where
+        by_word : (b : Bool) → (b ≡ false → test (reading ns InGrammar d) ≡ true) → all_patterns test (if b then alternatives_of base x else reading ns InGrammar d ∷ []) ≡ true
+        by_word true f = all_patterns-among base.nonterminals x old
+        by_word false f = and_both (test (reading ns InGrammar d)) true (f refl) refl
 
     -- all alternatives
-    all_patterns-alternatives : (x : Ref) (ds : List Sexp) → all_patterns test (alternatives base ns x ds) ≡ true
-    all_patterns-alternatives x [] = refl
-    all_patterns-alternatives x (d ∷ ds) =
+    all_patterns-alternatives : (x : Ref) (ds : List Sexp) → AreReadWell ns ds → all_patterns test (alternatives base ns x ds) ≡ true
+    all_patterns-alternatives x [] h = refl
+    all_patterns-alternatives x (d ∷ ds) h =
         all_patterns-append (if is_word (codes "....") d then alternatives_of base x else reading ns InGrammar d ∷ []) (alternatives base ns x ds)
-        (written (is_word (codes "....") d) x d) (all_patterns-alternatives x ds)
+        (written x d h.0) (all_patterns-alternatives x ds h.1)
 
     -- those of several names
-    of_names : (es ds : List Sexp) → all_alternatives test (map (λ e. (Nt (text_of e), alternatives base ns (Nt (text_of e)) ds)) es) ≡ true
-    of_names [] ds = refl
-    of_names (e ∷ es) ds =
+    of_names : (es ds : List Sexp) → AreReadWell ns ds → all_alternatives test (map (λ e. (Nt (text_of e), alternatives base ns (Nt (text_of e)) ds)) es) ≡ true
+    of_names [] ds h = refl
+    of_names (e ∷ es) ds h =
         and_both (all_patterns test (alternatives base ns (Nt (text_of e)) ds)) (all_alternatives test (map (λ f. (Nt (text_of f), alternatives base ns (Nt (text_of f)) ds)) es))
-        (all_patterns-alternatives (Nt (text_of e)) ds) (of_names es ds)
+        (all_patterns-alternatives (Nt (text_of e)) ds h) (of_names es ds h)
 
     -- those of a definition
-    of_definition : (o : Option Definition) → all_alternatives test (defined_by base ns o) ≡ true
-    of_definition None = refl
-    of_definition (Some def) = of_names def.names def.alternatives
+    of_definition : (o : Option Definition) → IsReadWell ns o → all_alternatives test (defined_by base ns o) ≡ true
+    of_definition None h = refl
+    of_definition (Some def) h = of_names def.names def.alternatives h
 
     -- those of all definitions
-    pub all_alternatives-definitions : (ds : List Sexp) → all_alternatives test (definitions_of base ns ds) ≡ true
-    all_alternatives-definitions [] = refl
-    all_alternatives-definitions (d ∷ ds) =
-        all_alternatives-append (defined_by base ns (definition_in d)) (definitions_of base ns ds) (of_definition (definition_in d)) (all_alternatives-definitions ds)
+    pub all_alternatives-definitions : (ds : List Sexp) → AreAllReadWell ns ds → all_alternatives test (definitions_of base ns ds) ≡ true
+    all_alternatives-definitions [] h = refl
+    all_alternatives-definitions (d ∷ ds) h =
+        all_alternatives-append (defined_by base ns (definition_in d)) (definitions_of base ns ds) (of_definition (definition_in d) h.0) (all_alternatives-definitions ds h.1)
 
   -- ---- the extension
 

@@ -33,9 +33,14 @@ pub none_of : (o : Option Refusal) (os : List (Option Refusal)) → first_refusa
 none_of o os e = none_or o (first_refusal os) e
 
 -- the first of several checks, where the early ones refuse nothing
-pub late_of : (u s d b p : Option Refusal) → u ≡ None → first_refusal (s ∷ d ∷ b ∷ []) ≡ None → first_refusal (u ∷ s ∷ d ∷ b ∷ p ∷ []) ≡ or_else p None
-late_of None None None None p e f = refl
-late_of None None None (Some x) p e f = absurd cc
-late_of None None (Some x) b p e f = absurd cc
-late_of None (Some x) d b p e f = absurd cc
-late_of (Some x) s d b p e f = absurd cc
+pub late_of : (u s d b : Option Refusal) (os : List (Option Refusal)) → u ≡ None → first_refusal (s ∷ d ∷ b ∷ []) ≡ None → first_refusal (u ∷ s ∷ d ∷ b ∷ os) ≡ first_refusal os
+late_of None None None None os e f = refl
+late_of None None None (Some x) os e f = absurd cc
+late_of None None (Some x) b os e f = absurd cc
+late_of None (Some x) d b os e f = absurd cc
+late_of (Some x) s d b os e f = absurd cc
+
+-- a list without a first member is empty
+pub none-empty : {A : Type 0} (xs : List A) → first xs ≡ None → xs ≡ []
+none-empty [] e = refl
+none-empty (x ∷ xs) e = absurd cc

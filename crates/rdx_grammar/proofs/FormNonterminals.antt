@@ -27,7 +27,7 @@ none_in_alternatives names again [] = refl
 none_in_alternatives names again (d ∷ ds) =
     by_word (is_word (codes "....") d) (alternatives_stand names (again || is_word (codes "....") d) ds) ∙ none_in_alternatives names (again || is_word (codes "....") d) ds
   where
-    by_word : (b : Bool) (ss : List Stand) → nonterminals_in ((if b then inherited d names again else alternative (occurrences d)) ∷ ss) ≡ nonterminals_in ss
+    by_word : (b : Bool) (ss : List Stand) → nonterminals_in ((if b then inherited d names again else alternative (occurrences 0 d)) ∷ ss) ≡ nonterminals_in ss
     by_word true ss = refl
     by_word false ss = refl
 

@@ -1,10 +1,10 @@
 -- The keywords in a pattern are all its keywords, whatever its lists are.
-use Rattle.std.proofs.Common.{◌≡◌, ◌++◌, Bool, true, false, List, [], ◌∷◌, Option, Some, None, refl, sym, ap, ◌∙◌, if◌then◌else◌}
+use Rattle.std.proofs.Common.{◌≡◌, ℕ, ◌++◌, Bool, true, false, List, [], ◌∷◌, Option, Some, None, refl, sym, ap, ◌∙◌, if◌then◌else◌}
 use Rattle.std.specs.Prelude.{not, codes}
 use Rattle.std.proofs.lemmas.Grind.{flat_map-append}
 use Rattle.rdx_sexp.specs.Sexp.{Sexp, Sexps, leaf, list, nil, cons, integer, truth, text, symbol, keyword}
-use Rattle.rdx_grammar.specs.Heads.{Role, word, bound, spelt, pattern, Roles, roles_of, head_among, next, rest, suits, fits, is_shaped}
-use Rattle.rdx_grammar.specs.Occurrences.{Occurrence, malformed, keys, keys_in, role_occurrences, occurrences, occurrences_among}
+use Rattle.rdx_grammar.specs.Heads.{Role, word, bound, spelt, pattern, ellipsis, Roles, roles_of, head_among, next, rest, is_repeated, suits, fits, is_shaped}
+use Rattle.rdx_grammar.specs.Occurrences.{Occurrence, malformed, keys, keys_in, role_occurrences, deeper, occurrences, occurrences_among}
 use Rattle.rdx_grammar.specs.Parts.{is_symbol, is_word}
 use Rattle.rdx_grammar.specs.PatternChecks.{keyword_fault, keyword_faults}
 use Rattle.rdx_grammar.specs.Refusal.{first, or_else}
@@ -29,12 +29,13 @@ symbol-keys (leaf (keyword k) s) e = absurd cc
 symbol-keys (list es s) e = absurd cc
 
 -- an item in a role
-role-keys : (o : Option Role) (d : Sexp) → suits o d ≡ true → keyword_faults (occurrences d) ≡ keyword_faults (keys d) → keyword_faults (role_occurrences o d (occurrences d)) ≡ keyword_faults (keys d)
-role-keys None d e f = absurd cc
-role-keys (Some word) d e f = sym (ap keyword_faults (symbol-keys d e))
-role-keys (Some bound) d e f = sym (ap keyword_faults (symbol-keys d e))
-role-keys (Some spelt) d e f = sym (ap keyword_faults (symbol-keys d (and_true (is_symbol d) (not (is_word (codes "hole") d)) e).0))
-role-keys (Some pattern) d e f = f
+role-keys : (n : ℕ) (o : Option Role) (d : Sexp) (os : List Occurrence) → suits o d ≡ true → keyword_faults os ≡ keyword_faults (keys d) → keyword_faults (role_occurrences n o d os) ≡ keyword_faults (keys d)
+role-keys n None d os e f = absurd cc
+role-keys n (Some word) d os e f = sym (ap keyword_faults (symbol-keys d e))
+role-keys n (Some bound) d os e f = sym (ap keyword_faults (symbol-keys d e))
+role-keys n (Some spelt) d os e f = sym (ap keyword_faults (symbol-keys d (and_true (is_symbol d) (not (is_word (codes "hole") d)) e).0))
+role-keys n (Some pattern) d os e f = f
+role-keys n (Some ellipsis) d os e f = sym (ap keyword_faults (symbol-keys d e))
 
 -- a list that may have its shape
 shaped-keys : (b : Bool) (whole : Sexp) (ds : Sexps) (os : List Occurrence) → (b ≡ true → keyword_faults os ≡ keyword_faults (keys_in ds)) → keyword_faults (if b then os else malformed whole ∷ keys_in ds) ≡ keyword_faults (keys_in ds)
@@ -42,20 +43,21 @@ shaped-keys true whole ds os f = f refl
 shaped-keys false whole ds os f = refl
 
 mutual
-  -- a pattern
-  pub occurrences-keys : (d : Sexp) → keyword_faults (occurrences d) ≡ keyword_faults (keys d)
-  occurrences-keys (leaf (integer n) s) = refl
-  occurrences-keys (leaf (truth b) s) = refl
-  occurrences-keys (leaf (text t) s) = refl
-  occurrences-keys (leaf (symbol x) s) = refl
-  occurrences-keys (leaf (keyword k) s) = refl
-  occurrences-keys (list ds s) =
-      shaped-keys (is_shaped ds) (list ds s) ds (occurrences_among (roles_of (head_among ds)) ds) (λ e. among-keys (roles_of (head_among ds)) ds e)
+  -- a pattern around which n repetitions stand
+  pub occurrences-keys : (n : ℕ) (d : Sexp) → keyword_faults (occurrences n d) ≡ keyword_faults (keys d)
+  occurrences-keys n (leaf (integer z) s) = refl
+  occurrences-keys n (leaf (truth b) s) = refl
+  occurrences-keys n (leaf (text t) s) = refl
+  occurrences-keys n (leaf (symbol x) s) = refl
+  occurrences-keys n (leaf (keyword k) s) = refl
+  occurrences-keys n (list ds s) =
+      shaped-keys (is_shaped ds) (list ds s) ds (occurrences_among n (roles_of (head_among ds)) ds) (λ e. among-keys n (roles_of (head_among ds)) ds e)
 
   -- items in these roles
-  among-keys : (rs : Roles) (ds : Sexps) → fits rs ds ≡ true → keyword_faults (occurrences_among rs ds) ≡ keyword_faults (keys_in ds)
-  among-keys rs nil e = refl
-  among-keys rs (cons d ds) e =
-      let k = and_true (suits (next rs) d) (fits (rest rs) ds) e in
-      both-keys (role_occurrences (next rs) d (occurrences d)) (keys d) (occurrences_among (rest rs) ds) (keys_in ds)
-      (role-keys (next rs) d k.0 (occurrences-keys d)) (among-keys (rest rs) ds k.1)
+  among-keys : (n : ℕ) (rs : Roles) (ds : Sexps) → fits rs ds ≡ true → keyword_faults (occurrences_among n rs ds) ≡ keyword_faults (keys_in ds)
+  among-keys n rs nil e = refl
+  among-keys n rs (cons d ds) e =
+      let k = and_true (suits (next rs d) d) (fits (rest rs d) ds) e in
+      let m = deeper (is_repeated (rest rs d) ds) n in
+      both-keys (role_occurrences n (next rs d) d (occurrences m d)) (keys d) (occurrences_among n (rest rs d) ds) (keys_in ds)
+      (role-keys n (next rs d) d (occurrences m d) k.0 (occurrences-keys m d)) (among-keys n (rest rs d) ds k.1)

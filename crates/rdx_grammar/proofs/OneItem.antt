@@ -1,13 +1,15 @@
 -- The one item of a list pattern, and the two of one of two.
-use Rattle.std.proofs.Common.{◌≡◌, ◌++◌, List, [], ◌∷◌, length, map, None, refl}
+use Rattle.std.proofs.Common.{◌≡◌, ◌++◌, ℕ, List, [], ◌∷◌, length, map, Option, None, refl}
 use Rattle.std.specs.Prelude.{option_map}
-use Rattle.rdx_lang.specs.PatternView.{Slot, just, items_of}
+use Rattle.rdx_lang.specs.PatternView.{Slot, just, repeated, items_of}
 use Rattle.rdx_lang.specs.Patterns.{Pattern}
 use Rattle.rdx_grammar.specs.Reading.{only_item, only_items}
 
 -- there is none among two items or more
 two : (s t : Slot) (slots : List Slot) → only_item (items_of (s ∷ t ∷ slots)) ≡ None
 two (just p) (just q) slots = refl
+two (just p) (repeated q n) slots = refl
+two (repeated p n) t slots = refl
 
 -- and none in a list that is not of one
 pub only_item-other : {A : Type 0} (f : A → Slot) (xs : List A) → (length xs ≡ 1 → ⊥) → only_item (items_of (map f xs)) ≡ None
@@ -18,6 +20,19 @@ only_item-other f (x ∷ y ∷ xs) n = two (f x) (f y) (map f xs)
 -- two are the one before the last, and the last
 pub only_items-last : (slots : List Slot) (q : Pattern) → only_items (items_of (slots ++ just q ∷ [])) ≡ option_map (λ p. (p, q)) (only_item (items_of slots))
 only_items-last [] q = refl
+only_items-last (repeated p n ∷ slots) q = refl
 only_items-last (just p ∷ []) q = refl
+only_items-last (just p ∷ repeated r n ∷ slots) q = refl
 only_items-last (just p ∷ just r ∷ []) q = refl
+only_items-last (just p ∷ just r ∷ repeated s n ∷ slots) q = refl
 only_items-last (just p ∷ just r ∷ just s ∷ slots) q = refl
+
+-- and there are none where the last is a repetition
+pub only_items-repeated : (slots : List Slot) (q : Pattern) (n : Option (List ℕ)) → only_items (items_of (slots ++ repeated q n ∷ [])) ≡ None
+only_items-repeated [] q n = refl
+only_items-repeated (repeated p m ∷ slots) q n = refl
+only_items-repeated (just p ∷ []) q n = refl
+only_items-repeated (just p ∷ repeated r m ∷ slots) q n = refl
+only_items-repeated (just p ∷ just r ∷ []) q n = refl
+only_items-repeated (just p ∷ just r ∷ repeated s m ∷ slots) q n = refl
+only_items-repeated (just p ∷ just r ∷ just s ∷ slots) q n = refl

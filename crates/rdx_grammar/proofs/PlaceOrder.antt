@@ -1,10 +1,10 @@
 -- What stands in a pattern stands in the order of its parts.
-use Rattle.std.proofs.Common.{◌++◌, Bool, true, false, List, [], ◌∷◌, Option, Some, None, map, sym, subst, if◌then◌else◌}
+use Rattle.std.proofs.Common.{ℕ, ◌++◌, Bool, true, false, List, [], ◌∷◌, Option, Some, None, map, sym, subst, if◌then◌else◌}
 use Rattle.std.proofs.lemmas.List.{map-append}
 use Rattle.rdx_sexp.specs.Sexp.{Sexp, Sexps, leaf, list, nil, cons, integer, truth, text, symbol, keyword}
-use Rattle.rdx_grammar.specs.Heads.{Role, word, bound, spelt, pattern, Roles, roles_of, head_among, next, rest, is_shaped}
+use Rattle.rdx_grammar.specs.Heads.{Role, word, bound, spelt, pattern, ellipsis, Roles, roles_of, head_among, next, rest, is_repeated, is_shaped}
 use Rattle.rdx_grammar.specs.Laws.{datum_of, all_parts, all_parts_in, IsPickedFrom, none_left, picked, left_out, InOrder}
-use Rattle.rdx_grammar.specs.Occurrences.{Occurrence, malformed, keys, keys_in, role_occurrences, occurrences, occurrences_among}
+use Rattle.rdx_grammar.specs.Occurrences.{Occurrence, malformed, keys, keys_in, role_occurrences, deeper, occurrences, occurrences_among}
 
 -- nothing is picked from every list
 nothing_picked : (es : List Sexp) → IsPickedFrom [] es
@@ -41,12 +41,13 @@ mutual
   keys_in-picked (cons d ds) = both-picked (keys d) (keys_in ds) (all_parts d) (all_parts_in ds) (keys-picked d) (keys_in-picked ds)
 
 -- an item in a role
-role-picked : (o : Option Role) (d : Sexp) → IsPickedFrom (map datum_of (occurrences d)) (all_parts d) → IsPickedFrom (map datum_of (role_occurrences o d (occurrences d))) (all_parts d)
-role-picked None d p = nothing_picked (all_parts d)
-role-picked (Some word) d p = nothing_picked (all_parts d)
-role-picked (Some bound) d p = itself_picked d
-role-picked (Some spelt) d p = itself_picked d
-role-picked (Some pattern) d p = p
+role-picked : (n : ℕ) (o : Option Role) (d : Sexp) (os : List Occurrence) → IsPickedFrom (map datum_of os) (all_parts d) → IsPickedFrom (map datum_of (role_occurrences n o d os)) (all_parts d)
+role-picked n None d os p = nothing_picked (all_parts d)
+role-picked n (Some word) d os p = nothing_picked (all_parts d)
+role-picked n (Some bound) d os p = itself_picked d
+role-picked n (Some spelt) d os p = itself_picked d
+role-picked n (Some pattern) d os p = p
+role-picked n (Some ellipsis) d os p = itself_picked d
 
 -- a list that may have its shape
 shaped-picked : (b : Bool) (ds : Sexps) (whole : Sexp) (os : List Occurrence) → IsPickedFrom (map datum_of os) (all_parts_in ds) → IsPickedFrom (map datum_of (if b then os else malformed whole ∷ keys_in ds)) (whole ∷ all_parts_in ds)
@@ -54,18 +55,24 @@ shaped-picked true ds whole os p = left_out p
 shaped-picked false ds whole os p = picked (keys_in-picked ds)
 
 mutual
-  -- a pattern
-  pub in_order : InOrder
-  in_order (leaf (integer n) s) = left_out none_left
-  in_order (leaf (truth b) s) = left_out none_left
-  in_order (leaf (text t) s) = left_out none_left
-  in_order (leaf (symbol x) s) = picked none_left
-  in_order (leaf (keyword k) s) = picked none_left
-  in_order (list ds s) = shaped-picked (is_shaped ds) ds (list ds s) (occurrences_among (roles_of (head_among ds)) ds) (among-picked (roles_of (head_among ds)) ds)
+  -- a pattern around which n repetitions stand
+  pattern-picked : (n : ℕ) (d : Sexp) → IsPickedFrom (map datum_of (occurrences n d)) (all_parts d)
+  pattern-picked n (leaf (integer z) s) = left_out none_left
+  pattern-picked n (leaf (truth b) s) = left_out none_left
+  pattern-picked n (leaf (text t) s) = left_out none_left
+  pattern-picked n (leaf (symbol x) s) = picked none_left
+  pattern-picked n (leaf (keyword k) s) = picked none_left
+  pattern-picked n (list ds s) =
+      shaped-picked (is_shaped ds) ds (list ds s) (occurrences_among n (roles_of (head_among ds)) ds) (among-picked n (roles_of (head_among ds)) ds)
 
   -- items in these roles
-  among-picked : (rs : Roles) (ds : Sexps) → IsPickedFrom (map datum_of (occurrences_among rs ds)) (all_parts_in ds)
-  among-picked rs nil = none_left
-  among-picked rs (cons d ds) =
-      both-picked (role_occurrences (next rs) d (occurrences d)) (occurrences_among (rest rs) ds) (all_parts d) (all_parts_in ds)
-      (role-picked (next rs) d (in_order d)) (among-picked (rest rs) ds)
+  among-picked : (n : ℕ) (rs : Roles) (ds : Sexps) → IsPickedFrom (map datum_of (occurrences_among n rs ds)) (all_parts_in ds)
+  among-picked n rs nil = none_left
+  among-picked n rs (cons d ds) =
+      let m = deeper (is_repeated (rest rs d) ds) n in
+      both-picked (role_occurrences n (next rs d) d (occurrences m d)) (occurrences_among n (rest rs d) ds) (all_parts d) (all_parts_in ds)
+      (role-picked n (next rs d) d (occurrences m d) (pattern-picked m d)) (among-picked n (rest rs d) ds)
+
+-- each pattern, around which none stands
+pub in_order : InOrder
+in_order d = pattern-picked 0 d

@@ -3,29 +3,35 @@ use Rattle.std.proofs.Common.{◌≡◌, ◌++◌, ℕ, true, List, [], ◌∷�
 use Rattle.std.specs.Prelude.{flat_map}
 use Rattle.std.proofs.lemmas.Grind.{flat_map-append}
 use Rattle.rdx_sexp.specs.Sexp.{Sexp}
+use Rattle.rdx_lang.specs.Depths.{has_fitting_names}
 use Rattle.rdx_lang.specs.Patterns.{Language}
 use Rattle.rdx_lang.specs.References.{is_among as is_defined_among, are_distinct}
-use Rattle.rdx_lang.specs.WellFormed.{is_well_formed, all_alternatives, defined, IsWellFormed}
+use Rattle.rdx_lang.specs.WellFormed.{is_well_formed, has_known_nonterminals, all_alternatives, defined, IsWellFormed}
 use Rattle.rdx_lang.specs.declared.pattern.Ref.{Ref}
 use Rattle.rdx_lang.specs.declared.pattern.Ref.TheVariants.{Nt}
+use Rattle.rdx_grammar.specs.Checks.{bad_name, bad_names, bad_patterns, all_depth_clashes}
 use Rattle.rdx_grammar.specs.Forms.{GrammarForm}
-use Rattle.rdx_grammar.specs.Stands.{form_stands}
+use Rattle.rdx_grammar.specs.Inside.CheckedForms.{AreSpelledIn, AreShallowIn}
+use Rattle.rdx_grammar.specs.Stands.{defined as defined_stand, definitions_stand, form_stands}
 use Rattle.rdx_grammar.specs.Nonterminals.{ref_names, names_of, names_by, names_in, all_names}
 use Rattle.rdx_grammar.specs.Languages.{alternatives, defined_by, definitions_of, language_over}
 use Rattle.rdx_grammar.specs.Extension.{heads, redefined, added}
 use Rattle.rdx_grammar.specs.Parts.{text_of}
 use Rattle.rdx_grammar.specs.Definitions.{Definition, definition_in}
 use Rattle.rdx_grammar.specs.Reading.{reading}
-use Rattle.rdx_grammar.specs.Refused.{refusal_over, shape_at, duplicate_at}
+use Rattle.rdx_grammar.specs.Refusal.{unnamed, named}
+use Rattle.rdx_grammar.specs.Refused.{refusal_over, shape_at, duplicate_at, bad_name_at, bad_pattern_at, depth_clash_at}
 use Rattle.rdx_grammar.specs.Unbuilt.{unbuilt_at}
 use Rattle.rdx_grammar.specs.declared.patterns.position.Position.TheVariants.{Grammar as InGrammar}
-use Rattle.rdx_grammar.proofs.Booleans.{or_true}
+use Rattle.rdx_grammar.specs.declared.shape.fault.DefKind.TheVariants.{BadName, BadPattern, EllipsisDepth}
+use Rattle.rdx_grammar.proofs.Booleans.{or_true, and_both}
 use Rattle.rdx_grammar.proofs.ExtendedNames.{Within, is_among-append, heads-append, Within-old, Within-new, are_distinct-extended}
-use Rattle.rdx_grammar.proofs.ExtendedPatterns.{is_well_formed-within, all_alternatives-within, all_alternatives-definitions, all_alternatives-extended}
-use Rattle.rdx_grammar.proofs.Firsts.{none_or}
+use Rattle.rdx_grammar.proofs.ExtendedPatterns.{has_known_nonterminals-within, all_alternatives-within, AreAllReadWell, all_alternatives-definitions, all_alternatives-extended}
+use Rattle.rdx_grammar.proofs.Firsts.{nothing, none_both, none_or}
 use Rattle.rdx_grammar.proofs.FormNonterminals.{nonterminals_in-definitions}
+use Rattle.rdx_grammar.proofs.FormsRead.{are-readable, ArePassedStands, definitions-well}
 use Rattle.rdx_grammar.proofs.Repeated.{are_distinct-nonterminals}
-use Rattle.rdx_grammar.proofs.WellRead.{reading_wf}
+use Rattle.rdx_grammar.proofs.WellRead.{reading_known}
 
 -- ---- the heads of definitions
 
@@ -68,11 +74,13 @@ names-refs (x ∷ xs) = ap (λ (z : List (List ℕ)). x ∷ z) (names-refs xs)
 pub all_names-refs : (base : Language) (ds : List Sexp) → flat_map ref_names (defined base ++ refs (names_in ds)) ≡ all_names base ds
 all_names-refs base ds = flat_map-append ref_names (defined base) (refs (names_in ds)) ∙ ap (λ (z : List (List ℕ)). names_of base ++ z) (names-refs (names_in ds))
 
--- what is read in a grammar is well formed over more nonterminals
-reading_within : (base : Language) (ds : List Sexp) (ys : List Ref) → Within (defined base ++ refs (names_in ds)) ys → (d : Sexp) → is_well_formed ys (reading (all_names base ds) InGrammar d) ≡ true
-reading_within base ds ys w d =
-    is_well_formed-within (defined base ++ refs (names_in ds)) ys w (reading (all_names base ds) InGrammar d)
-    (ap (λ (ns : List (List ℕ)). is_well_formed (defined base ++ refs (names_in ds)) (reading ns InGrammar d)) (sym (all_names-refs base ds)) ∙ reading_wf (defined base ++ refs (names_in ds)) InGrammar d)
+-- what is read in a grammar is well formed over more nonterminals, where its names fit together
+reading_within : (base : Language) (ds : List Sexp) (ys : List Ref) → Within (defined base ++ refs (names_in ds)) ys → (d : Sexp) → has_fitting_names (reading (all_names base ds) InGrammar d) ≡ true → is_well_formed ys (reading (all_names base ds) InGrammar d) ≡ true
+reading_within base ds ys w d e =
+    let xs = defined base ++ refs (names_in ds) in
+    let p = reading (all_names base ds) InGrammar d in
+    let k : has_known_nonterminals xs p ≡ true = ap (λ (ns : List (List ℕ)). has_known_nonterminals xs (reading ns InGrammar d)) (sym (all_names-refs base ds)) ∙ reading_known xs InGrammar d in
+    and_both (has_known_nonterminals ys p) (has_fitting_names p) (has_known_nonterminals-within xs ys w p k) e
 
 -- those of two lists are among others if those of each are
 Within-both : (xs ys zs : List Ref) → Within xs zs → Within ys zs → Within (xs ++ ys) zs
@@ -89,19 +97,37 @@ are_distinct-names base d g e =
     let k : duplicate_at ss ≡ None = (none_or (duplicate_at ss) _ h).0 in
     ap (λ (xs : List (List ℕ)). are_distinct (refs xs)) (sym (nonterminals_in-definitions g.definitions)) ∙ are_distinct-nonterminals ss k
 
+-- the checks of names, patterns and depths pass its definitions
+passed-definitions : (base : Language) (d : Sexp) (g : GrammarForm) → refusal_over base d (Some g) ≡ None → ArePassedStands base (all_names base g.definitions) (definitions_stand g.definitions)
+passed-definitions base d g e =
+    let ns = all_names base g.definitions in
+    let ss = form_stands d (Some g) in
+    let rs = definitions_stand g.definitions in
+    let f = (none_or (unbuilt_at d) _ e).1 in
+    let h = (none_or (shape_at ss) _ f).1 in
+    let k = none_or (duplicate_at ss) _ h in
+    let l = none_or (bad_name_at ss) _ k.1 in
+    let m = none_or (bad_pattern_at base ns ss) _ l.1 in
+    let n = none_or (depth_clash_at ns ss) None m.1 in
+    let names = nothing (named BadName) (bad_names ss) l.0 in
+    ((none_both (bad_name (defined_stand g.name)) (bad_names rs) names).1, (nothing (unnamed BadPattern) (bad_patterns base ns ss) m.0, nothing (named EllipsisDepth) (all_depth_clashes ns ss) n.0))
+
 -- the language of a form that the checks pass is well formed
-pub IsWellFormed-language_over : (base : Language) (d : Sexp) (g : GrammarForm) → IsWellFormed base → refusal_over base d (Some g) ≡ None → IsWellFormed (language_over base g)
-IsWellFormed-language_over base d g w e =
+pub IsWellFormed-language_over : (base : Language) (d : Sexp) (g : GrammarForm) → IsWellFormed base → AreSpelledIn (Some g) → AreShallowIn (Some g) → refusal_over base d (Some g) ≡ None → IsWellFormed (language_over base g)
+IsWellFormed-language_over base d g w spelled shallow e =
     let ns = all_names base g.definitions in
     let old = base.nonterminals in
     let new = definitions_of base ns g.definitions in
     let h : heads new ≡ refs (names_in g.definitions) = heads-definitions_of base ns g.definitions in
     let zs = heads (map (redefined new) old ++ added old new) in
+    let test = is_well_formed zs in
     let within : Within (heads new) zs = Within-new old new in
     let both : Within (defined base ++ refs (names_in g.definitions)) zs = Within-both (defined base) (refs (names_in g.definitions)) zs (Within-old old new) (subst (λ (xs : List Ref). Within xs zs) h within) in
-    let o : all_alternatives (is_well_formed zs) old ≡ true = all_alternatives-within (defined base) zs (Within-old old new) old w.well_formed in
-    let n : all_alternatives (is_well_formed zs) new ≡ true = all_alternatives-definitions (is_well_formed zs) base ns o (reading_within base g.definitions zs both) g.definitions in
+    let o : all_alternatives test old ≡ true = all_alternatives-within (defined base) zs (Within-old old new) old w.well_formed in
+    let r : AreAllReadWell test ns g.definitions =
+    definitions-well base ns test (reading_within base g.definitions zs both) g.definitions (are-readable g.definitions spelled.definitions shallow) (passed-definitions base d g e) in
+    let n : all_alternatives test new ≡ true = all_alternatives-definitions test base ns o g.definitions r in
     record {
       distinct = are_distinct-extended old new w.distinct (ap are_distinct h ∙ are_distinct-names base d g e);
-      well_formed = all_alternatives-extended (is_well_formed zs) old new o n;
+      well_formed = all_alternatives-extended test old new o n;
     }

@@ -9,24 +9,25 @@ use Rattle.rdx_term.specs.Tree as tree
 use Rattle.rdx_lang.specs.Patterns.{Pattern, wild, hole, lit, nt, Items}
 use Rattle.rdx_lang.specs.declared.pattern.Kind.{Kind}
 use Rattle.rdx_lang.specs.declared.pattern.Ref.TheVariants.{Nt}
-use Rattle.rdx_grammar.specs.Heads.{Head, naming, avoiding, prefixing, splitting, hiding, plain, Role, word, bound, spelt, pattern, Roles, every, roles_of, head_among, next, rest, fits, is_shaped}
+use Rattle.rdx_grammar.specs.Heads.{Head, naming, avoiding, prefixing, splitting, hiding, plain, Role, word, bound, spelt, pattern, ellipsis, Roles, every, roles_of, head_among, next, rest, is_repeated, fits, is_shaped}
 use Rattle.rdx_grammar.specs.Kinds.{kind_of, is_among, is_base}
 use Rattle.rdx_grammar.specs.Laws.{wilds, item_wilds, underscores, WildsAreWritten}
 use Rattle.rdx_grammar.specs.Names.{is_bad_name, begins_with_dots, has_suffix, front}
-use Rattle.rdx_grammar.specs.Occurrences.{Occurrence, malformed, keys_in, role_occurrences, occurrences, occurrences_among}
+use Rattle.rdx_grammar.specs.Occurrences.{Occurrence, malformed, keys_in, role_occurrences, deeper, occurrences, occurrences_among}
 use Rattle.rdx_grammar.specs.Parts.{text_of, is_symbol, is_word}
 use Rattle.rdx_grammar.specs.PatternChecks.{keyword_fault, keyword_faults, bad_binder, bad_binders, bad_occurrence, bad_occurrences, is_bad_symbol}
 use Rattle.rdx_grammar.specs.PatternRefusal.{keyword_at, bad_binder_at, bad_occurrence_at}
-use Rattle.rdx_grammar.specs.Reading.{base, base_of, suffixed, other_symbol, by_base, symbol_reading, name_in, only, bound_to, prefixed, names_among, role_items, assembled, reading, items_among}
+use Rattle.rdx_grammar.specs.Reading.{base, base_of, suffixed, other_symbol, by_base, symbol_reading, name_in, only, bound_to, prefixed, names_among, ellipsis_behind, item_slot, with_item, role_items, assembled, reading, items_among}
 use Rattle.rdx_grammar.specs.Refusal.{unnamed, named}
 use Rattle.rdx_grammar.specs.Unbuilt.{unbuilt_at}
 use Rattle.rdx_grammar.specs.declared.patterns.position.Position.{Position}
 use Rattle.rdx_grammar.specs.declared.patterns.position.Position.TheVariants.{Grammar, Query}
 use Rattle.rdx_grammar.specs.declared.shape.fault.DefKind.TheVariants.{Shape, BadName, BadPattern}
-use Rattle.rdx_grammar.proofs.Booleans.{or_false, and_true, not_true}
+use Rattle.rdx_grammar.proofs.Booleans.{or_false, and_true, second-false, not_true}
 use Rattle.rdx_grammar.proofs.DefinitionSpelled.{symbol-spelled}
 use Rattle.rdx_grammar.proofs.Firsts.{nothing, none_both, none_or, none_first}
 use Rattle.rdx_grammar.proofs.NamedForms.{name-spelled, language-not_hole}
+use Rattle.rdx_grammar.proofs.RoleItems.{named-once}
 
 -- ---- names
 
@@ -129,13 +130,19 @@ module _ (ns : List (List ℕ)) (pos : Position) where
   underscores-append [] qs = sym (zero-plus (underscores qs))
   underscores-append (o ∷ os) qs = let e = underscores-append os qs in omega (arith, e)
 
+  -- those of an item, by itself or repeated
+  item-wilds : (e : Option (Option (List ℕ))) (p : Pattern) (ps : Items) → item_wilds (with_item (item_slot e p) ps) ≡ wilds p + item_wilds ps
+  item-wilds None p ps = refl
+  item-wilds (Some n) p ps = refl
+
   -- those of an item in a role, and of those behind it
-  role-wilds : (o : Option Role) (d : Sexp) (p : Pattern) (ps : Items) (os : List Occurrence) → (o ≡ Some pattern → wilds p ≡ underscores os) → item_wilds (role_items o p ps) ≡ underscores (role_occurrences o d os) + item_wilds ps
-  role-wilds None d p ps os f = sym (zero-plus (item_wilds ps))
-  role-wilds (Some word) d p ps os f = sym (zero-plus (item_wilds ps))
-  role-wilds (Some bound) d p ps os f = sym (zero-plus (item_wilds ps))
-  role-wilds (Some spelt) d p ps os f = sym (zero-plus (item_wilds ps))
-  role-wilds (Some pattern) d p ps os f = ap (λ (n : ℕ). n + item_wilds ps) (f refl)
+  role-wilds : (n : ℕ) (o : Option Role) (e : Option (Option (List ℕ))) (d : Sexp) (p : Pattern) (ps : Items) (os : List Occurrence) → (o ≡ Some pattern → wilds p ≡ underscores os) → item_wilds (role_items o e p ps) ≡ underscores (role_occurrences n o d os) + item_wilds ps
+  role-wilds n None e d p ps os f = sym (zero-plus (item_wilds ps))
+  role-wilds n (Some word) e d p ps os f = sym (zero-plus (item_wilds ps))
+  role-wilds n (Some bound) e d p ps os f = sym (zero-plus (item_wilds ps))
+  role-wilds n (Some spelt) e d p ps os f = sym (zero-plus (item_wilds ps))
+  role-wilds n (Some pattern) e d p ps os f = item-wilds e p ps ∙ ap (λ (k : ℕ). k + item_wilds ps) (f refl)
+  role-wilds n (Some ellipsis) e d p ps os f = sym (zero-plus (item_wilds ps))
 
   -- an item that is a pattern passes the checks, where all that stands in items does
   abbrev Passes : List Occurrence → Type 0
@@ -148,38 +155,23 @@ module _ (ns : List (List ℕ)) (pos : Position) where
       let b = none_both (bad_occurrences ns os) (bad_occurrences ns qs) (sym (flat_map-append (bad_occurrence ns) os qs) ∙ h.1.1) in
       ((k.0, (n.0, b.0)), (k.1, (n.1, b.1)))
 
-  passes-role : (o : Option Role) (d : Sexp) (os : List Occurrence) → Passes (role_occurrences o d os) → o ≡ Some pattern → Passes os
-  passes-role None d os h e = absurd cc
-  passes-role (Some word) d os h e = absurd cc
-  passes-role (Some bound) d os h e = absurd cc
-  passes-role (Some spelt) d os h e = absurd cc
-  passes-role (Some pattern) d os h e = h
-
-  -- one item, and those behind it
-  items-step : (rs : Roles) (d : Sexp) (ds : Sexps) → Passes (occurrences_among rs (cons d ds)) → (Passes (occurrences d) → wilds (reading ns pos d) ≡ underscores (occurrences d)) → (Passes (occurrences_among (rest rs) ds) → item_wilds (items_among ns pos (rest rs) ds) ≡ underscores (occurrences_among (rest rs) ds)) → item_wilds (items_among ns pos rs (cons d ds)) ≡ underscores (occurrences_among rs (cons d ds))
-  items-step rs d ds h f g =
-      let k = passes-both (role_occurrences (next rs) d (occurrences d)) (occurrences_among (rest rs) ds) h in
-      role-wilds (next rs) d (reading ns pos d) (items_among ns pos (rest rs) ds) (occurrences d) (λ e. f (passes-role (next rs) d (occurrences d) k.0 e))
-      ∙ ap (λ (n : ℕ). underscores (role_occurrences (next rs) d (occurrences d)) + n) (g k.1)
-      ∙ sym (underscores-append (role_occurrences (next rs) d (occurrences d)) (occurrences_among (rest rs) ds))
+  passes-role : (n : ℕ) (o : Option Role) (d : Sexp) (os : List Occurrence) → Passes (role_occurrences n o d os) → o ≡ Some pattern → Passes os
+  passes-role n None d os h e = absurd cc
+  passes-role n (Some word) d os h e = absurd cc
+  passes-role n (Some bound) d os h e = absurd cc
+  passes-role n (Some spelt) d os h e = absurd cc
+  passes-role n (Some pattern) d os h e = h
+  passes-role n (Some ellipsis) d os h e = absurd cc
 
   -- a list that may have its shape
   shaped-wilds : (b : Bool) (whole : Sexp) (ds : Sexps) (p : Pattern) (os : List Occurrence) → Passes (if b then os else malformed whole ∷ keys_in ds) → (b ≡ true → Passes os → wilds p ≡ underscores os) → wilds (if b then p else wild) ≡ underscores (if b then os else malformed whole ∷ keys_in ds)
   shaped-wilds true whole ds p os h f = f refl h
   shaped-wilds false whole ds p os h f = let k = h.1.1 in absurd cc
 
-  -- symbols that stand for symbols
-  spelt-wilds : (ds : Sexps) → underscores (occurrences_among (every spelt) ds) ≡ 0
+  -- symbols that stand for symbols are no items
+  spelt-wilds : (ds : Sexps) → item_wilds (items_among ns pos (every spelt) ds) ≡ 0
   spelt-wilds nil = refl
-  spelt-wilds (cons d ds) = zero-plus (underscores (occurrences_among (every spelt) ds)) ∙ spelt-wilds ds
-
-  -- the name that a symbol is
-  named-once : (d : Sexp) → HasName d → name_in d ≡ text_of d ∷ []
-  named-once d e = by_test (is_name (text_of d)) e
-    where
-      by_test : (b : Bool) → b ≡ true → (let xs : List (List ℕ) = if b then text_of d ∷ [] else [] in xs) ≡ text_of d ∷ []
-      by_test true f = refl
-      by_test false f = absurd cc
+  spelt-wilds (cons d ds) = spelt-wilds ds
 
   -- what is bound to one name
   bound-wilds : (xs : List (List ℕ)) (x : List ℕ) (p : Pattern) → xs ≡ x ∷ [] → wilds (bound_to (only (xs ++ [])) (Some p)) ≡ wilds p
@@ -189,83 +181,73 @@ module _ (ns : List (List ℕ)) (pos : Position) where
   prefixed-wilds : (xs : List (List ℕ)) (x : List ℕ) → xs ≡ x ∷ [] → wilds (prefixed (only (xs ++ []))) ≡ 0
   prefixed-wilds xs x e = ap (λ (ys : List (List ℕ)). wilds (prefixed (only (ys ++ [])))) e
 
-  -- too many or too few items
-  second-false : (a : Bool) (P : Type 0) → (a && false) ≡ true → P
-  second-false true P e = absurd cc
-  second-false false P e = absurd cc
+  -- a list with its shape has those of its items, by its head
+  list-wilds : (n : ℕ) (h : Head) (ds : Sexps) → AreSpelled ds → fits (roles_of h) ds ≡ true → bad_binders (occurrences_among n (roles_of h) ds) ≡ [] → wilds (assembled h (names_among (roles_of h) ds) (items_among ns pos (roles_of h) ds)) ≡ item_wilds (items_among ns pos (roles_of h) ds)
+  list-wilds n naming nil h f p = absurd cc
+  list-wilds n naming (cons w nil) h f p = second-false (is_symbol w) _ f
+  list-wilds n naming (cons w (cons x nil)) h f p = second-false (is_symbol x) _ (and_true (is_symbol w) (is_symbol x && false) f).1
+  list-wilds n naming (cons w (cons x (cons d nil))) h f p =
+      let g = and_true (is_symbol x) true (and_true (is_symbol w) (is_symbol x && true) f).1 in
+      let b = none_first (is_bad_name (text_of x)) x (bad_binders (occurrences n d ++ [])) p in
+      bound-wilds (name_in x) (text_of x) (reading ns pos d) (named-once x (bound-name x g.0 h.1.0 b.0)) ∙ sym (plus-zero (wilds (reading ns pos d)))
+  list-wilds n naming (cons w (cons x (cons d (cons c ds)))) h f p = second-false (is_symbol x) _ (and_true (is_symbol w) (is_symbol x && false) f).1
+  list-wilds n avoiding nil h f p = refl
+  list-wilds n avoiding (cons w ds) h f p = sym (spelt-wilds ds)
+  list-wilds n prefixing nil h f p = absurd cc
+  list-wilds n prefixing (cons w nil) h f p = second-false (is_symbol w) _ f
+  list-wilds n prefixing (cons w (cons x nil)) h f p =
+      let b = is_symbol x && not (is_word (codes "hole") x) in
+      let g = and_true b true (and_true (is_symbol w) (b && true) f).1 in
+      prefixed-wilds (name_in x) (text_of x) (named-once x (spelt-name x g.0 h.1.0))
+  list-wilds n prefixing (cons w (cons x (cons d ds))) h f p =
+      let b = is_symbol x && not (is_word (codes "hole") x) in
+      second-false b _ (and_true (is_symbol w) (b && false) f).1
+  list-wilds n splitting nil h f p = absurd cc
+  list-wilds n splitting (cons w nil) h f p = second-false (is_symbol w) _ f
+  list-wilds n splitting (cons w (cons d nil)) h f p = second-false (is_symbol w) _ f
+  list-wilds n splitting (cons w (cons d (cons c nil))) h f p =
+      ap (λ (k : ℕ). wilds (reading ns pos d) + k) (sym (plus-zero (wilds (reading ns pos c))))
+  list-wilds n splitting (cons w (cons d (cons c (cons b ds)))) h f p = second-false (is_symbol w) _ f
+  list-wilds n hiding nil h f p = absurd cc
+  list-wilds n hiding (cons w nil) h f p = second-false (is_symbol w) _ f
+  list-wilds n hiding (cons w (cons d nil)) h f p = sym (plus-zero (wilds (reading ns pos d)))
+  list-wilds n hiding (cons w (cons d (cons c ds))) h f p = second-false (is_symbol w) _ f
+  list-wilds n plain ds h f p = refl
 
   mutual
-    -- a datum
-    wilds-of : (d : Sexp) → IsSpelledSexp d → Passes (occurrences d) → wilds (reading ns pos d) ≡ underscores (occurrences d)
-    wilds-of (leaf (integer n) s) h p = refl
-    wilds-of (leaf (truth b) s) h p = refl
-    wilds-of (leaf (text t) s) h p = refl
-    wilds-of (leaf (symbol x) s) h p =
+    -- a datum around which n repetitions stand
+    wilds-of : (n : ℕ) (d : Sexp) → IsSpelledSexp d → Passes (occurrences n d) → wilds (reading ns pos d) ≡ underscores (occurrences n d)
+    wilds-of n (leaf (integer z) s) h p = refl
+    wilds-of n (leaf (truth b) s) h p = refl
+    wilds-of n (leaf (text t) s) h p = refl
+    wilds-of n (leaf (symbol x) s) h p =
         symbol-wilds x h (none_first (is_bad_symbol ns x) (leaf (symbol x) s) [] p.1.1).0 ∙ sym (plus-zero (if bytes_eq x (codes "_") then 1 else 0))
-    wilds-of (leaf (keyword k) s) h p = let q = p.0 in absurd cc
-    wilds-of (list ds s) h p =
+    wilds-of n (leaf (keyword k) s) h p = let q = p.0 in absurd cc
+    wilds-of n (list ds s) h p =
         let k = head_among ds in
-        shaped-wilds (is_shaped ds) (list ds s) ds (assembled k (names_among (roles_of k) ds) (items_among ns pos (roles_of k) ds)) (occurrences_among (roles_of k) ds) p
-        (λ f q. list-wilds k ds h f q)
+        shaped-wilds (is_shaped ds) (list ds s) ds (assembled k (names_among (roles_of k) ds) (items_among ns pos (roles_of k) ds)) (occurrences_among n (roles_of k) ds) p
+        (λ f q. list-wilds n k ds h f q.1.0 ∙ items-wilds n (roles_of k) ds h q)
 
-    -- a list with its shape, by its head
-    list-wilds : (h : Head) (ds : Sexps) → AreSpelled ds → fits (roles_of h) ds ≡ true → Passes (occurrences_among (roles_of h) ds) → wilds (assembled h (names_among (roles_of h) ds) (items_among ns pos (roles_of h) ds)) ≡ underscores (occurrences_among (roles_of h) ds)
-    list-wilds naming nil h f p = absurd cc
-    list-wilds naming (cons w nil) h f p = second-false (is_symbol w) _ f
-    list-wilds naming (cons w (cons x nil)) h f p = second-false (is_symbol x) _ (and_true (is_symbol w) (is_symbol x && false) f).1
-    list-wilds naming (cons w (cons x (cons d nil))) h f p =
-        let g = and_true (is_symbol x) true (and_true (is_symbol w) (is_symbol x && true) f).1 in
-        let n = none_first (is_bad_name (text_of x)) x (bad_binders (occurrences d ++ [])) p.1.0 in
-        let q = passes-both (occurrences d) [] (p.0, (n.1, p.1.1)) in
-        bound-wilds (name_in x) (text_of x) (reading ns pos d) (named-once x (bound-name x g.0 h.1.0 n.0))
-        ∙ wilds-of d h.1.1.0 q.0
-        ∙ sym (underscores-append (occurrences d) [] ∙ plus-zero (underscores (occurrences d)))
-        ∙ sym (zero-plus (underscores (occurrences d ++ [])))
-    list-wilds naming (cons w (cons x (cons d (cons c ds)))) h f p = second-false (is_symbol x) _ (and_true (is_symbol w) (is_symbol x && false) f).1
-    list-wilds avoiding nil h f p = refl
-    list-wilds avoiding (cons w ds) h f p = sym (spelt-wilds ds)
-    list-wilds prefixing nil h f p = absurd cc
-    list-wilds prefixing (cons w nil) h f p = second-false (is_symbol w) _ f
-    list-wilds prefixing (cons w (cons x nil)) h f p =
-        let b = is_symbol x && not (is_word (codes "hole") x) in
-        let g = and_true b true (and_true (is_symbol w) (b && true) f).1 in
-        prefixed-wilds (name_in x) (text_of x) (named-once x (spelt-name x g.0 h.1.0))
-    list-wilds prefixing (cons w (cons x (cons d ds))) h f p =
-        let b = is_symbol x && not (is_word (codes "hole") x) in
-        second-false b _ (and_true (is_symbol w) (b && false) f).1
-    list-wilds splitting nil h f p = absurd cc
-    list-wilds splitting (cons w nil) h f p = second-false (is_symbol w) _ f
-    list-wilds splitting (cons w (cons d nil)) h f p = second-false (is_symbol w) _ f
-    list-wilds splitting (cons w (cons d (cons c nil))) h f p =
-        let q = passes-both (occurrences d) (occurrences c ++ []) p in
-        let r = passes-both (occurrences c) [] q.1 in
-        let a = wilds-of d h.1.0 q.0 in
-        let b = wilds-of c h.1.1.0 r.0 in
-        let u = underscores-append (occurrences d) (occurrences c ++ []) in
-        let v = underscores-append (occurrences c) [] in
-        omega (arith, a, b, u, v)
-    list-wilds splitting (cons w (cons d (cons c (cons b ds)))) h f p = second-false (is_symbol w) _ f
-    list-wilds hiding nil h f p = absurd cc
-    list-wilds hiding (cons w nil) h f p = second-false (is_symbol w) _ f
-    list-wilds hiding (cons w (cons d nil)) h f p =
-        let q = passes-both (occurrences d) [] p in
-        wilds-of d h.1.0 q.0 ∙ sym (underscores-append (occurrences d) [] ∙ plus-zero (underscores (occurrences d)))
-    list-wilds hiding (cons w (cons d (cons c ds))) h f p = second-false (is_symbol w) _ f
-    list-wilds plain nil h f p = refl
-    list-wilds plain (cons d ds) h f p = items-step (every pattern) d ds p (λ q. wilds-of d h.0 q) (λ q. items-wilds ds h.1 q)
-
-    -- items that are patterns
-    items-wilds : (ds : Sexps) → AreSpelled ds → Passes (occurrences_among (every pattern) ds) → item_wilds (items_among ns pos (every pattern) ds) ≡ underscores (occurrences_among (every pattern) ds)
-    items-wilds nil h p = refl
-    items-wilds (cons d ds) h p = items-step (every pattern) d ds p (λ q. wilds-of d h.0 q) (λ q. items-wilds ds h.1 q)
+    -- items in these roles
+    items-wilds : (n : ℕ) (rs : Roles) (ds : Sexps) → AreSpelled ds → Passes (occurrences_among n rs ds) → item_wilds (items_among ns pos rs ds) ≡ underscores (occurrences_among n rs ds)
+    items-wilds n rs nil h p = refl
+    items-wilds n rs (cons d ds) h p =
+        let m = deeper (is_repeated (rest rs d) ds) n in
+        let os = role_occurrences n (next rs d) d (occurrences m d) in
+        let k = passes-both os (occurrences_among n (rest rs d) ds) p in
+        role-wilds n (next rs d) (ellipsis_behind (rest rs d) ds) d (reading ns pos d) (items_among ns pos (rest rs d) ds) (occurrences m d)
+        (λ e. wilds-of m d h.0 (passes-role n (next rs d) d (occurrences m d) k.0 e))
+        ∙ ap (λ (i : ℕ). underscores os + i) (items-wilds n (rest rs d) ds h.1 k.1)
+        ∙ sym (underscores-append os (occurrences_among n (rest rs d) ds))
 
 pub wilds_are_written : WildsAreWritten
 wilds_are_written ns pos d h e =
+    let os = occurrences 0 d in
     let f = none_or (unbuilt_at d) _ e in
-    let k = none_or (keyword_at (occurrences d)) _ f.1 in
-    let l = none_or (bad_binder_at (occurrences d)) _ k.1 in
-    let m = none_or (bad_occurrence_at ns (occurrences d)) None l.1 in
-    let keys = nothing (unnamed Shape) (keyword_faults (occurrences d)) k.0 in
-    let binders = nothing (named BadName) (bad_binders (occurrences d)) l.0 in
-    let others = nothing (unnamed BadPattern) (bad_occurrences ns (occurrences d)) m.0 in
-    wilds-of ns pos d h (keys, (binders, others))
+    let k = none_or (keyword_at os) _ f.1 in
+    let l = none_or (bad_binder_at os) _ k.1 in
+    let m = none_or (bad_occurrence_at ns os) _ l.1 in
+    let keys = nothing (unnamed Shape) (keyword_faults os) k.0 in
+    let binders = nothing (named BadName) (bad_binders os) l.0 in
+    let others = nothing (unnamed BadPattern) (bad_occurrences ns os) m.0 in
+    wilds-of ns pos 0 d h (keys, (binders, others))

@@ -8,7 +8,8 @@ use Rattle.rdx_lang.specs.declared.pattern.Ref.TheVariants.{Nt}
 use Rattle.rdx_grammar.specs.Kinds.{kind_of}
 use Rattle.rdx_grammar.specs.Names.{is_one_of, kept_words, is_bad_name, begins_with_dots, has_suffix}
 use Rattle.rdx_grammar.specs.Parts.{text_of}
-use Rattle.rdx_grammar.specs.PatternChecks.{when, keyword_faults, bad_binders, bad_occurrences}
+use Rattle.rdx_grammar.specs.PatternChecks.{when, keyword_faults, bad_binders, bad_occurrences, depth_clashes}
+use Rattle.rdx_grammar.specs.declared.patterns.position.Position.TheVariants.{Grammar as InGrammar}
 use Rattle.rdx_grammar.specs.Stands.{Stand, misshaped, defined, nonterminal, alternative, inherited}
 
 -- ---- S1, Shape: a form or a definition has not its shape, or a keyword stands in a pattern
@@ -93,3 +94,17 @@ bad_pattern base ns (inherited d names again) = when (again || not (all_inherit 
 -- all such data
 abbrev pub bad_patterns : model.Language → List (List ℕ) → List Stand → List Sexp
 bad_patterns base ns ss = flat_map (bad_pattern base ns) ss
+
+-- ---- S6, EllipsisDepth: a name is bound at two depths in one alternative, with these nonterminals
+
+-- the symbols of an alternative that bind a name at another depth than one before them does
+abbrev pub depth_clash : List (List ℕ) → Stand → List Sexp
+depth_clash ns (misshaped d) = []
+depth_clash ns (defined d) = []
+depth_clash ns (nonterminal d) = []
+depth_clash ns (alternative os) = depth_clashes ns InGrammar os
+depth_clash ns (inherited d names again) = []
+
+-- all such symbols, each alternative by itself
+abbrev pub all_depth_clashes : List (List ℕ) → List Stand → List Sexp
+all_depth_clashes ns ss = flat_map (depth_clash ns) ss

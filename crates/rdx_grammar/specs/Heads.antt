@@ -1,7 +1,9 @@
--- Lists of patterns by their heads: which words give a list a meaning of its own, and what each of its items is there for.
+-- Lists of patterns by their heads: which words give a list a meaning of its own, and what each of its items is there for. Of a list
+-- without such a word each item is a pattern, or the ellipsis that repeats the pattern right before it.
 use Rattle.std.specs.Prelude.{ℕ, Bool, true, false, not, ◌&&◌, List, Option, Some, None, codes, bytes_eq, if◌then◌else◌}
 use Rattle.rdx_sexp.specs.Sexp.{symbol, Sexp, Sexps, leaf, nil, cons}
-use Rattle.rdx_grammar.specs.Parts.{is_symbol, is_word}
+use Rattle.rdx_grammar.specs.Names.{is_ellipsis}
+use Rattle.rdx_grammar.specs.Parts.{is_symbol, is_word, text_of}
 
 -- the kinds of lists
 pub data Head : Type 0 where
@@ -45,6 +47,8 @@ pub data Role : Type 0 where
   spelt : Role
   -- a pattern
   pattern : Role
+  -- the ellipsis that repeats the pattern before it
+  ellipsis : Role
 
 -- what all items of a list are there for
 pub data Roles : Type 0 where
@@ -54,6 +58,10 @@ pub data Roles : Type 0 where
   item : Role → Roles → Roles
   -- any number of items in this role
   every : Role → Roles
+  -- any number of patterns, each with an ellipsis behind it or not; of the item before, an ellipsis would repeat nothing
+  patterns : Roles
+  -- the same, where the item before is a pattern that an ellipsis may repeat
+  repeatable : Roles
 
 -- the table: a row for each kind of list
 abbrev pub roles_of : Head → Roles
@@ -62,25 +70,49 @@ roles_of avoiding = item word (every spelt)
 roles_of prefixing = item word (item spelt done)
 roles_of splitting = item word (item pattern (item pattern done))
 roles_of hiding = item word (item pattern done)
-roles_of plain = every pattern
+roles_of plain = patterns
 
--- the role of the next item, where there may be one
-abbrev pub next : Roles → Option Role
-next done = None
-next (item r rs) = Some r
-next (every r) = Some r
+-- the datum is an ellipsis
+abbrev pub is_ellipsis_symbol : Sexp → Bool
+is_ellipsis_symbol d = is_symbol d && is_ellipsis (text_of d)
+
+-- the role of the next item, which is d, where there may be one
+abbrev pub next : Roles → Sexp → Option Role
+next done d = None
+next (item r rs) d = Some r
+next (every r) d = Some r
+next patterns d = Some pattern
+next repeatable d = if is_ellipsis_symbol d then Some ellipsis else Some pattern
 
 -- the roles of the items behind it
-abbrev pub rest : Roles → Roles
-rest done = done
-rest (item r rs) = rs
-rest (every r) = every r
+abbrev pub rest : Roles → Sexp → Roles
+rest done d = done
+rest (item r rs) d = rs
+rest (every r) d = every r
+rest patterns d = repeatable
+rest repeatable d = if is_ellipsis_symbol d then patterns else repeatable
+
+-- the role is that of an ellipsis
+abbrev pub is_of_ellipsis : Option Role → Bool
+is_of_ellipsis None = false
+is_of_ellipsis (Some word) = false
+is_of_ellipsis (Some bound) = false
+is_of_ellipsis (Some spelt) = false
+is_of_ellipsis (Some pattern) = false
+is_of_ellipsis (Some ellipsis) = true
+
+-- the first of the items in these roles is the ellipsis that repeats the item before them
+abbrev pub is_repeated : Roles → Sexps → Bool
+is_repeated rs nil = false
+is_repeated rs (cons d ds) = is_of_ellipsis (next rs d)
 
 -- no item need follow
 abbrev pub may_end : Roles → Bool
 may_end done = true
 may_end (item r rs) = false
 may_end (every r) = true
+may_end patterns = true
+may_end repeatable = true
 
 -- the datum may stand in this role
 abbrev pub suits : Option Role → Sexp → Bool
@@ -89,11 +121,12 @@ suits (Some word) d = is_symbol d
 suits (Some bound) d = is_symbol d
 suits (Some spelt) d = is_symbol d && not (is_word (codes "hole") d)
 suits (Some pattern) d = true
+suits (Some ellipsis) d = is_symbol d
 
 -- the data may stand in these roles, one by one, and no other is missing
 abbrev pub fits : Roles → Sexps → Bool
 fits rs nil = may_end rs
-fits rs (cons d ds) = suits (next rs) d && fits (rest rs) ds
+fits rs (cons d ds) = suits (next rs d) d && fits (rest rs d) ds
 
 -- a list has the shape that its head asks for
 abbrev pub is_shaped : Sexps → Bool

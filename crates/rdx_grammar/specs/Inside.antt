@@ -6,4 +6,5 @@ pub mod BaseView
 pub mod Repeats
 pub mod Found
 pub mod AreNames
+pub mod BoundView
 pub mod CheckedForms

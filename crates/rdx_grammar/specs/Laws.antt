@@ -8,7 +8,7 @@ use Rattle.rdx_lang.specs.Patterns as model
 use Rattle.rdx_lang.specs.declared.checked.CheckedPat.{CheckedPat}
 use Rattle.rdx_grammar.specs.Answers.{ReadsPattern}
 use Rattle.rdx_grammar.specs.Forms.{GrammarForm}
-use Rattle.rdx_grammar.specs.Occurrences.{Occurrence, key, binder, single, excepted, malformed, occurrences}
+use Rattle.rdx_grammar.specs.Occurrences.{Occurrence, key, binder, single, repeats, excepted, malformed, occurrences}
 use Rattle.rdx_grammar.specs.Parts.{text_of}
 use Rattle.rdx_grammar.specs.PatternRefusal.{pattern_refusal}
 use Rattle.rdx_grammar.specs.Reading.{reading}
@@ -66,8 +66,9 @@ abbrev mutual
 -- the datum that it is
 abbrev pub datum_of : Occurrence → Sexp
 datum_of (key d) = d
-datum_of (binder d) = d
-datum_of (single d) = d
+datum_of (binder n d) = d
+datum_of (single n d) = d
+datum_of (repeats n d) = d
 datum_of (excepted d) = d
 datum_of (malformed d) = d
 
@@ -79,7 +80,7 @@ pub data IsPickedFrom : List Sexp → List Sexp → Type 0 where
 
 -- what stands in a pattern stands in the order of its parts, and each part is at most one thing
 abbrev pub InOrder : Type 0
-InOrder = (d : Sexp) → IsPickedFrom (map datum_of (occurrences d)) (all_parts d)
+InOrder = (d : Sexp) → IsPickedFrom (map datum_of (occurrences 0 d)) (all_parts d)
 
 -- ---- the pattern that matches everything
 
@@ -103,12 +104,14 @@ abbrev mutual
   pub item_wilds : Items → ℕ
   item_wilds model.nil = 0
   item_wilds (model.one p ps) = wilds p + item_wilds ps
+  item_wilds (model.many p n ps) = wilds p + item_wilds ps
 
 -- a symbol that is a pattern is `_`, or not
 abbrev pub underscore : Occurrence → ℕ
 underscore (key d) = 0
-underscore (binder d) = 0
-underscore (single d) = if bytes_eq (text_of d) (codes "_") then 1 else 0
+underscore (binder n d) = 0
+underscore (single n d) = if bytes_eq (text_of d) (codes "_") then 1 else 0
+underscore (repeats n d) = 0
 underscore (excepted d) = 0
 underscore (malformed d) = 0
 
@@ -121,4 +124,4 @@ underscores (o ∷ os) = underscore o + underscores os
 abbrev pub WildsAreWritten : Type 0
 WildsAreWritten =
     (ns : List (List ℕ)) (pos : Position) (d : Sexp)
-    → IsSpelledSexp d → pattern_refusal ns d ≡ None → wilds (reading ns pos d) ≡ underscores (occurrences d)
+    → IsSpelledSexp d → pattern_refusal ns d ≡ None → wilds (reading ns pos d) ≡ underscores (occurrences 0 d)

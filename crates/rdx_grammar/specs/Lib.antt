@@ -6,6 +6,7 @@ pub mod Heads
 pub mod Occurrences
 pub mod Kinds
 pub mod PatternChecks
+pub mod Readable
 pub mod Reading
 pub mod PatternRefusal
 pub mod Definitions

@@ -1,5 +1,5 @@
 -- The names that patterns and languages are built from (the Redex reference manual, "Patterns" and "Languages").
-use Rattle.std.specs.Prelude.{ℕ, ◌==◌, Bool, ◌||◌, List, [], ◌∷◌, codes, bytes_eq, nat_eq}
+use Rattle.std.specs.Prelude.{ℕ, ◌==◌, Bool, not, ◌&&◌, ◌||◌, List, [], ◌∷◌, codes, bytes_eq, nat_eq}
 use Rattle.std.specs.List.{list_any, before_first, starts_with}
 use Rattle.std.specs.Str.{byte}
 
@@ -22,6 +22,10 @@ front x = before_first is_underscore x
 -- an ellipsis, or what looks like one
 abbrev pub begins_with_dots : List ℕ → Bool
 begins_with_dots x = starts_with nat_eq x (codes "...")
+
+-- an ellipsis: `...` alone, or with a name for the number of turns behind `..._`; `..._!_` is none
+abbrev pub is_ellipsis : List ℕ → Bool
+is_ellipsis x = bytes_eq x (codes "...") || (starts_with nat_eq x (codes "..._") && not (starts_with nat_eq x (codes "..._!_")))
 
 -- the inherited alternatives of an extension
 abbrev pub is_inherited : List ℕ → Bool

@@ -2,10 +2,11 @@
 use Rattle.std.specs.Prelude.{ℕ, List, [], ◌∷◌, Option, option_map}
 use Rattle.rdx_sexp.specs.Sexp.{Sexp}
 use Rattle.rdx_grammar.specs.Occurrences.{Occurrence, occurrences}
-use Rattle.rdx_grammar.specs.PatternChecks.{keyword_faults, bad_binders, bad_occurrences}
+use Rattle.rdx_grammar.specs.PatternChecks.{keyword_faults, bad_binders, bad_occurrences, depth_clashes}
 use Rattle.rdx_grammar.specs.Refusal.{Refusal, unnamed, named, first, first_refusal}
 use Rattle.rdx_grammar.specs.Unbuilt.{unbuilt_at}
-use Rattle.rdx_grammar.specs.declared.shape.fault.DefKind.TheVariants.{Shape, BadName, BadPattern}
+use Rattle.rdx_grammar.specs.declared.shape.fault.DefKind.TheVariants.{Shape, BadName, BadPattern, EllipsisDepth}
+use Rattle.rdx_grammar.specs.declared.patterns.position.Position.TheVariants.{Query}
 
 -- S1: the first keyword
 abbrev pub keyword_at : List Occurrence → Option Refusal
@@ -19,12 +20,17 @@ bad_binder_at os = option_map (named BadName) (first (bad_binders os))
 abbrev pub bad_occurrence_at : List (List ℕ) → List Occurrence → Option Refusal
 bad_occurrence_at ns os = option_map (unnamed BadPattern) (first (bad_occurrences ns os))
 
+-- S6: the first symbol that binds a name at another depth than one before it, over these nonterminals
+abbrev pub depth_clash_at : List (List ℕ) → List Occurrence → Option Refusal
+depth_clash_at ns os = option_map (named EllipsisDepth) (first (depth_clashes ns Query os))
+
 -- the refusal by the check with the least number that refuses a pattern outside grammars, over these nonterminals
 abbrev pub pattern_refusal : List (List ℕ) → Sexp → Option Refusal
 pattern_refusal ns d =
     first_refusal
     (unbuilt_at d  -- S0
-    ∷ keyword_at (occurrences d)  -- S1
-    ∷ bad_binder_at (occurrences d)  -- S4
-    ∷ bad_occurrence_at ns (occurrences d)  -- S5
+    ∷ keyword_at (occurrences 0 d)  -- S1
+    ∷ bad_binder_at (occurrences 0 d)  -- S4
+    ∷ bad_occurrence_at ns (occurrences 0 d)  -- S5
+    ∷ depth_clash_at ns (occurrences 0 d)  -- S6
     ∷ [])

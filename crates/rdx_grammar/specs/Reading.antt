@@ -1,13 +1,15 @@
 -- The pattern that a datum stands for. A datum that is refused has a pattern too, which counts for nothing.
 use Rattle.std.specs.Prelude.{ℕ, Bool, true, false, List, [], ◌∷◌, ◌++◌, Option, Some, None, codes, bytes_eq, if◌then◌else◌}
+use Rattle.std.specs.Bool.{then_some}
 use Rattle.rdx_sexp.specs.Sexp.{Atom, integer, truth, text, symbol, keyword, Sexp, Sexps, leaf, list, nil, cons}
 use Rattle.rdx_term.specs.Spelling.{is_name}
 use Rattle.rdx_term.specs.Tree as tree
 use Rattle.rdx_lang.specs.Patterns.{Pattern, wild, of_kind, except, prefix, hole, lit, nt, named, in_hole, hide_hole, seq, Items}
+use Rattle.rdx_lang.specs.PatternView.{Slot, just, repeated}
 use Rattle.rdx_lang.specs.Patterns as model
 use Rattle.rdx_lang.specs.declared.pattern.Kind.{Kind}
 use Rattle.rdx_lang.specs.declared.pattern.Ref.TheVariants.{Nt}
-use Rattle.rdx_grammar.specs.Heads.{Head, naming, avoiding, prefixing, splitting, hiding, plain, Role, word, bound, spelt, pattern, Roles, roles_of, head_among, next, rest, is_shaped}
+use Rattle.rdx_grammar.specs.Heads.{Head, naming, avoiding, prefixing, splitting, hiding, plain, Role, word, bound, spelt, pattern, ellipsis, Roles, roles_of, head_among, next, rest, is_shaped}
 use Rattle.rdx_grammar.specs.Kinds.{kind_of, is_among}
 use Rattle.rdx_grammar.specs.Names.{has_suffix, front}
 use Rattle.rdx_grammar.specs.Parts.{text_of}
@@ -73,11 +75,12 @@ role_names (Some word) d = []
 role_names (Some bound) d = name_in d
 role_names (Some spelt) d = name_in d
 role_names (Some pattern) d = []
+role_names (Some ellipsis) d = []
 
 -- the names among items in these roles
 abbrev pub names_among : Roles → Sexps → List (List ℕ)
 names_among rs nil = []
-names_among rs (cons d ds) = role_names (next rs) d ++ names_among (rest rs) ds
+names_among rs (cons d ds) = role_names (next rs d) d ++ names_among (rest rs d) ds
 
 -- an item in this role is a pattern
 abbrev pub is_pattern : Option Role → Bool
@@ -86,10 +89,39 @@ is_pattern (Some word) = false
 is_pattern (Some bound) = false
 is_pattern (Some spelt) = false
 is_pattern (Some pattern) = true
+is_pattern (Some ellipsis) = false
+
+-- the length name of an ellipsis with this text: none of `...`; every symbol of a file is a name
+abbrev pub length_name : List ℕ → Option (List ℕ)
+length_name x = if bytes_eq x (codes "...") then None else then_some (is_name x) x
+
+-- the ellipsis that an item in this role is, where it is one, by its length name
+abbrev pub ellipsis_in : Option Role → Sexp → Option (Option (List ℕ))
+ellipsis_in None d = None
+ellipsis_in (Some word) d = None
+ellipsis_in (Some bound) d = None
+ellipsis_in (Some spelt) d = None
+ellipsis_in (Some pattern) d = None
+ellipsis_in (Some ellipsis) d = Some (length_name (text_of d))
+
+-- the ellipsis with which the items in these roles begin, which repeats the item before them, where there is one
+abbrev pub ellipsis_behind : Roles → Sexps → Option (Option (List ℕ))
+ellipsis_behind rs nil = None
+ellipsis_behind rs (cons d ds) = ellipsis_in (next rs d) d
+
+-- the item of a pattern, by itself or repeated by the ellipsis behind it
+abbrev pub item_slot : Option (Option (List ℕ)) → Pattern → Slot
+item_slot None p = just p
+item_slot (Some n) p = repeated p n
+
+-- the item patterns, with this item in front
+abbrev pub with_item : Slot → Items → Items
+with_item (just p) ps = model.one p ps
+with_item (repeated p n) ps = model.many p n ps
 
 -- the item patterns, with this one in front where it is one
-abbrev pub role_items : Option Role → Pattern → Items → Items
-role_items o p ps = if is_pattern o then model.one p ps else ps
+abbrev pub role_items : Option Role → Option (Option (List ℕ)) → Pattern → Items → Items
+role_items o e p ps = if is_pattern o then with_item (item_slot e p) ps else ps
 
 -- the member of a list of one
 abbrev pub only : {A : Type 0} → List A → Option A
@@ -101,6 +133,8 @@ abbrev pub only_item : Items → Option Pattern
 only_item model.nil = None
 only_item (model.one p model.nil) = Some p
 only_item (model.one p (model.one q ps)) = None
+only_item (model.one p (model.many q n ps)) = None
+only_item (model.many p n ps) = None
 
 -- the item patterns of a list pattern of two
 abbrev pub only_items : Items → Option (Pattern × Pattern)
@@ -108,6 +142,9 @@ only_items model.nil = None
 only_items (model.one p model.nil) = None
 only_items (model.one p (model.one q model.nil)) = Some (p, q)
 only_items (model.one p (model.one q (model.one r ps))) = None
+only_items (model.one p (model.one q (model.many r n ps))) = None
+only_items (model.one p (model.many q n ps)) = None
+only_items (model.many p n ps) = None
 
 -- what begins with this name, where there is one
 abbrev pub prefixed : Option (List ℕ) → Pattern
@@ -151,4 +188,5 @@ abbrev mutual
   -- the item patterns among items in these roles
   pub items_among : List (List ℕ) → Position → Roles → Sexps → Items
   items_among ns pos rs nil = model.nil
-  items_among ns pos rs (cons d ds) = role_items (next rs) (reading ns pos d) (items_among ns pos (rest rs) ds)
+  items_among ns pos rs (cons d ds) =
+      role_items (next rs d) (ellipsis_behind (rest rs d) ds) (reading ns pos d) (items_among ns pos (rest rs d) ds)

@@ -4,14 +4,14 @@ use Rattle.rdx_sexp.specs.Sexp.{Sexp}
 use Rattle.rdx_lang.specs.Edges.{IsFree, IsFirstRecursive}
 use Rattle.rdx_lang.specs.Patterns.{Language}
 use Rattle.rdx_lang.specs.declared.pattern.Ref.{Ref}
-use Rattle.rdx_grammar.specs.Checks.{shape_faults, repeats, bad_names, bad_patterns}
+use Rattle.rdx_grammar.specs.Checks.{shape_faults, repeats, bad_names, bad_patterns, all_depth_clashes}
 use Rattle.rdx_grammar.specs.Forms.{GrammarForm}
 use Rattle.rdx_grammar.specs.Languages.{language_over}
 use Rattle.rdx_grammar.specs.Nonterminals.{all_names, called}
 use Rattle.rdx_grammar.specs.Refusal.{Refusal, unnamed, named, named_at, first, first_refusal}
 use Rattle.rdx_grammar.specs.Stands.{Stand, form_stands}
 use Rattle.rdx_grammar.specs.Unbuilt.{unbuilt_at}
-use Rattle.rdx_grammar.specs.declared.shape.fault.DefKind.TheVariants.{Shape, Duplicate, BadName, BadPattern, LeftRecursive}
+use Rattle.rdx_grammar.specs.declared.shape.fault.DefKind.TheVariants.{Shape, Duplicate, BadName, BadPattern, EllipsisDepth, LeftRecursive}
 
 -- ---- check by check: the first place at which each refuses
 
@@ -31,6 +31,10 @@ bad_name_at ss = option_map (named BadName) (first (bad_names ss))
 abbrev pub bad_pattern_at : Language → List (List ℕ) → List Stand → Option Refusal
 bad_pattern_at base ns ss = option_map (unnamed BadPattern) (first (bad_patterns base ns ss))
 
+-- S6: a name is bound at two depths
+abbrev pub depth_clash_at : List (List ℕ) → List Stand → Option Refusal
+depth_clash_at ns ss = option_map (named EllipsisDepth) (first (all_depth_clashes ns ss))
+
 -- ---- forms
 
 -- the nonterminals that patterns in such a form may name
@@ -47,6 +51,7 @@ refusal_over base d g =
     ∷ duplicate_at (form_stands d g)  -- S3
     ∷ bad_name_at (form_stands d g)  -- S4
     ∷ bad_pattern_at base (names_over base g) (form_stands d g)  -- S5
+    ∷ depth_clash_at (names_over base g) (form_stands d g)  -- S6
     ∷ [])
 
 -- S7, LeftRecursive: the language of the form d is left-recursive at x; the place is that of the form

@@ -20,7 +20,7 @@ pub data Stand : Type 0 where
 
 -- an alternative of these names; `again` says whether a `....` was among those before
 abbrev pub alternative_stand : List Sexp → Bool → Sexp → Stand
-alternative_stand names again d = if is_word (codes "....") d then inherited d names again else alternative (occurrences d)
+alternative_stand names again d = if is_word (codes "....") d then inherited d names again else alternative (occurrences 0 d)
 
 -- what stands in the alternatives of these names
 abbrev pub alternatives_stand : List Sexp → Bool → List Sexp → List Stand

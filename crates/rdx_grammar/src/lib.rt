@@ -4,6 +4,9 @@
 //! definition is `(e p ...)`, `((e f ...) p ...)` or `(e f ... ::= p ...)`, with at least one pattern, and where several names stand,
 //! each has all the alternatives. What forms and patterns mean follows the Redex reference manual ("Languages" and "Patterns").
 //!
+//! In a list of patterns an ellipsis, `...` or `..._x`, repeats the pattern right before it, and `..._x` names the number of turns. One that
+//! is first, or right behind another one, is refused.
+//!
 //! A reader gives what the form means, or refuses the form at the first place of the check with the least number that refuses it. The
 //! README names the definition of each check. The modules stand on each other in this order: [`shape`] (data by their shape, names, words
 //! that are not built yet, refusals at data), patterns, languages.

@@ -4,6 +4,7 @@ mod assembly;
 pub(crate) mod checks;
 mod heads;
 pub(crate) mod kinds;
+pub(crate) mod names;
 pub(crate) mod nonterminals;
 pub(crate) mod occurrences;
 pub(crate) mod position;

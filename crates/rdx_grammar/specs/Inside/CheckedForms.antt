@@ -1,10 +1,11 @@
 -- A form that has passed the checks, and the check for left recursion that is left.
-use Rattle.std.specs.Prelude.{◌≡◌, Option, Some, None, IsTrue, Result, Ok, Err}
+use Rattle.std.specs.Prelude.{◌≡◌, ◌<◌, List, Option, Some, None, IsTrue, Result, Ok, Err}
 use Rattle.rdx_sexp.specs.Sexp.{Sexp, sexps}
-use Rattle.rdx_sexp.specs.Size.{AreSpelled}
+use Rattle.rdx_sexp.specs.Size.{sexp_depth, AreSpelled}
 use Rattle.rdx_term.specs.Spelling.{is_name, is_symbol_spelling}
 use Rattle.rdx_lang.specs.Checked.{language_in}
 use Rattle.rdx_lang.specs.Edges.{IsFree, IsFirstRecursive}
+use Rattle.rdx_lang.specs.Members.{In}
 use Rattle.rdx_lang.specs.Patterns.{Language}
 use Rattle.rdx_lang.specs.declared.checked.CheckedLang.{CheckedLang}
 use Rattle.rdx_lang.specs.declared.pattern.Ref.{Ref}
@@ -37,6 +38,15 @@ pub record AreSpelledParts (g : GrammarForm) : Type 0 where
 abbrev pub AreSpelledIn : Option GrammarForm → Type 0
 AreSpelledIn None = Unit {0}
 AreSpelledIn (Some g) = AreSpelledParts g
+
+-- each of these nests less than 2^32 deep
+abbrev pub AreShallow : List Sexp → Type 0
+AreShallow ds = (d : Sexp) → In d ds → sexp_depth d < 4294967296
+
+-- where there are parts, each of the definitions does
+abbrev pub AreShallowIn : Option GrammarForm → Type 0
+AreShallowIn None = Unit {0}
+AreShallowIn (Some g) = AreShallow g.definitions
 
 -- a language is left-recursive, and refused so
 pub record IsRecursionRefusal (L : Language) (d : Sexp) (r : DefRefusal) : Type 0 where

@@ -1,5 +1,5 @@
 -- The heads and roles that values of the code stand for.
-use Rattle.rdx_grammar.specs.Heads.{Head, naming, avoiding, prefixing, splitting, hiding, plain, Role, word, bound, spelt, pattern, Roles, done, item, every}
+use Rattle.rdx_grammar.specs.Heads.{Head, naming, avoiding, prefixing, splitting, hiding, plain, Role, word, bound, spelt, pattern, ellipsis, Roles, done, item, every, patterns, repeatable}
 use Rattle.rdx_grammar.specs.declared.patterns.heads.Head as code_head
 use Rattle.rdx_grammar.specs.declared.patterns.heads.Head.TheVariants as heads
 use Rattle.rdx_grammar.specs.declared.patterns.heads.Role as code_role
@@ -22,6 +22,7 @@ role_view roles.Word = word
 role_view roles.Bound = bound
 role_view roles.Spelt = spelt
 role_view roles.Pattern = pattern
+role_view roles.Ellipsis = ellipsis
 
 -- what several roles of the code are
 abbrev pub roles_view : code_roles.Roles → Roles
@@ -31,3 +32,5 @@ roles_view (rows.Two r q) = item (role_view r) (item (role_view q) done)
 roles_view (rows.Three r q p) = item (role_view r) (item (role_view q) (item (role_view p) done))
 roles_view (rows.Every r) = every (role_view r)
 roles_view (rows.OneAndEvery r q) = item (role_view r) (every (role_view q))
+roles_view rows.Patterns = patterns
+roles_view rows.Repeatable = repeatable

@@ -1,14 +1,15 @@
 -- The things in patterns that values of the code stand for.
 use Rattle.std.specs.Prelude.{List, map}
-use Rattle.rdx_grammar.specs.Occurrences.{Occurrence, key, binder, single, excepted, malformed}
+use Rattle.rdx_grammar.specs.Occurrences.{Occurrence, key, binder, single, repeats, excepted, malformed}
 use Rattle.rdx_grammar.specs.declared.patterns.occurrences.Occurrence as code_occurrence
 use Rattle.rdx_grammar.specs.declared.patterns.occurrences.Occurrence.TheVariants as variants
 
 -- what an occurrence of the code is
 abbrev pub occurrence_of : code_occurrence.Occurrence → Occurrence
 occurrence_of (variants.Key d) = key d.now
-occurrence_of (variants.Binder d) = binder d.now
-occurrence_of (variants.Single d) = single d.now
+occurrence_of (variants.Binder n d) = binder n d.now
+occurrence_of (variants.Single n d) = single n d.now
+occurrence_of (variants.Repeats n d) = repeats n d.now
 occurrence_of (variants.Excepted d) = excepted d.now
 occurrence_of (variants.Malformed d) = malformed d.now
 

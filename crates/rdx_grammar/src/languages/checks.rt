@@ -1,20 +1,25 @@
 // The checks of a form that defines a language one by one.
-ghost use Rattle.std.specs.Prelude.{◌≡◌, [], option_map};
+ghost use Rattle.std.specs.Prelude.{◌≡◌, [], IfOk, option_map};
 ghost use Rattle.rdx_grammar.specs.Checks as model;
 ghost use Rattle.rdx_grammar.specs.Inside.BaseView.{base_in};
+ghost use Rattle.rdx_grammar.specs.Inside.BoundView.{BindsNames, BindNames};
 ghost use Rattle.rdx_grammar.specs.Inside.Repeats.{seen_behind};
 ghost use Rattle.rdx_grammar.specs.Inside.StandView.{stand_of, stands_of};
 ghost use Rattle.rdx_grammar.specs.Refusal.{first};
 
 use crate::languages::bases::all_inherit;
 use crate::languages::stands::Stand;
-use crate::patterns::checks::{first_bad_binder, first_bad_occurrence, first_keyword, when};
+use crate::patterns::checks::{
+    first_bad_binder, first_bad_occurrence, first_depth_clash, first_keyword, when,
+};
 use crate::patterns::kinds::kind;
+use crate::patterns::position::Position;
 use crate::shape::names::{begins_with_dots, has_suffix, is_bad_name, is_kept};
 use crate::shape::text;
 use rdx_lang::CheckedLang;
 use rdx_sexp::Datum;
-use rdx_term::Name;
+use rdx_term::{Name, NoMemory};
+use std::alloc::Global;
 
 fn shape_fault<'a>(s: &Stand<'a>) -> Option<&'a Datum>
     ensures { option_map (λ d. d.now) result ≡ first (model.shape_fault (stand_of s.now)) }
@@ -146,4 +151,40 @@ pub(crate) fn first_bad_pattern<'a>(
         }
     }
     None
+}
+
+fn depth_clash<'a>(
+    alloc: Global,
+    names: &[Name],
+    s: &Stand<'a>,
+) -> Result<Option<&'a Datum>, NoMemory>
+    requires { BindsNames names.now (stand_of s.now) }
+    ensures { IfOk result (λ r. option_map (λ d. d.now) r
+        ≡ first (model.depth_clash names.now (stand_of s.now))) }
+{
+    match s {
+        Stand::Alternative(found) => first_depth_clash(alloc, names, Position::Grammar, found),
+        Stand::Misshaped(_)
+        | Stand::Defined(_)
+        | Stand::Nonterminal(_)
+        | Stand::Inherited(_, _, _) => Ok(None),
+    }
+}
+
+/// The first symbol that binds a name at another depth than one before it in its alternative.
+pub(crate) fn first_depth_clash_in_form<'a>(
+    alloc: Global,
+    names: &[Name],
+    found: &[Stand<'a>],
+) -> Result<Option<&'a Datum>, NoMemory>
+    requires { BindNames names.now (stands_of found.now) }
+    ensures { IfOk result (λ r. option_map (λ d. d.now) r
+        ≡ first (model.all_depth_clashes names.now (stands_of found.now))) }
+{
+    for s in found {
+        if let Some(d) = depth_clash(alloc, names, s)? {
+            return Ok(Some(d));
+        }
+    }
+    Ok(None)
 }

@@ -9,8 +9,8 @@ ghost use Rattle.rdx_grammar.specs.Nonterminals.{names_in};
 ghost use Rattle.rdx_grammar.specs.Parts.{text_of};
 ghost use Rattle.rdx_grammar.specs.Inside.PartViews as views;
 
-use crate::languages::nonterminals::symbol_name;
 use crate::languages::parts::{Definition, definition_in};
+use crate::patterns::names::symbol_name;
 use crate::patterns::position::Position;
 use crate::patterns::readings::read_datum;
 use crate::shape::is_word;

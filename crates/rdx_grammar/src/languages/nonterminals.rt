@@ -1,32 +1,17 @@
 // The names of the nonterminals of a form.
-ghost use Rattle.std.specs.Prelude.{◌≡◌, ◌++◌, IfOk, IsTrue, OnOk, map, option_map};
-ghost use Rattle.rdx_term.specs.Spelling.{is_name};
+ghost use Rattle.std.specs.Prelude.{◌≡◌, ◌++◌, IfOk, OnOk, map, option_map};
 ghost use Rattle.rdx_grammar.specs.Inside.AreNames.{AreNames};
 ghost use Rattle.rdx_grammar.specs.Inside.BaseView.{base_in};
 ghost use Rattle.rdx_grammar.specs.Nonterminals.{names_in, all_names};
 ghost use Rattle.rdx_grammar.specs.Parts.{text_of};
 
 use crate::languages::parts::definition_in;
+use crate::patterns::names::symbol_name;
 use crate::patterns::nonterminals::language_names;
-use crate::shape::symbol;
 use rdx_lang::CheckedLang;
 use rdx_sexp::Datum;
 use rdx_term::{Name, NoMemory};
 use std::alloc::Global;
-
-/// The name that a symbol is.
-pub(crate) fn symbol_name(d: &Datum) -> Result<Name, NoMemory>
-    requires { IsTrue (is_name (text_of d.now)) }
-    ensures { IfOk result (λ name. name ≡ text_of d.now) }
-{
-    let Some(text) = symbol(d) else {
-        unreachable!()
-    };
-    match Name::new(text.clone()?) {
-        Some(name) => Ok(name),
-        None => unreachable!(),
-    }
-}
 
 // Puts the names that symbols are behind those that are there.
 fn add_symbols(symbols: &[Datum], out: &mut Vec<Name>) -> Result<(), NoMemory>

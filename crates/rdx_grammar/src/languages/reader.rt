@@ -1,21 +1,22 @@
 // Languages.
 ghost use Rattle.std.specs.Prelude.{◌≡◌, IfOk, option_map};
-ghost use Rattle.rdx_sexp.specs.Size.{IsSpelledSexp};
 ghost use Rattle.rdx_lang.specs.Checked.{language_in};
 ghost use Rattle.rdx_lang.specs.PatternView.{language_of};
 ghost use Rattle.rdx_grammar.specs.Answers.{ReadsForm};
 ghost use Rattle.rdx_grammar.specs.Forms as forms;
 ghost use Rattle.rdx_grammar.specs.Inside.BaseView.{base_in};
-ghost use Rattle.rdx_grammar.specs.Inside.CheckedForms.{AreNamed, AreSpelledIn};
+ghost use Rattle.rdx_grammar.specs.Inside.CheckedForms.{AreNamed, AreShallowIn, AreSpelledIn};
 ghost use Rattle.rdx_grammar.specs.Inside.PartViews.{parts_of};
 ghost use Rattle.rdx_grammar.specs.Languages as model;
+ghost use Rattle.rdx_grammar.specs.Readable.{IsReadable};
 
 use crate::languages::definitions::read_definitions;
 use crate::languages::extension::extended;
 use crate::languages::form_parts::{FormParts, extension_form, language_form};
-use crate::languages::nonterminals::{form_names, symbol_name};
+use crate::languages::nonterminals::form_names;
 use crate::languages::recursion::checked;
 use crate::languages::refusals::refuse_form;
+use crate::patterns::names::symbol_name;
 use crate::shape::DefFault;
 use rdx_lang::{CheckedLang, Language};
 use rdx_sexp::Datum;
@@ -48,7 +49,8 @@ fn read_form(
     form: &Datum,
     parts: Option<FormParts<'_>>,
 ) -> Result<CheckedLang, DefFault>
-    requires { AreSpelledIn (option_map parts_of parts) }
+    requires spelled { AreSpelledIn (option_map parts_of parts) }
+    requires shallow { AreShallowIn (option_map parts_of parts) }
     ensures { ReadsForm (base_in (option_map (λ c. c.now) base.entry)) form.now
         (option_map parts_of parts.entry) result }
 {
@@ -63,7 +65,7 @@ fn read_form(
 
 /// The language of a `define-language` form.
 pub fn read_language(alloc: Global, form: &Datum) -> Result<CheckedLang, DefFault>
-    requires { IsSpelledSexp form.now }
+    requires { IsReadable form.now }
     ensures { ReadsForm model.empty_language form.now (forms.language_form form.now) result }
 {
     read_form(alloc, None, form, language_form(form))
@@ -71,7 +73,7 @@ pub fn read_language(alloc: Global, form: &Datum) -> Result<CheckedLang, DefFaul
 
 /// The language of a `define-extended-language` form over the language that it names, whatever the name of that is.
 pub fn extend(alloc: Global, base: &CheckedLang, form: &Datum) -> Result<CheckedLang, DefFault>
-    requires { IsSpelledSexp form.now }
+    requires { IsReadable form.now }
     ensures { ReadsForm (language_in base.now) form.now (forms.extension_form form.now) result }
 {
     read_form(alloc, Some(base), form, extension_form(form))

@@ -1,14 +1,15 @@
 // Why a form that defines a language is refused.
 ghost use Rattle.std.specs.Prelude.{◌≡◌, [], ◌∷◌, IfOk, option_map};
 ghost use Rattle.rdx_grammar.specs.Inside.BaseView.{base_in};
-ghost use Rattle.rdx_grammar.specs.Inside.CheckedForms.{AreNamedIn, AreSpelledIn};
+ghost use Rattle.rdx_grammar.specs.Inside.BoundView.{BindNames};
+ghost use Rattle.rdx_grammar.specs.Inside.CheckedForms.{AreNamedIn, AreShallowIn, AreSpelledIn};
 ghost use Rattle.rdx_grammar.specs.Inside.PartViews.{parts_of};
 ghost use Rattle.rdx_grammar.specs.Inside.StandView.{stands_of};
 ghost use Rattle.rdx_grammar.specs.Refusal.{refusal_of, first_refusal};
 ghost use Rattle.rdx_grammar.specs.Refused as model;
 
 use crate::languages::checks::{
-    first_bad_name, first_bad_pattern, first_repeated, first_shape_fault,
+    first_bad_name, first_bad_pattern, first_depth_clash_in_form, first_repeated, first_shape_fault,
 };
 use crate::languages::form_parts::FormParts;
 use crate::languages::nonterminals::form_names;
@@ -40,6 +41,29 @@ fn refuse_early(alloc: Global, found: &[Stand]) -> Result<Option<DefRefusal>, No
     Ok(None)
 }
 
+// The refusal by what the patterns in a form mean over these nonterminals, if one refuses it.
+fn refuse_late(
+    alloc: Global,
+    base: Option<&CheckedLang>,
+    names: &[Name],
+    found: &[Stand],
+) -> Result<Option<DefRefusal>, NoMemory>
+    requires { BindNames names.now (stands_of found.now) }
+    ensures { IfOk result (λ r.
+        option_map refusal_of r
+        ≡ first_refusal (model.bad_pattern_at (base_in (option_map (λ c. c.now) base.entry))
+        names.now (stands_of found.now)
+        ∷ model.depth_clash_at names.now (stands_of found.now) ∷ [])) }
+{
+    if let Some(d) = first_bad_pattern(base, names, found) {
+        return Ok(Some(unnamed(DefKind::BadPattern, d)));
+    }
+    if let Some(d) = first_depth_clash_in_form(alloc, names, found)? {
+        return Ok(Some(named(alloc, DefKind::EllipsisDepth, d)?));
+    }
+    Ok(None)
+}
+
 // The nonterminals of a form with these parts.
 fn names_over(
     alloc: Global,
@@ -65,7 +89,8 @@ pub(crate) fn refuse_form(
     form: &Datum,
     parts: Option<FormParts<'_>>,
 ) -> Result<Option<DefRefusal>, NoMemory>
-    requires { AreSpelledIn (option_map parts_of parts) }
+    requires spelled { AreSpelledIn (option_map parts_of parts) }
+    requires shallow { AreShallowIn (option_map parts_of parts) }
     ensures { IfOk result (λ r.
         option_map refusal_of r
         ≡ model.refusal_over (base_in (option_map (λ c. c.now) base.entry)) form.now
@@ -79,8 +104,5 @@ pub(crate) fn refuse_form(
         return Ok(Some(refusal));
     }
     let names = names_over(alloc, base, parts)?;
-    if let Some(d) = first_bad_pattern(base, &names, &found) {
-        return Ok(Some(unnamed(DefKind::BadPattern, d)));
-    }
-    Ok(None)
+    refuse_late(alloc, base, &names, &found)
 }

@@ -1,6 +1,8 @@
 // What stands in a form that defines a language.
-ghost use Rattle.std.specs.Prelude.{◌≡◌, ◌++◌, false, IfOk, map, option_map};
+ghost use Rattle.std.specs.Prelude.{◌≡◌, ◌<◌, ◌++◌, false, IfOk, map, option_map};
+ghost use Rattle.rdx_sexp.specs.Size.{sexp_depth};
 ghost use Rattle.rdx_grammar.specs.Definitions.{definition_in};
+ghost use Rattle.rdx_grammar.specs.Inside.CheckedForms.{AreShallow, AreShallowIn};
 ghost use Rattle.rdx_grammar.specs.Inside.PartViews.{parts_of};
 ghost use Rattle.rdx_grammar.specs.Inside.StandView.{stand_of, stands_of};
 ghost use Rattle.rdx_grammar.specs.Stands as model;
@@ -47,13 +49,14 @@ fn alternative<'a>(
     again: bool,
     d: &'a Datum,
 ) -> Result<Stand<'a>, NoMemory>
+    requires { sexp_depth d.now < 4_294_967_296 }
     ensures { IfOk result (λ s. stand_of s ≡ model.alternative_stand names.now again d.now) }
 {
     if is_word(d, "....") {
         return Ok(Stand::Inherited(d, names, again));
     }
     let mut found = Vec::new(alloc);
-    add_pattern(d, &mut found)?;
+    add_pattern(0, d, &mut found)?;
     Ok(Stand::Alternative(found))
 }
 
@@ -64,6 +67,7 @@ fn add_alternatives<'a>(
     alternatives: &'a [Datum],
     out: &mut Vec<Stand<'a>>,
 ) -> Result<(), NoMemory>
+    requires { AreShallow alternatives.now }
     ensures { IfOk result (λ _.
         stands_of out.new.items
         ≡ stands_of out.old.items ++ model.alternatives_stand names.now false alternatives.now) }
@@ -78,6 +82,7 @@ fn add_alternatives<'a>(
 
 // Adds what stands in a definition, or in what has not the shape of one.
 fn add_definition<'a>(alloc: Global, d: &'a Datum, out: &mut Vec<Stand<'a>>) -> Result<(), NoMemory>
+    requires { sexp_depth d.now < 4_294_967_296 }
     ensures { IfOk result (λ _.
         stands_of out.new.items
         ≡ stands_of out.old.items ++ model.definition_stands d.now (definition_in d.now)) }
@@ -97,6 +102,7 @@ fn add_definitions<'a>(
     definitions: &'a [Datum],
     out: &mut Vec<Stand<'a>>,
 ) -> Result<(), NoMemory>
+    requires { AreShallow definitions.now }
     ensures { IfOk result (λ _.
         stands_of out.new.items
         ≡ stands_of out.old.items ++ model.definitions_stand definitions.now) }
@@ -113,6 +119,7 @@ pub(crate) fn form_stands<'a>(
     form: &'a Datum,
     parts: Option<FormParts<'a>>,
 ) -> Result<Vec<Stand<'a>>, NoMemory>
+    requires { AreShallowIn (option_map parts_of parts) }
     ensures { IfOk result (λ found.
         stands_of found.items ≡ model.form_stands form.now (option_map parts_of parts.entry)) }
 {

@@ -33,7 +33,7 @@ fn only_item(mut items: Vec<Item>) -> Option<Pat>
     }
     match items.pop() {
         Some(Item::One(pat)) => Some(pat),
-        None => None,
+        Some(Item::Many(_, _)) | None => None,
     }
 }
 
@@ -61,6 +61,7 @@ fn only_items(mut items: Vec<Item>) -> Option<(Pat, Pat)>
             let left = only_item(items)?;
             Some((left, right))
         }
+        Some(Item::Many(_, _)) => None,
         None => None,
     }
 }

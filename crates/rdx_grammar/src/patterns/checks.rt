@@ -1,15 +1,21 @@
 // The checks of a pattern one by one.
-ghost use Rattle.std.specs.Prelude.{◌≡◌, option_map};
+ghost use Rattle.std.specs.Prelude.{◌≡◌, IfOk, option_map};
+ghost use Rattle.rdx_grammar.specs.Inside.AreNames.{AreNames};
+ghost use Rattle.rdx_grammar.specs.Inside.BoundView.{bounds_of, bound_names};
 ghost use Rattle.rdx_grammar.specs.Inside.OccurrenceView.{occurrence_of, occurrences_of};
 ghost use Rattle.rdx_grammar.specs.PatternChecks as model;
 ghost use Rattle.rdx_grammar.specs.Refusal.{first};
 
 use crate::patterns::kinds::is_base;
+use crate::patterns::names::symbol_name;
 use crate::patterns::occurrences::Occurrence;
-use crate::shape::names::{begins_with_dots, front, has_suffix, is_bad_name};
-use crate::shape::text;
+use crate::patterns::position::Position;
+use crate::shape::names::{begins_with_dots, front, has_suffix, is_bad_name, is_ellipsis};
+use crate::shape::{is_word, text};
+use rdx_lang::Depths;
 use rdx_sexp::Datum;
-use rdx_term::Name;
+use rdx_term::{Name, NoMemory};
+use std::alloc::Global;
 
 /// The datum, where the test says so.
 pub(crate) fn when(test: bool, d: &Datum) -> Option<&Datum>
@@ -23,8 +29,9 @@ fn keyword_fault<'a>(o: &Occurrence<'a>) -> Option<&'a Datum>
 {
     match o {
         Occurrence::Key(d) => Some(*d),
-        Occurrence::Binder(_)
-        | Occurrence::Single(_)
+        Occurrence::Binder(_, _)
+        | Occurrence::Single(_, _)
+        | Occurrence::Repeats(_, _)
         | Occurrence::Excepted(_)
         | Occurrence::Malformed(_) => None,
     }
@@ -46,9 +53,10 @@ fn bad_binder<'a>(o: &Occurrence<'a>) -> Option<&'a Datum>
     ensures { option_map (λ d. d.now) result ≡ first (model.bad_binder (occurrence_of o.now)) }
 {
     match o {
-        Occurrence::Binder(d) => when(is_bad_name(text(d)), d),
+        Occurrence::Binder(_, d) => when(is_bad_name(text(d)), d),
         Occurrence::Key(_)
-        | Occurrence::Single(_)
+        | Occurrence::Single(_, _)
+        | Occurrence::Repeats(_, _)
         | Occurrence::Excepted(_)
         | Occurrence::Malformed(_) => None,
     }
@@ -73,15 +81,22 @@ fn is_bad_symbol(names: &[Name], text: &str) -> bool
     begins_with_dots(text) || (text != "_" && has_suffix(text) && !is_base(names, front(text)))
 }
 
+// Whether a symbol that is excepted, or a prefix, begins like an ellipsis and is none.
+fn is_bad_excepted(text: &str) -> bool
+    ensures { result ≡ model.is_bad_excepted text.now }
+{
+    begins_with_dots(text) && !is_ellipsis(text)
+}
+
 fn bad_occurrence<'a>(names: &[Name], o: &Occurrence<'a>) -> Option<&'a Datum>
     ensures { option_map (λ d. d.now) result
         ≡ first (model.bad_occurrence names.now (occurrence_of o.now)) }
 {
     match o {
-        Occurrence::Single(d) => when(is_bad_symbol(names, text(d)), d),
-        Occurrence::Excepted(d) => when(begins_with_dots(text(d)), d),
+        Occurrence::Single(_, d) => when(is_bad_symbol(names, text(d)), d),
+        Occurrence::Excepted(d) => when(is_bad_excepted(text(d)), d),
         Occurrence::Malformed(d) => Some(*d),
-        Occurrence::Key(_) | Occurrence::Binder(_) => None,
+        Occurrence::Key(_) | Occurrence::Binder(_, _) | Occurrence::Repeats(_, _) => None,
     }
 }
 
@@ -99,4 +114,76 @@ pub(crate) fn first_bad_occurrence<'a>(
         }
     }
     None
+}
+
+// Whether a built-in name or a nonterminal without a suffix binds its own name.
+fn binds_itself(position: Position) -> bool
+    ensures { result ≡ model.binds_itself position }
+{
+    match position {
+        Position::Grammar => false,
+        Position::Query => true,
+    }
+}
+
+// Whether the symbol binds its text as a pattern.
+fn binds(names: &[Name], position: Position, text: &str) -> bool
+    ensures { result ≡ model.binds names.now position text.now }
+{
+    if text == "_" || text == "hole" {
+        return false;
+    }
+    if is_base(names, text) {
+        return binds_itself(position);
+    }
+    has_suffix(text) && is_base(names, front(text))
+}
+
+// The symbol with its depth, where the test says so.
+fn bound_when(test: bool, depth: usize, d: &Datum) -> Option<(usize, &Datum)>
+    ensures { bounds_of (option_map (λ b. (b.0, b.1.now)) result)
+        ≡ model.bound_when test depth d.now }
+{
+    if test { Some((depth, d)) } else { None }
+}
+
+// The symbol that binds a name, with its depth, where the occurrence is one.
+fn bound_by<'a>(
+    names: &[Name],
+    position: Position,
+    o: &Occurrence<'a>,
+) -> Option<(usize, &'a Datum)>
+    ensures { bounds_of (option_map (λ b. (b.0, b.1.now)) result)
+        ≡ model.bound_by names.now position (occurrence_of o.now) }
+{
+    match o {
+        Occurrence::Binder(depth, d) => Some((*depth, *d)),
+        Occurrence::Single(depth, d) => bound_when(binds(names, position, text(d)), *depth, d),
+        Occurrence::Repeats(depth, d) => bound_when(!is_word(d, "..."), *depth, d),
+        Occurrence::Key(_) | Occurrence::Excepted(_) | Occurrence::Malformed(_) => None,
+    }
+}
+
+/// The first symbol that binds a name at another depth than one before it, over these nonterminals.
+pub(crate) fn first_depth_clash<'a>(
+    alloc: Global,
+    names: &[Name],
+    position: Position,
+    found: &[Occurrence<'a>],
+) -> Result<Option<&'a Datum>, NoMemory>
+    requires { AreNames
+        (bound_names (model.all_bound names.now position (occurrences_of found.now))) }
+    ensures { IfOk result (λ r. option_map (λ d. d.now) r
+        ≡ first (model.depth_clashes names.now position (occurrences_of found.now))) }
+{
+    let mut depths = Depths::new(alloc);
+    for o in found {
+        if let Some((depth, d)) = bound_by(names, position, o) {
+            let name = symbol_name(d)?;
+            if !depths.meet(&name, depth, false)? {
+                return Ok(Some(d));
+            }
+        }
+    }
+    Ok(None)
 }

@@ -3,8 +3,10 @@ ghost use Rattle.std.specs.Prelude.{◌≡◌, option_map};
 ghost use Rattle.rdx_sexp.specs.Sexp.{sexps};
 ghost use Rattle.rdx_grammar.specs.Heads as model;
 ghost use Rattle.rdx_grammar.specs.Inside.HeadView.{head_view, role_view, roles_view};
+ghost use Rattle.rdx_grammar.specs.Reading as reading;
 
-use crate::shape::{is_symbol, is_word};
+use crate::shape::names::is_ellipsis;
+use crate::shape::{is_symbol, is_word, text};
 use rdx_sexp::{Datum, Form};
 
 /// The kinds of lists.
@@ -35,6 +37,8 @@ pub(crate) enum Role {
     Spelt,
     /// A pattern.
     Pattern,
+    /// The ellipsis that repeats the pattern before it.
+    Ellipsis,
 }
 
 /// What the items of a list are there for.
@@ -52,6 +56,10 @@ pub(crate) enum Roles {
     Every(Role),
     /// One item, and behind it any number of others.
     OneAndEvery(Role, Role),
+    /// Any number of patterns, each with an ellipsis behind it or not; an ellipsis would repeat nothing.
+    Patterns,
+    /// The same behind a pattern, which an ellipsis may repeat.
+    Repeatable,
 }
 
 // The kind of list that begins with this word.
@@ -91,13 +99,20 @@ pub(crate) fn roles_of(head: Head) -> Roles
         Head::Prefixing => Roles::Two(Role::Word, Role::Spelt),
         Head::Splitting => Roles::Three(Role::Word, Role::Pattern, Role::Pattern),
         Head::Hiding => Roles::Two(Role::Word, Role::Pattern),
-        Head::Plain => Roles::Every(Role::Pattern),
+        Head::Plain => Roles::Patterns,
     }
 }
 
+// Whether the datum is an ellipsis.
+fn is_ellipsis_symbol(d: &Datum) -> bool
+    ensures { result ≡ model.is_ellipsis_symbol d.now }
+{
+    is_symbol(d) && is_ellipsis(text(d))
+}
+
 /// The role of the next item, where there may be one.
-pub(crate) fn next(roles: Roles) -> Option<Role>
-    ensures { option_map role_view result ≡ model.next (roles_view roles) }
+pub(crate) fn next(roles: Roles, item: &Datum) -> Option<Role>
+    ensures { option_map role_view result ≡ model.next (roles_view roles) item.now }
 {
     match roles {
         Roles::Done => None,
@@ -106,18 +121,64 @@ pub(crate) fn next(roles: Roles) -> Option<Role>
         | Roles::Three(role, _, _)
         | Roles::Every(role)
         | Roles::OneAndEvery(role, _) => Some(role),
+        Roles::Patterns => Some(Role::Pattern),
+        Roles::Repeatable => {
+            Some(if is_ellipsis_symbol(item) {
+                Role::Ellipsis
+            } else {
+                Role::Pattern
+            })
+        }
     }
 }
 
 /// The roles of the items behind it.
-pub(crate) fn rest(roles: Roles) -> Roles
-    ensures { roles_view result ≡ model.rest (roles_view roles) }
+pub(crate) fn rest(roles: Roles, item: &Datum) -> Roles
+    ensures { roles_view result ≡ model.rest (roles_view roles) item.now }
 {
     match roles {
         Roles::Done | Roles::One(_) => Roles::Done,
         Roles::Two(_, second) => Roles::One(second),
         Roles::Three(_, second, third) => Roles::Two(second, third),
         Roles::Every(role) | Roles::OneAndEvery(_, role) => Roles::Every(role),
+        Roles::Patterns => Roles::Repeatable,
+        Roles::Repeatable => {
+            if is_ellipsis_symbol(item) {
+                Roles::Patterns
+            } else {
+                Roles::Repeatable
+            }
+        }
+    }
+}
+
+/// Whether an item in this role is a pattern.
+pub(crate) fn is_pattern(role: Option<Role>) -> bool
+    ensures { result ≡ reading.is_pattern (option_map role_view role) }
+{
+    match role {
+        Some(Role::Pattern) => true,
+        Some(Role::Word | Role::Bound | Role::Spelt | Role::Ellipsis) | None => false,
+    }
+}
+
+// Whether an item in this role is an ellipsis.
+fn is_of_ellipsis(role: Option<Role>) -> bool
+    ensures { result ≡ model.is_of_ellipsis (option_map role_view role) }
+{
+    match role {
+        Some(Role::Ellipsis) => true,
+        Some(Role::Word | Role::Bound | Role::Spelt | Role::Pattern) | None => false,
+    }
+}
+
+/// Whether the first of the items in these roles is the ellipsis that repeats the item before them.
+pub(crate) fn is_repeated(roles: Roles, items: &[Datum]) -> bool
+    ensures { result ≡ model.is_repeated (roles_view roles) (sexps items.now) }
+{
+    match items {
+        [first, ..] => is_of_ellipsis(next(roles, first)),
+        [] => false,
     }
 }
 
@@ -126,7 +187,7 @@ fn may_end(roles: Roles) -> bool
     ensures { result ≡ model.may_end (roles_view roles) }
 {
     match roles {
-        Roles::Done | Roles::Every(_) => true,
+        Roles::Done | Roles::Every(_) | Roles::Patterns | Roles::Repeatable => true,
         Roles::One(_) | Roles::Two(_, _) | Roles::Three(_, _, _) | Roles::OneAndEvery(_, _) => {
             false
         }
@@ -139,7 +200,7 @@ fn suits(role: Option<Role>, d: &Datum) -> bool
 {
     match role {
         None => false,
-        Some(Role::Word | Role::Bound) => is_symbol(d),
+        Some(Role::Word | Role::Bound | Role::Ellipsis) => is_symbol(d),
         Some(Role::Spelt) => is_symbol(d) && !is_word(d, "hole"),
         Some(Role::Pattern) => true,
     }
@@ -151,10 +212,10 @@ pub(crate) fn fits(roles: Roles, items: &[Datum]) -> bool
 {
     let mut left = roles;
     for item in items {
-        if !suits(next(left), item) {
+        if !suits(next(left, item), item) {
             return false;
         }
-        left = rest(left);
+        left = rest(left, item);
     }
     may_end(left)
 }

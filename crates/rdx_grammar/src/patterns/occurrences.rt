@@ -1,22 +1,27 @@
 // What stands in a pattern.
-ghost use Rattle.std.specs.Prelude.{◌≡◌, ◌++◌, IfOk};
-ghost use Rattle.rdx_sexp.specs.Sexp.{sexps};
+ghost use Rattle.std.specs.Prelude.{◌≡◌, ◌<◌, ◌+◌, ◌++◌, [], IfOk, option_map};
+ghost use Rattle.rdx_sexp.specs.Size.{sexp_depth};
+ghost use Rattle.rdx_grammar.specs.Inside.HeadView.{role_view};
 ghost use Rattle.rdx_grammar.specs.Inside.OccurrenceView.{occurrences_of};
 ghost use Rattle.rdx_grammar.specs.Occurrences as model;
 
-use crate::patterns::heads::{Role, fits, head_among, next, rest, roles_of};
+use crate::patterns::heads::{
+    Role, fits, head_among, is_pattern, is_repeated, next, rest, roles_of,
+};
 use rdx_sexp::{Datum, Form};
 use rdx_term::NoMemory;
 
-/// One of the things that stand in a pattern.
+/// One of the things that stand in a pattern; of what may bind a name also how many repetitions stand around it.
 #[derive(Clone, Copy)]
 pub(crate) enum Occurrence<'a> {
     /// A keyword.
     Key(&'a Datum),
     /// A symbol that is bound, as by `(name x p)`.
-    Binder(&'a Datum),
+    Binder(usize, &'a Datum),
     /// A symbol that is a pattern.
-    Single(&'a Datum),
+    Single(usize, &'a Datum),
+    /// The ellipsis of a repetition.
+    Repeats(usize, &'a Datum),
     /// A symbol that `variable-except` or `variable-prefix` names.
     Excepted(&'a Datum),
     /// A list that has not the shape that its head asks for.
@@ -40,14 +45,48 @@ fn add_keys<'a>(d: &'a Datum, out: &mut Vec<Occurrence<'a>>) -> Result<(), NoMem
     }
 }
 
-/// Adds what stands in a pattern.
-pub(crate) fn add_pattern<'a>(d: &'a Datum, out: &mut Vec<Occurrence<'a>>) -> Result<(), NoMemory>
+// Adds what an item in this role is, where it is no pattern.
+fn add_other<'a>(
+    depth: usize,
+    role: Option<Role>,
+    d: &'a Datum,
+    out: &mut Vec<Occurrence<'a>>,
+) -> Result<(), NoMemory>
     ensures { IfOk result (λ _.
-        occurrences_of out.new.items ≡ occurrences_of out.old.items ++ model.occurrences d.now) }
+        occurrences_of out.new.items
+        ≡ occurrences_of out.old.items
+        ++ model.role_occurrences depth (option_map role_view role) d.now []) }
+{
+    match role {
+        Some(Role::Bound) => Ok(out.push(Occurrence::Binder(depth, d))?),
+        Some(Role::Spelt) => Ok(out.push(Occurrence::Excepted(d))?),
+        Some(Role::Ellipsis) => Ok(out.push(Occurrence::Repeats(depth, d))?),
+        Some(Role::Word | Role::Pattern) | None => Ok(()),
+    }
+}
+
+// One repetition more, where there is one.
+fn deeper(repeated: bool, depth: usize) -> usize
+    requires { depth + 1 < 4_294_967_296 }
+    ensures { result ≡ model.deeper repeated depth }
+{
+    if repeated { depth + 1 } else { depth }
+}
+
+/// Adds what stands in a pattern around which so many repetitions stand.
+pub(crate) fn add_pattern<'a>(
+    depth: usize,
+    d: &'a Datum,
+    out: &mut Vec<Occurrence<'a>>,
+) -> Result<(), NoMemory>
+    requires { depth + sexp_depth d.now < 4_294_967_296 }
+    ensures { IfOk result (λ _.
+        occurrences_of out.new.items
+        ≡ occurrences_of out.old.items ++ model.occurrences depth d.now) }
 {
     match &d.form {
         Form::Int(_) | Form::Bool(_) | Form::Str(_) => Ok(()),
-        Form::Sym(_) => Ok(out.push(Occurrence::Single(d))?),
+        Form::Sym(_) => Ok(out.push(Occurrence::Single(depth, d))?),
         Form::Key(_) => Ok(out.push(Occurrence::Key(d))?),
         Form::List(items) => {
             let mut left = roles_of(head_among(items));
@@ -55,14 +94,14 @@ pub(crate) fn add_pattern<'a>(d: &'a Datum, out: &mut Vec<Occurrence<'a>>) -> Re
                 out.push(Occurrence::Malformed(d))?;
                 return add_keys(d, out);
             }
-            for item in items {
-                match next(left) {
-                    Some(Role::Bound) => out.push(Occurrence::Binder(item))?,
-                    Some(Role::Spelt) => out.push(Occurrence::Excepted(item))?,
-                    Some(Role::Pattern) => add_pattern(item, out)?,
-                    Some(Role::Word) | None => {}
+            for (i, item) in items.iter().enumerate() {
+                let role = next(left, item);
+                left = rest(left, item);
+                if is_pattern(role) {
+                    add_pattern(deeper(is_repeated(left, &items[i + 1..]), depth), item, out)?;
+                } else {
+                    add_other(depth, role, item, out)?;
                 }
-                left = rest(left);
             }
             Ok(())
         }

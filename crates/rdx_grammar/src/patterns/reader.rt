@@ -3,6 +3,7 @@ ghost use Rattle.std.specs.Prelude.{◌≡◌, IfOk};
 ghost use Rattle.rdx_lang.specs.Checked.{language_in};
 ghost use Rattle.rdx_grammar.specs.Answers.{IsWellFormedIn, ReadsPattern};
 ghost use Rattle.rdx_grammar.specs.Nonterminals.{names_of};
+ghost use Rattle.rdx_grammar.specs.Readable.{IsReadable};
 
 use crate::patterns::nonterminals::language_names;
 use crate::patterns::position::Position;
@@ -19,6 +20,7 @@ pub fn read_pattern(
     language: &mut CheckedLang,
     d: &Datum,
 ) -> Result<CheckedPat, DefFault>
+    requires { IsReadable d.now }
     ensures reads { ReadsPattern (names_of (language_in language.old)) d.now result }
     ensures same { language_in language.new ≡ language_in language.old }
     ensures well_formed { IfOk result (λ c. IsWellFormedIn (language_in language.new) c) }
@@ -28,7 +30,7 @@ pub fn read_pattern(
         return Err(DefFault::Refused(refusal));
     }
     let pattern = read_datum(alloc, &names, Position::Query, d)?;
-    match CheckedPat::new(language, pattern)? {
+    match CheckedPat::new(alloc, language, pattern)? {
         Some(pattern) => Ok(pattern),
         None => unreachable!(),
     }

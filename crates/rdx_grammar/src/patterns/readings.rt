@@ -1,17 +1,20 @@
 // The patterns of data.
 ghost use Rattle.std.specs.Prelude.{◌≡◌, ◌++◌, IfOk, OnOk, option_map};
+ghost use Rattle.std.specs.Bool.{then_some};
 ghost use Rattle.std.specs.Rc.{rc_str_bytes};
-ghost use Rattle.rdx_lang.specs.PatternView.{pattern_of};
+ghost use Rattle.rdx_lang.specs.PatternView.{pattern_of, slot_of};
 ghost use Rattle.rdx_sexp.specs.Sexp.{sexps};
+ghost use Rattle.rdx_term.specs.Spelling.{is_name};
 ghost use Rattle.rdx_grammar.specs.Inside.HeadView.{role_view, roles_view};
+ghost use Rattle.rdx_grammar.specs.Parts.{text_of};
 ghost use Rattle.rdx_grammar.specs.Reading as model;
 
 use crate::patterns::assembly::{assembled, named};
-use crate::patterns::heads::{Role, Roles, fits, head_among, next, rest, roles_of};
+use crate::patterns::heads::{Role, Roles, fits, head_among, is_pattern, next, rest, roles_of};
 use crate::patterns::kinds::kind;
 use crate::patterns::position::Position;
 use crate::shape::names::{front, has_suffix};
-use crate::shape::symbol;
+use crate::shape::{symbol, text};
 use rdx_lang::{Item, Pat, Ref};
 use rdx_sexp::{Datum, Form};
 use rdx_term::{Name, NoMemory, Term};
@@ -81,14 +84,21 @@ fn read_symbol(
     }
 }
 
+// The name that a symbol is, where it is one.
+fn name_of(d: &Datum) -> Result<Option<Name>, NoMemory>
+    ensures { IfOk result (λ n. n ≡ then_some (is_name (text_of d.now)) (text_of d.now)) }
+{
+    match symbol(d) {
+        Some(text) => Ok(Name::new(text.clone()?)),
+        None => Ok(None),
+    }
+}
+
 // Puts the name that a symbol is, where it is one, behind those that are there.
 fn add_name(d: &Datum, out: &mut Vec<Name>) -> Result<(), NoMemory>
     ensures { OnOk result (out.new.items ≡ out.old.items ++ model.name_in d.now) }
 {
-    let Some(text) = symbol(d) else {
-        return Ok(());
-    };
-    match Name::new(text.clone()?) {
+    match name_of(d)? {
         Some(name) => Ok(out.push(name)?),
         None => Ok(()),
     }
@@ -101,7 +111,7 @@ fn add_role_name(role: Option<Role>, d: &Datum, out: &mut Vec<Name>) -> Result<(
 {
     match role {
         Some(Role::Bound | Role::Spelt) => add_name(d, out),
-        Some(Role::Word | Role::Pattern) | None => Ok(()),
+        Some(Role::Word | Role::Pattern | Role::Ellipsis) | None => Ok(()),
     }
 }
 
@@ -113,20 +123,38 @@ fn names_among(alloc: Global, roles: Roles, items: &[Datum]) -> Result<Vec<Name>
     let mut names = Vec::new(alloc);
     let mut left = roles;
     for item in items {
-        let role = next(left);
-        left = rest(left);
+        let role = next(left, item);
+        left = rest(left, item);
         add_role_name(role, item, &mut names)?;
     }
     Ok(names)
 }
 
-// Whether an item in this role is a pattern.
-fn is_pattern(role: Option<Role>) -> bool
-    ensures { result ≡ model.is_pattern (option_map role_view role) }
+// The length name of an ellipsis, where it has one.
+fn length_name(d: &Datum) -> Result<Option<Name>, NoMemory>
+    ensures { IfOk result (λ n. n ≡ model.length_name (text_of d.now)) }
 {
-    match role {
-        Some(Role::Pattern) => true,
-        Some(Role::Word | Role::Bound | Role::Spelt) | None => false,
+    if text(d) == "..." {
+        Ok(None)
+    } else {
+        name_of(d)
+    }
+}
+
+// The item of a pattern before these others in these roles: repeated, where the first of them is
+// its ellipsis.
+fn with_ellipsis(roles: Roles, others: &[Datum], pat: Pat) -> Result<Item, NoMemory>
+    ensures { IfOk result (λ item.
+        slot_of item
+        ≡ model.item_slot (model.ellipsis_behind (roles_view roles) (sexps others.now))
+        (pattern_of pat)) }
+{
+    let Some(first) = others.first() else {
+        return Ok(Item::One(pat));
+    };
+    match next(roles, first) {
+        Some(Role::Ellipsis) => Ok(Item::Many(pat, length_name(first)?)),
+        Some(Role::Word | Role::Bound | Role::Spelt | Role::Pattern) | None => Ok(Item::One(pat)),
     }
 }
 
@@ -153,13 +181,13 @@ pub(crate) fn read_datum(
             }
             let found = names_among(alloc, left, parts)?;
             let mut items = Vec::new(alloc);
-            for part in parts {
-                let role = next(left);
-                left = rest(left);
-                if !is_pattern(role) {
-                    continue;
+            for (i, part) in parts.iter().enumerate() {
+                let role = next(left, part);
+                left = rest(left, part);
+                if is_pattern(role) {
+                    let pat = read_datum(alloc, names, position, part)?;
+                    items.push(with_ellipsis(left, &parts[i + 1..], pat)?)?;
                 }
-                items.push(Item::One(read_datum(alloc, names, position, part)?))?;
             }
             assembled(alloc, head, found, items)
         }

@@ -1,10 +1,14 @@
 // Why a pattern is refused.
 ghost use Rattle.std.specs.Prelude.{◌≡◌, IfOk, option_map};
 ghost use Rattle.rdx_grammar.specs.PatternRefusal as model;
+ghost use Rattle.rdx_grammar.specs.Readable.{IsReadable};
 ghost use Rattle.rdx_grammar.specs.Refusal.{refusal_of};
 
-use crate::patterns::checks::{first_bad_binder, first_bad_occurrence, first_keyword};
+use crate::patterns::checks::{
+    first_bad_binder, first_bad_occurrence, first_depth_clash, first_keyword,
+};
 use crate::patterns::occurrences::add_pattern;
+use crate::patterns::position::Position;
 use crate::shape::refusal::{named, unnamed};
 use crate::shape::unbuilt::has_word_to_come;
 use crate::shape::{DefKind, DefRefusal};
@@ -18,13 +22,14 @@ pub(crate) fn refuse_pattern(
     names: &[Name],
     d: &Datum,
 ) -> Result<Option<DefRefusal>, NoMemory>
+    requires { IsReadable d.now }
     ensures { IfOk result (λ r. option_map refusal_of r ≡ model.pattern_refusal names.now d.now) }
 {
     if has_word_to_come(d) {
         return Ok(Some(unnamed(DefKind::Unbuilt, d)));
     }
     let mut found = Vec::new(alloc);
-    add_pattern(d, &mut found)?;
+    add_pattern(0, d, &mut found)?;
     if let Some(d) = first_keyword(&found) {
         return Ok(Some(unnamed(DefKind::Shape, d)));
     }
@@ -33,6 +38,9 @@ pub(crate) fn refuse_pattern(
     }
     if let Some(d) = first_bad_occurrence(names, &found) {
         return Ok(Some(unnamed(DefKind::BadPattern, d)));
+    }
+    if let Some(d) = first_depth_clash(alloc, names, Position::Query, &found)? {
+        return Ok(Some(named(alloc, DefKind::EllipsisDepth, d)?));
     }
     Ok(None)
 }

@@ -22,6 +22,8 @@ pub enum DefKind {
     BadName,
     /// What stands as a pattern means nothing as one. The place is its own.
     BadPattern,
+    /// A name is bound at two depths of ellipses in one pattern. The place and the name are those of the symbol that comes later.
+    EllipsisDepth,
     /// The language is left-recursive. The place is the form's, and the name that of the first nonterminal that reaches itself.
     LeftRecursive,
 }

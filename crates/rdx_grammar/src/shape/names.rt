@@ -1,5 +1,6 @@
 //! The names that patterns and languages are built from.
-ghost use Rattle.std.specs.Prelude.{◌≡◌};
+ghost use Rattle.std.specs.List.{starts_with};
+ghost use Rattle.std.specs.Prelude.{◌≡◌, nat_eq};
 ghost use Rattle.rdx_grammar.specs.Names as words;
 
 /// Whether a suffix begins somewhere.
@@ -19,11 +20,25 @@ pub(crate) fn front(text: &str) -> &str
     }
 }
 
+// Whether this stands first in the text.
+fn begins_with(text: &str, word: &str) -> bool
+    ensures { result ≡ starts_with nat_eq text.now word.now }
+{
+    text.starts_with(word)
+}
+
 /// Whether an ellipsis stands first.
 pub fn begins_with_dots(text: &str) -> bool
     ensures { result ≡ words.begins_with_dots text.now }
 {
-    text.starts_with("...")
+    begins_with(text, "...")
+}
+
+/// Whether it is an ellipsis: `...` alone, or with a name for the number of turns behind `..._`.
+pub(crate) fn is_ellipsis(text: &str) -> bool
+    ensures { result ≡ words.is_ellipsis text.now }
+{
+    text == "..." || (begins_with(text, "..._") && !begins_with(text, "..._!_"))
 }
 
 /// Whether the word means something else in patterns or definitions.

@@ -37,8 +37,7 @@ fn is_mismatch(text: &str) -> bool
 fn is_word_to_come(text: &str) -> bool
     ensures { result ≡ unbuilt.is_word_to_come text.now }
 {
-    let is_dotted = begins_with_dots(text);
-    is_form_word(text) || (is_dotted && text != "....") || (is_mismatch(text) && !is_dotted)
+    is_form_word(text) || (is_mismatch(text) && !begins_with_dots(text))
 }
 
 /// Whether such a word stands in the datum, however deep.

@@ -1,7 +1,11 @@
 use Rattle.std.proofs.Common.{sym, subst}
-use Rattle.rdx_grammar.specs.Inside.CheckedForms.{AreSpelledIn}
+use Rattle.rdx_grammar.specs.Inside.CheckedForms.{AreSpelledIn, AreShallowIn}
+use Rattle.rdx_grammar.proofs.ShallowParts.{AreShallowIn-extension}
 use Rattle.rdx_grammar.proofs.SpelledParts.{AreSpelledIn-extension}
 use Rattle.rdx_grammar.proofs.languages.reader.extend.Goals as goal
 
-pub read_form-requires : goal.read_form-requires
-read_form-requires c = subst AreSpelledIn (sym c.extension_form.ensures) (AreSpelledIn-extension c.args.form.now c.requires)
+pub read_form-requires-clause-spelled : goal.read_form-requires-clause-spelled
+read_form-requires-clause-spelled c = subst AreSpelledIn (sym c.extension_form.ensures) (AreSpelledIn-extension c.args.form.now c.requires.spelled)
+
+pub read_form-requires-clause-shallow : goal.read_form-requires-clause-shallow
+read_form-requires-clause-shallow c = subst AreShallowIn (sym c.extension_form.ensures) (AreShallowIn-extension c.args.form.now c.requires.nested)

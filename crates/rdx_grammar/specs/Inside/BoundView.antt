@@ -1,0 +1,30 @@
+-- The symbols that bind names, as values of the code have them.
+use Rattle.std.specs.Prelude.{ℕ, List, [], ◌∷◌, Option, Some, None, map}
+use Rattle.rdx_sexp.specs.Sexp.{Sexp}
+use Rattle.rdx_grammar.specs.Inside.AreNames.{AreNames}
+use Rattle.rdx_grammar.specs.Parts.{text_of}
+use Rattle.rdx_grammar.specs.PatternChecks.{Bound, all_bound}
+use Rattle.rdx_grammar.specs.Stands.{Stand, misshaped, defined, nonterminal, alternative, inherited}
+use Rattle.rdx_grammar.specs.declared.patterns.position.Position.TheVariants.{Grammar as InGrammar}
+
+-- a symbol at a depth, where there is one
+abbrev pub bounds_of : Option (ℕ × Sexp) → List Bound
+bounds_of None = []
+bounds_of (Some x) = record { symbol = x.1; depth = x.0 } ∷ []
+
+-- the names that these bind
+abbrev pub bound_names : List Bound → List (List ℕ)
+bound_names bs = map (λ b. text_of b.symbol) bs
+
+-- what an alternative binds are names, over these nonterminals
+abbrev pub BindsNames : List (List ℕ) → Stand → Type 0
+BindsNames ns (misshaped d) = Unit {0}
+BindsNames ns (defined d) = Unit {0}
+BindsNames ns (nonterminal d) = Unit {0}
+BindsNames ns (alternative os) = AreNames (bound_names (all_bound ns InGrammar os))
+BindsNames ns (inherited d names again) = Unit {0}
+
+-- so do all alternatives among these
+abbrev pub BindNames : List (List ℕ) → List Stand → Type 0
+BindNames ns [] = Unit {0}
+BindNames ns (s ∷ ss) = BindsNames ns s × BindNames ns ss
