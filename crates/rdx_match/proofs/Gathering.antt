@@ -53,6 +53,13 @@ adds_as {A} {P} {Q} old new f g a x = (λ h. onward ((a x).0 h), λ h. (a x).1 (
 pub adds_exactly : {A : Type 0} {R : A → Type 0} (xs old new : List A) → HasExactly xs R → Adds (λ x. In x xs) old new → Adds R old new
 adds_exactly xs old new h a = adds_as old new (λ x i. h.sound x i) (λ x r. h.complete x r) a
 
+-- what was added to nothing in two steps
+pub exactly_both : {A : Type 0} {P Q : A → Type 0} (xs ys : List A) → Adds P [] xs → Adds Q xs ys → HasExactly ys (λ x. P x ⊎ Q x)
+exactly_both {A} {P} {Q} xs ys a b = record {
+  sound = λ x h. elim ((b x).0 h) [ inl o ↦ inl ((exactly_added P a).sound x o) | inr q ↦ inr q ];
+  complete = λ x. elim [ inl p ↦ (b x).1 (inl ((exactly_added P a).complete x p)) | inr q ↦ (b x).1 (inr q) ];
+}
+
 -- ---- from the end
 
 module _ {A B : Type 0} (step : A → B → Type 0) (all : List A) (old : List B) (a : A) (rest more : List A) (found found' : List B) (e : rest ≡ more ++ a ∷ []) where

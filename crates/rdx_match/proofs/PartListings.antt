@@ -1,30 +1,21 @@
--- The listings of nonterminals, patterns with a name and list patterns, from those of their parts.
-use Rattle.std.proofs.Common.{◌≡◌, ℕ, suc, Bool as Truth, if◌then◌else◌, IsTrue, List, [], ◌∷◌, length, map, refl, sym, ◌∙◌, ap, subst, arith}
+-- The listings of nonterminals and of patterns with a name, from those of their parts.
+use Rattle.std.proofs.Common.{◌≡◌, ℕ, Bool as Truth, if◌then◌else◌, IsTrue, List, [], ◌∷◌, length, refl, sym, subst, arith}
 use Rattle.std.specs.Prelude.{◌↔◌}
-use Rattle.rdx_term.specs.Items.{trees_count}
-use Rattle.rdx_term.specs.Tree.{Tree, Trees, cons}
-use Rattle.rdx_term.specs.Tree.{nil as no_trees}
+use Rattle.rdx_term.specs.Tree.{Tree}
 use Rattle.rdx_lang.proofs.Collecting.{listing_of, In_along, no_member, only}
-use Rattle.rdx_lang.proofs.RuleSteps.{nt_inside, named_inside, hide_hole_inside, closed_inside, seq_inside, list_inside}
+use Rattle.rdx_lang.proofs.RuleSteps.{nt_inside, named_inside, hide_hole_inside, closed_inside}
 use Rattle.rdx_lang.specs.Bindings.{Binding}
 use Rattle.rdx_lang.specs.Listing.{IsListing, Matches}
 use Rattle.rdx_lang.specs.Members.{here}
 use Rattle.rdx_lang.specs.Order.{binding_cmp}
-use Rattle.rdx_lang.specs.Patterns.{Pattern, nt, named, hide_hole, closed, seq, Items, Language}
-use Rattle.rdx_lang.specs.PatternView.{Slot, just, slot_of, items_of}
-use Rattle.rdx_lang.specs.Rules.{Match, MatchItems, match_one, AreAlternatives, match_nt, match_named, match_hide_hole, match_closed, match_seq}
+use Rattle.rdx_lang.specs.Patterns.{Pattern, nt, named, hide_hole, closed, Language}
+use Rattle.rdx_lang.specs.Rules.{Match, AreAlternatives, match_nt, match_named, match_hide_hole, match_closed}
 use Rattle.rdx_lang.specs.Shown.{bindings_of, binding_of}
 use Rattle.rdx_lang.specs.declared.binding.Binding as code
-use Rattle.rdx_lang.specs.declared.pattern.Item as code_item
 use Rattle.rdx_lang.specs.declared.pattern.Ref.{Ref}
 use Rattle.rdx_match.specs.Inside.Combining.{Named}
-use Rattle.rdx_match.specs.Inside.Searching.{AnyMatches, IsListOf}
-use Rattle.rdx_match.proofs.AtomListings.{empty_alone, listing_where, listing_none}
-
--- a list stays as long
-pub length_map : {A B : Type 0} (f : A → B) (xs : List A) → length (map f xs) ≡ length xs
-length_map f [] = refl
-length_map f (x ∷ xs) = ap suc (length_map f xs)
+use Rattle.rdx_match.specs.Inside.Searching.{AnyMatches}
+use Rattle.rdx_match.proofs.AtomListings.{empty_alone, listing_where}
 
 module _ {L : Language} where
   -- a nonterminal matches what some alternative matches
@@ -41,23 +32,6 @@ module _ {L : Language} where
   -- a pattern with a name binds what the pattern binds, and the name
   pub listing_named : {x : List ℕ} {q : Pattern} {t : Tree} {bs : List Binding} (cs : List Binding) → IsListing binding_cmp cs (Match L q t) → IsListing binding_cmp bs (Named cs x t) → Matches L (named x q) t bs
   listing_named cs l m = listing_of (λ b a. match_named (l.sound a.from a.among) a.by) (λ b h. named_from b cs l h) m
-
-  -- the listing of a list pattern at a list
-  pub listing_seq : {ps : Items} {n : ℕ} {ts : Trees} {bs : List Binding} (t : Tree) → IsListOf n t ts → IsListing binding_cmp bs (MatchItems L ps ts) → Matches L (seq ps) t bs
-  listing_seq {ps} {bs = bs} t i l = subst (λ (u : Tree). Matches L (seq ps) u bs) (sym i.same) (listing_of (λ b h. match_seq h) (λ b h. list_inside h) l)
-
-  -- items match as many terms as they are
-  pub as_many_matched : {b : Binding} (slots : List Slot) (ts : Trees) → MatchItems L (items_of slots) ts b → trees_count ts ≡ length slots
-  as_many_matched [] no_trees m = refl
-  as_many_matched [] (cons t ts) m = elim m [ ]
-  as_many_matched (just p ∷ slots) no_trees m = elim m [ ]
-  as_many_matched (just p ∷ slots) (cons t ts) (match_one h g j) = let more : trees_count ts ≡ length slots = as_many_matched slots ts g in omega arith
-
-  -- at what is no list of so many items a list pattern has no binding
-  pub listing_otherwise : {bs : List Binding} (items : List code_item.Item) (t : Tree) → ((ts : Trees) → IsListOf (length items) t ts → ⊥) → bs ≡ [] → Matches L (seq (items_of (map slot_of items))) t bs
-  listing_otherwise items t f e = listing_none e (λ b m.
-      let i = seq_inside m in
-      f i.items (record { mark = i.mark; same = i.same; many = as_many_matched (map slot_of items) i.items i.matched ∙ length_map slot_of items }))
 
 -- ---- what a listing of the code's bindings says
 

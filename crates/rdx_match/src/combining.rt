@@ -69,8 +69,12 @@ pub(crate) fn add_all_joins(
     add_joins(alloc, first, &others, found)
 }
 
-// The joins of each of `firsts` with each of `others`.
-fn joins(alloc: Global, firsts: &[Binding], others: &[Binding]) -> Result<Vec<Binding>, NoMemory>
+/// The joins of each of `firsts` with each of `others`.
+pub(crate) fn joins(
+    alloc: Global,
+    firsts: &[Binding],
+    others: &[Binding],
+) -> Result<Vec<Binding>, NoMemory>
     ensures { Lists result (Joined (bindings_of firsts.now) (bindings_of others.now)) }
 {
     let mut found = Vec::new(alloc);
@@ -78,6 +82,27 @@ fn joins(alloc: Global, firsts: &[Binding], others: &[Binding]) -> Result<Vec<Bi
         add_joins(alloc, first, others, &mut found)?;
     }
     listing(alloc, found)
+}
+
+/// Adds the joins of each of `firsts` with each of `others`. They aren't copied where the binding of
+/// no name alone is among `others`.
+pub(crate) fn add_all(
+    alloc: Global,
+    firsts: Vec<Binding>,
+    others: &[Binding],
+    found: &mut Vec<Binding>,
+) -> Result<(), NoMemory>
+    ensures { OnOk result (AddsBindings (Joined (bindings_of firsts.items) (bindings_of others.now)) found.old found.new) }
+{
+    if is_no_names_alone(others) {
+        let mut added = firsts;
+        found.append(&mut added)?;
+        return Ok(());
+    }
+    for first in &firsts {
+        add_joins(alloc, first, others, found)?;
+    }
+    Ok(())
 }
 
 /// Whether the binding of no name is there, and no other.

@@ -10,16 +10,25 @@
 //! may be the one that is split. Each part of a term is searched anew each time that it is met, so the time may grow fast with the term.
 #![tactic(auto)]
 
+mod asks;
 mod atoms;
+mod choices;
+mod columns;
 mod combining;
 mod extending;
 mod literals;
+mod parts;
 mod places;
 mod plain;
+mod repetition;
 mod room;
 mod rows;
 mod search;
 mod sorting;
 mod spots;
+mod turn_matches;
+mod turn_spots;
+mod turns;
+mod ways;
 
 pub use plain::Plain;

@@ -36,7 +36,8 @@ fn mentions(name: &Name, pat: &Pat) -> bool
 fn items_mention(name: &Name, items: &[Item]) -> bool
     ensures { result ≡ literals.items_mention name.now (items_of (map slot_of items.now)) }
 {
-    for Item::One(pat) in items {
+    for item in items {
+        let (Item::One(pat) | Item::Many(pat, _)) = item;
         if mentions(name, pat) {
             return true;
         }

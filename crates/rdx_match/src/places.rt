@@ -1,10 +1,9 @@
 // What stands at a place in a term, and the context around it.
-ghost use Rattle.std.specs.Prelude.{◌≡◌, ◌<◌, ◌≤◌, IfOk, IfSome, IsNone, length, reverse, take};
+ghost use Rattle.std.specs.Prelude.{◌≡◌, ◌<◌, ◌≤◌, IfOk, length, reverse, take};
 ghost use Rattle.rdx_term.specs.AtPaths.{IsPlace, tree_at, context_at};
 ghost use Rattle.rdx_term.specs.Items.{tree_items, trees_count, item_at};
 ghost use Rattle.rdx_term.specs.Terms.{IsTerm};
 ghost use Rattle.rdx_term.specs.View.{tree_of, trees_of};
-ghost use Rattle.rdx_match.specs.Inside.Searching.{IsListOf};
 
 use rdx_fill::with_hole;
 use rdx_term::{NoMemory, Term};
@@ -18,26 +17,6 @@ fn items_in(t: &Term) -> &[Term]
     match t {
         Term::Hole | Term::Int(_) | Term::Bool(_) | Term::Str(_) | Term::Sym(_) => &[],
         Term::List(node) => node.items(),
-    }
-}
-
-/// The items of a list that has so many; `None` where the term is no such list.
-#[inline(never)]
-pub(crate) fn as_many_items(t: &Term, count: usize) -> Option<&[Term]>
-    ensures some { IfSome result (λ ts. IsListOf count (tree_of t.now) (trees_of ts.now)) }
-    ensures many { IfSome result (λ ts. length ts.now ≡ count) }
-    ensures none { IsNone result → (ts : _) → ¬ IsListOf count (tree_of t.now) ts }
-{
-    match t {
-        Term::Hole | Term::Int(_) | Term::Bool(_) | Term::Str(_) | Term::Sym(_) => None,
-        Term::List(node) => {
-            let items = node.items();
-            if items.len() == count {
-                Some(items)
-            } else {
-                None
-            }
-        }
     }
 }
 

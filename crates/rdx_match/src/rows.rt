@@ -1,12 +1,12 @@
 // Joins of one binding of each of several lists, and the spots of lists: both by halves, so that a
 // list of n items of which one splits costs in proportion to n, but for the number of halvings.
-ghost use Rattle.std.specs.Prelude.{◌≡◌, ◌+◌, ◌≤◌, length, map, IfOk, OnOk};
+ghost use Rattle.std.specs.Prelude.{◌≡◌, ◌++◌, IfOk, OnOk};
 ghost use Rattle.rdx_lang.specs.Inside.Collecting.{Adds, Arises, Combined};
 ghost use Rattle.rdx_lang.specs.Shown.{binding_of, bindings_of};
 ghost use Rattle.rdx_match.specs.Inside.Combining.{JoinsAcross, Lists, rows_of};
-ghost use Rattle.rdx_match.specs.Inside.Rows.{JoinedSpot, JoinedSpots, SpotsAcross, SpotsFrom};
-ghost use Rattle.rdx_match.specs.Inside.Rows.{all_matches, placed_at, split_rows_of};
-ghost use Rattle.rdx_match.specs.Inside.Spots.{spot_of, spots_of};
+ghost use Rattle.rdx_match.specs.Inside.Rows.{JoinedSpot, JoinedSpots, SpotsAcross};
+ghost use Rattle.rdx_match.specs.Inside.Rows.{all_matches, split_rows_of};
+ghost use Rattle.rdx_match.specs.Inside.Spots.{IsPlaced, spot_of, spots_of};
 ghost use Rattle.rdx_match.specs.Inside.Splitting.{Finds};
 
 use crate::combining::{empty_where, is_no_names_alone, joins_of};
@@ -36,10 +36,10 @@ fn shared(alloc: Global, bindings: &[Binding]) -> Result<Vec<Binding>, NoMemory>
     Ok(found)
 }
 
-/// The joins of one binding of each row. The rows are joined by halves, so that no binding is
-/// copied more often than the rows can be halved.
+// The joins of one binding of each row. The rows are joined by halves, so that no binding is copied
+// more often than the rows can be halved.
 #[inline(never)]
-pub(crate) fn joins_across(alloc: Global, rows: &[Vec<Binding>]) -> Result<Vec<Binding>, NoMemory>
+fn joins_across(alloc: Global, rows: &[Vec<Binding>]) -> Result<Vec<Binding>, NoMemory>
     ensures { Lists result (JoinsAcross (rows_of rows.now)) }
 {
     match rows {
@@ -65,18 +65,33 @@ fn matches_across(alloc: Global, rows: &[Row]) -> Result<Vec<Binding>, NoMemory>
     joins_across(alloc, &matches)
 }
 
-// The spots of an item as spots of the list that has it at this place.
-fn placed(alloc: Global, spots: &[Spot], place: usize) -> Result<Vec<Spot>, NoMemory>
-    ensures { IfOk result (λ found.
-        spots_of found.items ≡ map (placed_at place) (spots_of spots.now)) }
+// The same spots.
+fn shared_spots(alloc: Global, spots: &[Spot]) -> Result<Vec<Spot>, NoMemory>
+    ensures { IfOk result (λ found. spots_of found.items ≡ spots_of spots.now) }
 {
     let mut found = Vec::with_capacity(alloc, spots.len())?;
     for spot in spots {
-        let mut trail = Vec::with_capacity(alloc, spot.trail.len() + 1)?;
+        let mut trail = Vec::with_capacity(alloc, spot.trail.len())?;
         trail.extend_from_slice(&spot.trail)?;
-        trail.push(place)?;
         let binding = spot.binding.share()?;
         found.push(Spot { trail, binding })?;
+    }
+    Ok(found)
+}
+
+/// The spots of an item as spots of the list that has it at this place.
+pub(crate) fn placed(alloc: Global, spots: Vec<Spot>, place: usize) -> Result<Vec<Spot>, NoMemory>
+    ensures { Finds result (Arises (IsPlaced place) (spots_of spots.items)) }
+{
+    let mut rest = spots;
+    let mut found = Vec::with_capacity(alloc, rest.len())?;
+    while let Some(spot) = rest.pop() {
+        let mut trail = spot.trail;
+        trail.push(place)?;
+        found.push(Spot {
+            trail,
+            binding: spot.binding,
+        })?;
     }
     Ok(found)
 }
@@ -99,8 +114,8 @@ fn add_joined(
     Ok(())
 }
 
-// Adds the spot, joined with each of the bindings.
-fn add_all_joined(
+/// Adds the spot, joined with each of the bindings.
+pub(crate) fn add_all_joined(
     alloc: Global,
     spot: &Spot,
     others: &[Binding],
@@ -140,20 +155,19 @@ fn spots_beside(alloc: Global, spots: Vec<Spot>, rows: &[Row]) -> Result<Vec<Spo
     spots_with(alloc, spots, &others)
 }
 
-// The spots of a part of a list that begins at this place: those of each half, joined with what the
-// other half binds.
-fn spots_from(alloc: Global, place: usize, rows: &[Row]) -> Result<Vec<Spot>, NoMemory>
-    requires { place + length rows.now ≤ usize.MAX }
-    ensures { Finds result (SpotsFrom place (split_rows_of rows.now)) }
+// The spots of a list: one row is split, all others match, and what they bind is joined. The rows are
+// taken by halves: the spots of each half, joined with what the other half binds.
+#[inline(never)]
+fn spots_across(alloc: Global, rows: &[Row]) -> Result<Vec<Spot>, NoMemory>
+    ensures { Finds result (SpotsAcross (split_rows_of rows.now)) }
 {
     match rows {
         [] => Ok(Vec::new(alloc)),
-        [row] => placed(alloc, &row.spots, place),
+        [row] => shared_spots(alloc, &row.spots),
         _ => {
-            let half = rows.len() / 2;
-            let (firsts, others) = rows.split_at(half);
-            let before = spots_from(alloc, place, firsts)?;
-            let behind = spots_from(alloc, place + half, others)?;
+            let (firsts, others) = rows.split_at(rows.len() / 2);
+            let before = spots_across(alloc, firsts)?;
+            let behind = spots_across(alloc, others)?;
             let mut found = spots_beside(alloc, before, others)?;
             let mut more = spots_beside(alloc, behind, firsts)?;
             found.append(&mut more)?;
@@ -162,10 +176,40 @@ fn spots_from(alloc: Global, place: usize, rows: &[Row]) -> Result<Vec<Spot>, No
     }
 }
 
-/// The spots of a list: one row is split, all others match, and what they bind is joined.
+/// The joins across the rows of a list that come in three parts.
 #[inline(never)]
-pub(crate) fn spots_across(alloc: Global, rows: &[Row]) -> Result<Vec<Spot>, NoMemory>
-    ensures { Finds result (SpotsAcross (split_rows_of rows.now)) }
+pub(crate) fn joins_of_parts(
+    alloc: Global,
+    before: Vec<Vec<Binding>>,
+    middle: Vec<Vec<Binding>>,
+    behind: Vec<Vec<Binding>>,
+) -> Result<Vec<Binding>, NoMemory>
+    ensures { Lists result (JoinsAcross
+        (rows_of before.items ++ (rows_of middle.items ++ rows_of behind.items))) }
 {
-    spots_from(alloc, 0, rows)
+    let mut rows = before;
+    let mut more = middle;
+    let mut last = behind;
+    rows.append(&mut more)?;
+    rows.append(&mut last)?;
+    joins_across(alloc, &rows)
+}
+
+/// The spots of a list whose rows come in three parts.
+#[inline(never)]
+pub(crate) fn spots_of_parts(
+    alloc: Global,
+    before: Vec<Row>,
+    middle: Vec<Row>,
+    behind: Vec<Row>,
+) -> Result<Vec<Spot>, NoMemory>
+    ensures { Finds result (SpotsAcross
+        (split_rows_of before.items ++ (split_rows_of middle.items ++ split_rows_of behind.items))) }
+{
+    let mut rows = before;
+    let mut more = middle;
+    let mut last = behind;
+    rows.append(&mut more)?;
+    rows.append(&mut last)?;
+    spots_across(alloc, &rows)
 }

@@ -1,6 +1,6 @@
--- The rows of a list: what each item binds where it matches, and the spots where it splits its term. Where a list is split, one row
--- is, and all others match.
-use Rattle.std.specs.Prelude.{◌≡◌, ℕ, suc, List, ◌∷◌, map}
+-- The rows of a list: what each part of it binds where it matches, and the spots where it splits its terms, by their paths in the list. Where
+-- the list is split, one part is, and all others match.
+use Rattle.std.specs.Prelude.{◌≡◌, List, ◌∷◌, map}
 use Rattle.rdx_lang.specs.Bindings.{Binding}
 use Rattle.rdx_lang.specs.Join.{IsJoin}
 use Rattle.rdx_lang.specs.Members.{In}
@@ -9,7 +9,7 @@ use Rattle.rdx_match.specs.Inside.Combining.{JoinsAcross}
 use Rattle.rdx_match.specs.Inside.Spots.{Spot, spots_of}
 use Rattle.rdx_match.specs.declared.rows.Row as code
 
--- what an item binds where it matches its term, and the spots where it splits it
+-- what a part binds where it matches its terms, and the spots where it splits them
 pub record SplitRow : Type 0 where
   pub matches : List Binding
   pub spots : List Spot
@@ -18,12 +18,17 @@ pub record SplitRow : Type 0 where
 abbrev pub all_matches : List SplitRow → List (List Binding)
 all_matches rows = map (λ row. row.matches) rows
 
+-- r is s, and binds besides what d binds
+pub record JoinedSpot (s : Spot) (d : Binding) (r : Spot) : Type 0 where
+  pub joined : IsJoin s.binding d r.binding
+  pub path : r.path ≡ s.path
+
 -- r is the spot of a list: one row is split, all others match, and what they bind is joined
 pub data SpotsAcross : List SplitRow → Spot → Type 0 where
   across_here : {row : SplitRow} {rows : List SplitRow} {s r : Spot} {d : Binding} →
-      In s row.spots → JoinsAcross (all_matches rows) d → IsJoin s.binding d r.binding → r.path ≡ 0 ∷ s.path → SpotsAcross (row ∷ rows) r
-  across_behind : {row : SplitRow} {rows : List SplitRow} {s r : Spot} {c : Binding} {k : ℕ} {ks : List ℕ} →
-      In c row.matches → SpotsAcross rows s → s.path ≡ k ∷ ks → IsJoin c s.binding r.binding → r.path ≡ suc k ∷ ks → SpotsAcross (row ∷ rows) r
+      In s row.spots → JoinsAcross (all_matches rows) d → JoinedSpot s d r → SpotsAcross (row ∷ rows) r
+  across_behind : {row : SplitRow} {rows : List SplitRow} {s r : Spot} {c : Binding} →
+      In c row.matches → SpotsAcross rows s → IsJoin c s.binding r.binding → r.path ≡ s.path → SpotsAcross (row ∷ rows) r
 
 -- the row that a row of the code stands for
 abbrev pub split_row_of : code.Row → SplitRow
@@ -35,11 +40,6 @@ split_rows_of rows = map split_row_of rows
 
 -- ---- parts of a list
 
--- r is s, and binds besides what d binds
-pub record JoinedSpot (s : Spot) (d : Binding) (r : Spot) : Type 0 where
-  pub joined : IsJoin s.binding d r.binding
-  pub path : r.path ≡ s.path
-
 -- r is one of the spots, and binds besides what all the rows bind where they match
 pub record JoinedSpots (spots : List Spot) (rows : List SplitRow) (r : Spot) : Type 0 where
   pub spot : Spot
@@ -47,14 +47,3 @@ pub record JoinedSpots (spots : List Spot) (rows : List SplitRow) (r : Spot) : T
   pub others : Binding
   pub across : JoinsAcross (all_matches rows) others
   pub by : JoinedSpot spot others r
-
--- r is a spot of the part of a list that begins at place n with these rows
-pub data SpotsFrom : ℕ → List SplitRow → Spot → Type 0 where
-  from_here : {n : ℕ} {row : SplitRow} {rows : List SplitRow} {s r : Spot} {d : Binding} →
-      In s row.spots → JoinsAcross (all_matches rows) d → IsJoin s.binding d r.binding → r.path ≡ n ∷ s.path → SpotsFrom n (row ∷ rows) r
-  from_behind : {n : ℕ} {row : SplitRow} {rows : List SplitRow} {s r : Spot} {c : Binding} →
-      In c row.matches → SpotsFrom (suc n) rows s → IsJoin c s.binding r.binding → r.path ≡ s.path → SpotsFrom n (row ∷ rows) r
-
--- the spot of the list that has the item at place n
-abbrev pub placed_at : ℕ → Spot → Spot
-placed_at n s = record { path = n ∷ s.path; binding = s.binding }

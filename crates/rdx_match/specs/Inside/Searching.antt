@@ -1,21 +1,21 @@
 -- What the search asks of several patterns, and of the items of lists.
 use Rattle.std.specs.Prelude.{◌≡◌, ℕ, Bool, true, List, [], Option, Some, None}
-use Rattle.rdx_term.specs.Items.{trees_count}
-use Rattle.rdx_term.specs.Tree.{Tree, Trees, list}
+use Rattle.rdx_term.specs.Tree.{Tree}
 use Rattle.rdx_lang.specs.Bindings.{Binding}
 use Rattle.rdx_lang.specs.Inside.Collecting.{HasExactly}
 use Rattle.rdx_lang.specs.Members.{In}
 use Rattle.rdx_lang.specs.Patterns.{Pattern, Language}
-use Rattle.rdx_lang.specs.PatternView.{Slot, just}
+use Rattle.rdx_lang.specs.PatternView.{Slot, just, repeated}
 use Rattle.rdx_lang.specs.Rules.{Match}
 use Rattle.rdx_match.specs.Inside.Rows.{SplitRow, split_row_of}
-use Rattle.rdx_match.specs.Inside.Spots.{Spot, SplitsAt}
+use Rattle.rdx_match.specs.Inside.Spots.{Spot, SplitsAt, PlacedAt}
 use Rattle.rdx_match.specs.Inside.Splitting.{IsNameless}
 use Rattle.rdx_match.specs.declared.rows.Row as code
 
--- the pattern of an item
+-- the pattern of an item, be it one term's or repeated
 abbrev pub item_pattern : Slot → Pattern
 item_pattern (just p) = p
+item_pattern (repeated p n) = p
 
 -- one of the patterns matches t
 pub record AnyMatches (L : Language) (ps : List Pattern) (t : Tree) : Type 0 where
@@ -40,19 +40,19 @@ MatchesNone L p t = (b : Binding) → ¬ Match L p t b
 abbrev pub SplitsNone : Language → Pattern → Tree → Type 0
 SplitsNone L p t = (s : Spot) → ¬ SplitsAt L p t s
 
--- the row of p at t, where p has to match t, or may be split: its matches, and where it has none its spots; no row where it can be neither
-pub data IsRowOf (L : Language) (p : Pattern) (t : Tree) : Bool → Option SplitRow → Type 0 where
-  row_matches : {may_split : Bool} {row : SplitRow} → ¬ (row.matches ≡ []) → HasExactly row.matches (Match L p t) → row.spots ≡ [] → IsRowOf L p t may_split (Some row)
-  row_splits : {row : SplitRow} → row.matches ≡ [] → MatchesNone L p t → HasExactly row.spots (SplitsAt L p t) → IsRowOf L p t true (Some row)
-  row_fails : {may_split : Bool} → MatchesNone L p t → (may_split ≡ true → SplitsNone L p t) → IsRowOf L p t may_split None
+-- p does not split t, which stands at place n of a list
+abbrev pub PlacedNone : Language → ℕ → Pattern → Tree → Type 0
+PlacedNone L n p t = (s : Spot) → ¬ PlacedAt L n p t s
+
+-- the row of p at t, which stands at place n of a list, where p has to match t, or may be split: its matches, and where it has none its spots;
+-- no row where it can be neither
+pub data IsRowOf (L : Language) (n : ℕ) (p : Pattern) (t : Tree) : Bool → Option SplitRow → Type 0 where
+  row_matches : {may_split : Bool} {row : SplitRow} → ¬ (row.matches ≡ []) → HasExactly row.matches (Match L p t) → row.spots ≡ []
+      → IsRowOf L n p t may_split (Some row)
+  row_splits : {row : SplitRow} → row.matches ≡ [] → MatchesNone L p t → HasExactly row.spots (PlacedAt L n p t) → IsRowOf L n p t true (Some row)
+  row_fails : {may_split : Bool} → MatchesNone L p t → (may_split ≡ true → PlacedNone L n p t) → IsRowOf L n p t may_split None
 
 -- the row that a row of the code stands for, if there is one
 abbrev pub found_row : Option code.Row → Option SplitRow
 found_row None = None
 found_row (Some row) = Some (split_row_of row)
-
--- t is a list of these items, which are n
-pub record IsListOf (n : ℕ) (t : Tree) (ts : Trees) : Type 0 where
-  pub mark : Option ℕ
-  pub same : t ≡ list mark ts
-  pub many : trees_count ts ≡ n

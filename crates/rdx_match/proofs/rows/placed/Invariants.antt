@@ -1,7 +1,12 @@
-use Rattle.std.proofs.Common.{◌≡◌, ◌++◌, drop, map}
-use Rattle.rdx_match.specs.Inside.Rows.{placed_at}
-use Rattle.rdx_match.specs.Inside.Spots.{spots_of}
+use Rattle.std.proofs.Common.{[], List, vec_len}
+use Rattle.rdx_lang.proofs.Collecting.{Collects}
+use Rattle.rdx_match.specs.Inside.Spots.{Spot, IsPlaced, spots_of}
 use Rattle.rdx_match.proofs.rows.placed.Given as goal
 
 abbrev pub invariant-loop-spot : goal.invariant-loop-spot
-invariant-loop-spot l = spots_of l.found.items ++ map (placed_at l.place) (spots_of (drop l.spot-index l.spots)) ≡ map (placed_at l.place) (spots_of l.spots)
+invariant-loop-spot l =
+    let nothing : List Spot = [] in
+    Collects (IsPlaced l.place) (spots_of l.fn.spots.items) (spots_of l.rest.items) nothing (spots_of l.found.items)
+
+abbrev pub decreases-loop-spot : goal.decreases-loop-spot
+decreases-loop-spot l = vec_len l.rest
