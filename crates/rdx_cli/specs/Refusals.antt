@@ -6,7 +6,7 @@ use Rattle.rdx_sexp.specs.declared.fault.ReadKind.TheVariants.{NotUtf8, Unclosed
 use Rattle.rdx_sexp.specs.declared.fault.ReadRefusal.{ReadRefusal}
 use Rattle.rdx_grammar.specs.Refusal.{Refusal}
 use Rattle.rdx_grammar.specs.declared.shape.fault.DefKind.{DefKind}
-use Rattle.rdx_grammar.specs.declared.shape.fault.DefKind.TheVariants.{Unbuilt, Shape, UnknownLanguage, Duplicate, BadName, BadPattern, LeftRecursive}
+use Rattle.rdx_grammar.specs.declared.shape.fault.DefKind.TheVariants.{Unbuilt, Shape, UnknownLanguage, Duplicate, BadName, BadPattern, EllipsisDepth, LeftRecursive}
 
 -- the name of what a text is refused for
 abbrev pub read_name : ReadKind → List ℕ
@@ -27,6 +27,7 @@ form_name UnknownLanguage = codes "S2 UnknownLanguage"
 form_name Duplicate = codes "S3 Duplicate"
 form_name BadName = codes "S4 BadName"
 form_name BadPattern = codes "S5 BadPattern"
+form_name EllipsisDepth = codes "S6 EllipsisDepth"
 form_name LeftRecursive = codes "S7 LeftRecursive"
 
 -- the front of the line: why the file is refused, and where

@@ -39,6 +39,7 @@ fn form_name(kind: DefKind) -> &'static str
         DefKind::Duplicate => "S3 Duplicate",
         DefKind::BadName => "S4 BadName",
         DefKind::BadPattern => "S5 BadPattern",
+        DefKind::EllipsisDepth => "S6 EllipsisDepth",
         DefKind::LeftRecursive => "S7 LeftRecursive",
     }
 }

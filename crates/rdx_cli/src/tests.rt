@@ -76,7 +76,7 @@ const PAIRS: &str =
 
 const PAIRS_MATCHED: &str = "match 1\n  e_1 = 1, e_2 = (2 3)\n";
 
-const ANSWERED: [(&str, &str); 9] = [
+const ANSWERED: [(&str, &str); 10] = [
     (PAIRS, PAIRS_MATCHED),
     ("", ""),
     // What two derivations bind alike is listed once.
@@ -120,6 +120,12 @@ const ANSWERED: [(&str, &str); 9] = [
         "(define-language S (E hole (f E))) (redex-decompose S (in-hole E E) (term (f 1)))",
         "splits 1\n  hole at [] is (f 1) with E = hole\n",
     ),
+    // The first items of the contexts are equal, and at the second the hole comes before 2.
+    (
+        "(define-language D (E hole (any ... E any ...)))\n\
+         (redex-match D (in-hole E 2) (term (1 2 2)))",
+        "match 2\n  E = (1 hole 2)\n  E = (1 2 hole)\n",
+    ),
     // The context that is filled takes something of the term off, so that the right part may recur.
     (
         "(define-language L (E hole (in-hole F E)) (F (f hole)))\n\
@@ -128,7 +134,7 @@ const ANSWERED: [(&str, &str); 9] = [
     ),
 ];
 
-const REFUSED: [(&str, &str); 18] = [
+const REFUSED: [(&str, &str); 19] = [
     // These are no data.
     ("(term (1 2)", "refused F2 Unclosed at 1:1\n"),
     ("(term (1]", "refused F3 WrongClose at 1:9\n"),
@@ -146,7 +152,7 @@ const REFUSED: [(&str, &str); 18] = [
         "refused S0 Unbuilt at 1:29\n",
     ),
     (
-        "(define-language L (e number)) (redex-match L (e ...) (term 1))",
+        "(define-language L (e number)) (redex-match L (cross e) (term 1))",
         "refused S0 Unbuilt at 1:32\n",
     ),
     ("(define-language)", "refused S1 Shape at 1:1\n"),
@@ -165,6 +171,10 @@ const REFUSED: [(&str, &str); 18] = [
     (
         "(define-language L (e foo_1))",
         "refused S5 BadPattern at 1:23\n",
+    ),
+    (
+        "(define-language L (e number)) (redex-match L (any_1 any_1 ...) (term (1)))",
+        "refused S6 EllipsisDepth at 1:54 any_1\n",
     ),
     (
         "(define-language L (e f) (f e number))",

@@ -12,7 +12,7 @@ use Rattle.rdx_grammar.specs.Languages.{language_over}
 use Rattle.rdx_grammar.specs.Stands.{form_stands}
 use Rattle.rdx_grammar.specs.Parts.{text_of}
 use Rattle.rdx_grammar.specs.Refusal.{Refusal, unnamed, named, or_else, first, first_refusal}
-use Rattle.rdx_grammar.specs.Refused.{by_check, by_recursion, shape_at, duplicate_at, bad_name_at, bad_pattern_at, names_over, refusal_over}
+use Rattle.rdx_grammar.specs.Refused.{by_check, by_recursion, shape_at, duplicate_at, bad_name_at, bad_pattern_at, depth_clash_at, names_over, refusal_over}
 use Rattle.rdx_grammar.specs.Unbuilt.{unbuilt_at}
 use Rattle.rdx_grammar.specs.Stands.{Stand}
 use Rattle.rdx_grammar.specs.Unbuilt.{has_word_to_come}
@@ -49,7 +49,9 @@ shape_early ss = early_shape (first (shape_faults ss))
 
 -- the checks of a form by itself, behind that of its shape
 abbrev later : Language → Option GrammarForm → List Stand → Option Refusal
-later base g ss = first_refusal (duplicate_at ss ∷ bad_name_at ss ∷ bad_pattern_at base (names_over base g) ss ∷ [])
+later base g ss =
+    first_refusal
+    (duplicate_at ss ∷ bad_name_at ss ∷ bad_pattern_at base (names_over base g) ss ∷ depth_clash_at (names_over base g) ss ∷ [])
 
 -- ---- in a chain of checks
 
@@ -110,8 +112,7 @@ taken K base l0 d g x m r e a u n t f =
     let p = unsettled base d g x e a in
     let k = taken-some K d g m p n t in
     let h : language_refusal K base l0 d g ≡ Some (named Duplicate m) = λ i.
-    first_refusal (p.unbuilt i ∷ p.shape i ∷ u i ∷ k i ∷ duplicate_at (form_stands d g) ∷ bad_name_at (form_stands d g)
-    ∷ bad_pattern_at base (names_over base g) (form_stands d g) ∷ [])
+    or_else (p.unbuilt i) (or_else (p.shape i) (or_else (u i) (or_else (k i) (later base g (form_stands d g)))))
     in language_by_check (h ∙ ap Some (sym f))
 
 -- ---- it is not taken
@@ -121,7 +122,7 @@ same_refusal : (K : Known) (base : Language) (l0 : Option Sexp) (d : Sexp) (g : 
 same_refusal K base l0 d g p u k =
     let ss = form_stands d g in
     let h : language_refusal K base l0 d g ≡ later base g ss = λ i.
-    first_refusal (p.unbuilt i ∷ p.shape i ∷ u i ∷ k i ∷ duplicate_at ss ∷ bad_name_at ss ∷ bad_pattern_at base (names_over base g) ss ∷ [])
+    or_else (p.unbuilt i) (or_else (p.shape i) (or_else (u i) (or_else (k i) (later base g ss))))
     in
     let m : refusal_over base d g ≡ later base g ss = λ i. or_else (p.unbuilt i) (or_else (p.shape i) (later base g ss)) in
     h ∙ sym m

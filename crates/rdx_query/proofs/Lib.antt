@@ -2,6 +2,7 @@ pub mod Upto
 pub mod OneReading
 pub mod OneText
 pub mod AllMet
+pub mod Sizes
 pub mod Keywords
 pub mod Contexts
 pub mod ReadTerms

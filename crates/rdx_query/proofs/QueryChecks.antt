@@ -16,7 +16,7 @@ use Rattle.rdx_grammar.specs.Parts.{text_of}
 use Rattle.rdx_grammar.specs.Reading.{reading}
 use Rattle.rdx_grammar.specs.Refusal.{Refusal, unnamed, or_else, first, first_refusal}
 use Rattle.rdx_grammar.specs.Unbuilt.{unbuilt_at}
-use Rattle.rdx_grammar.specs.PatternRefusal.{bad_binder_at, bad_occurrence_at, pattern_refusal}
+use Rattle.rdx_grammar.specs.PatternRefusal.{bad_binder_at, bad_occurrence_at, depth_clash_at, pattern_refusal}
 use Rattle.rdx_grammar.specs.Occurrences.{keys, occurrences}
 use Rattle.rdx_grammar.specs.declared.shape.fault.DefFault.{DefFault}
 use Rattle.rdx_grammar.specs.declared.shape.fault.DefFault.TheVariants.{Refused, NoMemory}
@@ -50,7 +50,10 @@ early-refusal K d NoMemory e = tt
 early-refusal K d (Refused r) e =
     let q = query_parts d in
     first_refusal-three (unbuilt_at d) (host_at d q) (query_shape_at d (checked_parts q))
-    (unknown_at K (query_language q) ∷ bad_binder_at (pattern_occurrences q) ∷ bad_occurrence_at (names_of (named_base K (query_language q))) (pattern_occurrences q) ∷ [])
+    (unknown_at K (query_language q)
+    ∷ bad_binder_at (pattern_occurrences q)
+    ∷ bad_occurrence_at (names_of (named_base K (query_language q))) (pattern_occurrences q)
+    ∷ depth_clash_at (names_of (named_base K (query_language q))) (pattern_occurrences q) ∷ [])
     (refusal_of r) e
 
 -- ---- the checks behind that of the shape
@@ -61,8 +64,9 @@ module _ (K : Known) (d l p t : Sexp) (f : IsFit d l p t) where
   behind =
       first_refusal
       (unknown_at K (Some l)
-      ∷ bad_binder_at (occurrences p)
-      ∷ bad_occurrence_at (names_of (named_base K (Some l))) (occurrences p)
+      ∷ bad_binder_at (occurrences 0 p)
+      ∷ bad_occurrence_at (names_of (named_base K (Some l))) (occurrences 0 p)
+      ∷ depth_clash_at (names_of (named_base K (Some l))) (occurrences 0 p)
       ∷ [])
 
   -- a query of that shape is refused by these alone
@@ -70,12 +74,12 @@ module _ (K : Known) (d l p t : Sexp) (f : IsFit d l p t) where
   fit-refusal =
       ap (query_refusal K d) f.parts
       ∙ (λ i. or_else (f.built i) (or_else (host_by d (f.template i)) (or_else (query_shape_at d (if f.symbol i then Some (record { language = l; pattern = p; host = f.host }) else None)) behind)))
-      ∙ (λ i. or_else (if f.plain i then Some (unnamed Unbuilt d) else None) (or_else (option_map (unnamed Shape) (first (keyword_faults (occurrences p ++ keys_of (f.template i))))) behind))
+      ∙ (λ i. or_else (if f.plain i then Some (unnamed Unbuilt d) else None) (or_else (option_map (unnamed Shape) (first (keyword_faults (occurrences 0 p ++ keys_of (f.template i))))) behind))
       ∙ (λ i. or_else (option_map (unnamed Shape) (f.unkeyed i)) behind)
 
   -- no keyword stands in the pattern
-  unkeyed-pattern : first (keyword_faults (occurrences p)) ≡ None
-  unkeyed-pattern = or_else-none (first (keyword_faults (occurrences p))) (first (keyword_faults (keys t))) (sym (first_keyword-append (occurrences p) (keys t)) ∙ f.unkeyed)
+  unkeyed-pattern : first (keyword_faults (occurrences 0 p)) ≡ None
+  unkeyed-pattern = or_else-none (first (keyword_faults (occurrences 0 p))) (first (keyword_faults (keys t))) (sym (first_keyword-append (occurrences 0 p) (keys t)) ∙ f.unkeyed)
 
   -- no word to come stands in the pattern
   built-pattern : unbuilt_at p ≡ None
@@ -84,12 +88,15 @@ module _ (K : Known) (d l p t : Sexp) (f : IsFit d l p t) where
   -- the language L is known by the name
   known-refusal : (L : Language) → language_named K (text_of l) ≡ Some L → query_refusal K d (query_parts d) ≡ pattern_refusal (names_of L) p
   known-refusal L k =
-      let last : Option Refusal = bad_occurrence_at (names_of L) (occurrences p) in
-      let whole : query_refusal K d (query_parts d) ≡ first_refusal (bad_binder_at (occurrences p) ∷ last ∷ []) =
-      fit-refusal ∙ λ i. or_else (unknown_by (k i) l) (first_refusal (bad_binder_at (occurrences p) ∷ bad_occurrence_at (names_of (or_empty (k i))) (occurrences p) ∷ []))
+      let last : Option Refusal =
+      or_else (bad_occurrence_at (names_of L) (occurrences 0 p)) (or_else (depth_clash_at (names_of L) (occurrences 0 p)) None) in
+      let whole : query_refusal K d (query_parts d) ≡ or_else (bad_binder_at (occurrences 0 p)) last =
+      fit-refusal ∙ λ i. or_else (unknown_by (k i) l) (first_refusal (bad_binder_at (occurrences 0 p)
+      ∷ bad_occurrence_at (names_of (or_empty (k i))) (occurrences 0 p)
+      ∷ depth_clash_at (names_of (or_empty (k i))) (occurrences 0 p) ∷ []))
       in
-      let part : pattern_refusal (names_of L) p ≡ first_refusal (bad_binder_at (occurrences p) ∷ last ∷ []) =
-      λ i. or_else (built-pattern i) (or_else (option_map (unnamed Shape) (unkeyed-pattern i)) (first_refusal (bad_binder_at (occurrences p) ∷ last ∷ [])))
+      let part : pattern_refusal (names_of L) p ≡ or_else (bad_binder_at (occurrences 0 p)) last =
+      λ i. or_else (built-pattern i) (or_else (option_map (unnamed Shape) (unkeyed-pattern i)) (or_else (bad_binder_at (occurrences 0 p)) last))
       in
       whole ∙ sym part
 

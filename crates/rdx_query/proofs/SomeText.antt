@@ -14,7 +14,7 @@ use Rattle.rdx_grammar.specs.Parts.{text_of}
 use Rattle.rdx_grammar.specs.Reading.{reading}
 use Rattle.rdx_grammar.specs.Refusal.{Refusal, first_refusal}
 use Rattle.rdx_grammar.specs.Unbuilt.{unbuilt_at}
-use Rattle.rdx_grammar.specs.PatternRefusal.{bad_binder_at, bad_occurrence_at}
+use Rattle.rdx_grammar.specs.PatternRefusal.{bad_binder_at, bad_occurrence_at, depth_clash_at}
 use Rattle.rdx_grammar.specs.declared.patterns.position.Position.TheVariants as position
 use Rattle.rdx_query.specs.AnswerText.{matches_text, whether_text, splits_text}
 use Rattle.rdx_query.specs.Answering.{IsAnswer, AreAnswers, no_answers, more_answers}
@@ -78,7 +78,9 @@ query-known : (K : Known) (d : Sexp) (q : QueryParts) → query_refusal K d (Som
 query-known K d q e =
     known-by (language_named K (text_of q.language)) q.language
     (fourth (unbuilt_at d) (host_at d (Some q)) (query_shape_at d (checked_parts (Some q))) (unknown_at K (Some q.language))
-    (bad_binder_at (pattern_occurrences (Some q)) ∷ bad_occurrence_at (names_of (named_base K (Some q.language))) (pattern_occurrences (Some q)) ∷ []) e)
+    (bad_binder_at (pattern_occurrences (Some q))
+    ∷ bad_occurrence_at (names_of (named_base K (Some q.language))) (pattern_occurrences (Some q))
+    ∷ depth_clash_at (names_of (named_base K (Some q.language))) (pattern_occurrences (Some q)) ∷ []) e)
 
 -- a query of such a kind that passes names a known language
 passed-known : (K : Known) (d : Sexp) (kind : List ℕ → Pattern → Tree → Query)

@@ -8,7 +8,7 @@ use Rattle.rdx_grammar.specs.Stands.{form_stands}
 use Rattle.rdx_grammar.specs.Parts.{parts, text_of}
 use Rattle.rdx_grammar.specs.Refusal.{Refusal, named, first_refusal}
 use Rattle.rdx_grammar.specs.Unbuilt.{unbuilt_at}
-use Rattle.rdx_grammar.specs.Refused.{shape_at, duplicate_at, bad_name_at, bad_pattern_at, names_over}
+use Rattle.rdx_grammar.specs.Refused.{shape_at, duplicate_at, bad_name_at, bad_pattern_at, depth_clash_at, names_over}
 use Rattle.rdx_grammar.specs.declared.shape.fault.DefKind.TheVariants.{UnknownLanguage, Duplicate}
 use Rattle.rdx_query.specs.Known.{Known, language_named, or_empty}
 
@@ -63,6 +63,7 @@ language_refusal K base l0 d g =
     ∷ duplicate_at (form_stands d g)  -- S3
     ∷ bad_name_at (form_stands d g)  -- S4
     ∷ bad_pattern_at base (names_over base g) (form_stands d g)  -- S5
+    ∷ depth_clash_at (names_over base g) (form_stands d g)  -- S6
     ∷ [])
 
 -- ---- languages by themselves

@@ -10,7 +10,7 @@ use Rattle.rdx_grammar.specs.Parts.{parts, is_symbol, is_word, text_of}
 use Rattle.rdx_grammar.specs.Reading.{reading}
 use Rattle.rdx_grammar.specs.Refusal.{Refusal, unnamed, first_refusal}
 use Rattle.rdx_grammar.specs.Unbuilt.{unbuilt_at}
-use Rattle.rdx_grammar.specs.PatternRefusal.{keyword_at, bad_binder_at, bad_occurrence_at}
+use Rattle.rdx_grammar.specs.PatternRefusal.{keyword_at, bad_binder_at, bad_occurrence_at, depth_clash_at}
 use Rattle.rdx_grammar.specs.Occurrences.{Occurrence, occurrences, keys}
 use Rattle.rdx_grammar.specs.declared.shape.fault.DefKind.TheVariants.{Unbuilt, Shape}
 use Rattle.rdx_grammar.specs.declared.patterns.position.Position.TheVariants as position
@@ -95,7 +95,7 @@ keys_of (Some t) = keys t
 -- S1: the query has not its parts, or a keyword stands in its pattern, or in its term
 abbrev pub query_shape_at : Sexp → Option QueryParts → Option Refusal
 query_shape_at d None = Some (unnamed Shape d)
-query_shape_at d (Some q) = keyword_at (occurrences q.pattern ++ keys_of (template_in q.host))
+query_shape_at d (Some q) = keyword_at (occurrences 0 q.pattern ++ keys_of (template_in q.host))
 
 -- the name of its language
 abbrev pub query_language : Option QueryParts → Option Sexp
@@ -105,7 +105,7 @@ query_language (Some q) = Some q.language
 -- what stands in its pattern
 abbrev pub pattern_occurrences : Option QueryParts → List Occurrence
 pattern_occurrences None = []
-pattern_occurrences (Some q) = occurrences q.pattern
+pattern_occurrences (Some q) = occurrences 0 q.pattern
 
 -- ---- all checks
 
@@ -119,6 +119,7 @@ query_refusal K d q =
     ∷ unknown_at K (query_language q)  -- S2
     ∷ bad_binder_at (pattern_occurrences q)  -- S4
     ∷ bad_occurrence_at (names_of (named_base K (query_language q))) (pattern_occurrences q)  -- S5
+    ∷ depth_clash_at (names_of (named_base K (query_language q))) (pattern_occurrences q)  -- S6
     ∷ [])
 
 -- ---- what is asked

@@ -26,7 +26,7 @@ pub(crate) fn first_key(d: &Datum) -> Option<&Datum>
 
 /// The first keyword in the pattern or in the term of a query.
 pub(crate) fn first_key_in<'a>(pattern: &'a Datum, term: &'a Datum) -> Option<&'a Datum>
-    ensures { option_map (λ d. d.now) result ≡ first (keyword_faults (occurrences pattern.now ++ keys term.now)) }
+    ensures { option_map (λ d. d.now) result ≡ first (keyword_faults (occurrences 0 pattern.now ++ keys term.now)) }
 {
     match first_key(pattern) {
         Some(key) => Some(key),

@@ -5,8 +5,8 @@ ghost use Rattle.rdx_lang.specs.Patterns as model;
 ghost use Rattle.rdx_grammar.specs.Answers.{ReadsForm};
 ghost use Rattle.rdx_grammar.specs.Forms.{GrammarForm, extension_form};
 ghost use Rattle.rdx_grammar.specs.Parts.{text_of};
+ghost use Rattle.rdx_grammar.specs.Readable.{IsReadable};
 ghost use Rattle.rdx_sexp.specs.Sexp.{Sexp};
-ghost use Rattle.rdx_sexp.specs.Size.{IsSpelledSexp};
 ghost use Rattle.rdx_query.specs.FormKinds as forms;
 ghost use Rattle.rdx_query.specs.Inside.Defining as answers;
 ghost use Rattle.rdx_query.specs.Inside.Defining.{DefinesOver, DefinesBy, IsNamed};
@@ -37,6 +37,7 @@ fn is_early_kind(kind: DefKind) -> bool
         | DefKind::Duplicate
         | DefKind::BadName
         | DefKind::BadPattern
+        | DefKind::EllipsisDepth
         | DefKind::LeftRecursive => false,
     }
 }
@@ -126,7 +127,7 @@ fn extension(
     form: &Datum,
     name: &Datum,
 ) -> Result<CheckedLang, DefFault>
-    requires spelled { IsSpelledSexp form.now }
+    requires readable { IsReadable form.now }
     requires base { base_name form.now ≡ Some name.now }
     requires extension { forms.form_kind form.now ≡ Some (forms.defines forms.extension) }
     ensures { DefinesBy (known_of program.now) form.now result }
@@ -148,7 +149,7 @@ pub(crate) fn define_extension(
     program: &Program,
     form: &Datum,
 ) -> Result<CheckedLang, DefFault>
-    requires spelled { IsSpelledSexp form.now }
+    requires readable { IsReadable form.now }
     requires extension { forms.form_kind form.now ≡ Some (forms.defines forms.extension) }
     ensures { DefinesBy (known_of program.now) form.now result }
 {
@@ -164,7 +165,7 @@ pub(crate) fn define_language(
     program: &Program,
     form: &Datum,
 ) -> Result<CheckedLang, DefFault>
-    requires spelled { IsSpelledSexp form.now }
+    requires readable { IsReadable form.now }
     requires language { forms.form_kind form.now ≡ Some (forms.defines forms.language) }
     ensures { DefinesBy (known_of program.now) form.now result }
 {

@@ -5,7 +5,7 @@ ghost use Rattle.rdx_lang.specs.declared.checked.CheckedLang.{CheckedLang};
 ghost use Rattle.rdx_grammar.specs.Answers.{ReadsPattern};
 ghost use Rattle.rdx_grammar.specs.Nonterminals.{names_of};
 ghost use Rattle.rdx_grammar.specs.Parts.{text_of};
-ghost use Rattle.rdx_sexp.specs.Size.{IsSpelledSexp};
+ghost use Rattle.rdx_grammar.specs.Readable.{IsReadable};
 ghost use Rattle.rdx_query.specs.FormKinds as forms;
 ghost use Rattle.rdx_query.specs.Inside.Asking.{IsFaultAt, FitsBy, AsksBy};
 ghost use Rattle.rdx_query.specs.Inside.KindViews.{query_kind_of};
@@ -98,7 +98,7 @@ fn read_over(
     d: &Datum,
 ) -> Result<CheckedPat, DefFault>
     requires within { place < length program.old.languages.items }
-    requires spelled { IsSpelledSexp d.now }
+    requires readable { IsReadable d.now }
     ensures reads { (l : CheckedLang) → l ≡ get_or program.old.languages.items place l
         → ReadsPattern (names_of (language_in l)) d.now result }
     ensures same { known_of program.new ≡ known_of program.old }

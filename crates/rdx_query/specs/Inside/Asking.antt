@@ -46,7 +46,7 @@ pub record IsFit (d l p t : Sexp) : Type 0 where
   pub plain : has_template_to_come t ≡ false
   pub symbol : is_symbol l ≡ true
   pub built : unbuilt_at d ≡ None
-  pub unkeyed : first (keyword_faults (occurrences p ++ keys t)) ≡ None
+  pub unkeyed : first (keyword_faults (occurrences 0 p ++ keys t)) ≡ None
 
 -- the answer of these checks
 abbrev pub FitsBy : Sexp → Result Fit DefFault → Type 0

@@ -7,12 +7,13 @@ use Rattle.rdx_grammar.specs.Parts.{text_of}
 use Rattle.rdx_term.specs.View.{tree_of}
 use Rattle.rdx_query.specs.Known.{language_named}
 use Rattle.rdx_query.proofs.QueryChecks.{early-refusal, pattern-size, term-size, pattern_fault, is_asked, language_named-name}
+use Rattle.rdx_query.proofs.Sizes.{size_readable}
 use Rattle.rdx_query.proofs.match_forms.read_query.Goals as goal
 
-pub read_over-requires-clause-spelled : goal.read_over-requires-clause-spelled
-read_over-requires-clause-spelled c =
+pub read_over-requires-clause-readable : goal.read_over-requires-clause-readable
+read_over-requires-clause-readable c =
     let f = c.in_ok-fit.fit in
-    (pattern-size (known_of c.args.program.now) c.args.form.now f.language.now f.pattern.now f.term.now c.in_ok-fit.ensures c.requires).spelled
+    size_readable (pattern-size (known_of c.args.program.now) c.args.form.now f.language.now f.pattern.now f.term.now c.in_ok-fit.ensures c.requires)
 
 pub returns-in_err-pat-clause-asks : goal.returns-in_err-pat-clause-asks
 returns-in_err-pat-clause-asks c =
