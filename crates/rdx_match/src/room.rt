@@ -33,4 +33,13 @@ impl Room {
             left: self.left - 1,
         })
     }
+
+    /// The room inside the next item that is worked out in a column; such an item takes as much of the
+    /// stack as two calls.
+    pub(crate) fn inside_item(self) -> Result<Room, NoMemory>
+        ensures { IfOk result (λ room. room.left + 2 ≡ self.left) }
+    {
+        let half = self.inside()?;
+        half.inside()
+    }
 }

@@ -2,6 +2,7 @@
 ghost use Rattle.std.specs.Prelude.{◌≡◌, ◌↔◌, ◌+◌, ◌≤◌, IfOk, IsTrue, length, map, option_copied, [], IfSome, OnOk};
 ghost use Rattle.rdx_term.specs.View.{tree_of, trees_of};
 ghost use Rattle.rdx_lang.specs.Checked.{language_in};
+ghost use Rattle.rdx_lang.specs.Names.{names};
 ghost use Rattle.rdx_lang.specs.Patterns.{named, in_hole, seq, one, many};
 ghost use Rattle.rdx_lang.specs.PatternView.{pattern_of, patterns_of, slot_of, items_of};
 ghost use Rattle.rdx_lang.specs.Rules.{AreAlternatives, Match, MatchItems};
@@ -41,6 +42,14 @@ fn pattern_in(item: &Item) -> &Pat
     match item {
         Item::One(pat) | Item::Many(pat, _) => pat,
     }
+}
+
+// The names that the pattern binds, in a call of its own, so that the search has small frames.
+#[inline(never)]
+fn names_of(alloc: Global, pat: &Pat) -> Result<Vec<Name>, NoMemory>
+    ensures { IfOk result (λ found. found.items ≡ names (pattern_of pat.now)) }
+{
+    pat.names(alloc)
 }
 
 /// A search in a language.
@@ -440,7 +449,7 @@ impl<'a> Search<'a> {
     {
         let (asked, cells) = self.turns(pat, ts, place, asks, room)?;
         let nexts = self.column(behind, ts, place, &asked, room)?;
-        let names = pat.names(self.alloc)?;
+        let names = names_of(self.alloc, pat)?;
         let repetition = Repetition {
             names: &names,
             length: length_name,
@@ -467,7 +476,7 @@ impl<'a> Search<'a> {
             (items_of (map slot_of items.now)) place (trees_of ts.now) asks.now
             (split_rows_of rows.items)) }
     {
-        let inside = room.inside()?;
+        let inside = room.inside_item()?;
         if nothing_asked(asks) {
             return empty_rows(self.alloc, asks.len());
         }

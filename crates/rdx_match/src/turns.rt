@@ -63,6 +63,7 @@ fn row_from(
 
 /// At each place: what the repetition from there on binds, together with what comes behind it, and
 /// where both are split, as is asked.
+#[inline(never)]
 pub(crate) fn turns_column(
     alloc: Global,
     repetition: Repetition<'_>,
