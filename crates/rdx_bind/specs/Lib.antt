@@ -1,1 +1,14 @@
+pub mod Atoms
+pub mod Combining
+pub mod Choices
+pub mod Columns
+pub mod Ones
+pub mod Parts
+pub mod PartRows
+pub mod Ends
+pub mod Rows
+pub mod Turns
+pub mod Searching
+pub mod Spots
+pub mod Splitting
 pub mod Inside

@@ -6,7 +6,7 @@ ghost use Rattle.rdx_lang.specs.BindingView.{pairs_of, value_of};
 ghost use Rattle.rdx_lang.specs.Collections.{IsCollection};
 ghost use Rattle.rdx_lang.specs.Members.{In};
 ghost use Rattle.rdx_lang.specs.Shown.{binding_of, bindings_of};
-ghost use Rattle.rdx_bind.specs.Inside.Columns.{column, columns_from, pair_at};
+ghost use Rattle.rdx_bind.specs.Inside.ValueColumns.{column, columns_from, pair_at};
 
 use rdx_lang::{Binding, Value};
 use rdx_term::{Name, NoMemory};
@@ -35,7 +35,11 @@ fn values_at(alloc: Global, list: &[Binding], place: usize) -> Result<Vec<Value>
 }
 
 // Each name with what the bindings have at its place.
-fn columns(alloc: Global, names: &[Name], list: &[Binding]) -> Result<Vec<(Name, Value)>, NoMemory>
+fn value_columns(
+    alloc: Global,
+    names: &[Name],
+    list: &[Binding],
+) -> Result<Vec<(Name, Value)>, NoMemory>
     requires { (b : _) → In b (bindings_of list.now) → bound_names b ≡ names.now }
     ensures { IfOk result (λ pairs.
         pairs_of pairs.items ≡ columns_from 0 names.now (bindings_of list.now)) }
@@ -55,6 +59,6 @@ pub fn collect(alloc: Global, names: &[Name], list: &[Binding]) -> Result<Bindin
     requires bound { (b : _) → In b (bindings_of list.now) → bound_names b ≡ names.now }
     ensures { IfOk result (λ c. IsCollection names.now (bindings_of list.now) (binding_of c)) }
 {
-    let pairs = columns(alloc, names, list)?;
+    let pairs = value_columns(alloc, names, list)?;
     Ok(Binding::new(pairs))
 }

@@ -43,7 +43,7 @@ fn two(x: &Name, y: &Name, v: Value, w: Value, alloc: Global) -> Result<Binding,
 }
 
 // Three bindings of the same two names.
-fn turns(alloc: Global, x: &Name, y: &Name) -> Result<Vec<Binding>, NoMemory>
+fn three(alloc: Global, x: &Name, y: &Name) -> Result<Vec<Binding>, NoMemory>
     requires { name_cmp x.now y.now ≡ Less }
     ensures { IfOk result (λ list. (b : _) → In b (bindings_of list.items)
         → bound_names b ≡ x.now ∷ y.now ∷ []) }
@@ -91,7 +91,7 @@ fn three_turns(rt: HostRuntime) -> Result<(), Fail> {
     let alloc = rt.alloc();
     let x = name(alloc, "x")?;
     let y = name(alloc, "y")?;
-    let list = turns(alloc, &x, &y)?;
+    let list = three(alloc, &x, &y)?;
     let collected = collect(alloc, &names(alloc, &x, &y)?, &list)?;
     let firsts = numbers(alloc, &[1, 2, 3])?;
     let seconds = numbers(alloc, &[4, 5, 6])?;

@@ -1,1 +1,2 @@
-pub mod Places
+pub mod FilledItems
+pub mod Trails

@@ -21,7 +21,7 @@ fn shared(alloc: Global, items: &[Term]) -> Result<Vec<Term>, NoMemory>
 }
 
 // The list of these items, marked at `k` if the item there is a context.
-#[tactic(auto, using(crate::proofs::Places::marked_places))]
+#[tactic(auto, using(crate::proofs::FilledItems::marked_places))]
 fn list_marked_at(alloc: Global, items: Vec<Term>, k: usize) -> Result<Term, Build>
     requires { k < length items.items }
     ensures ok { IfOk result (λ t. tree_of t ≡ marked_at k (trees_of items.items)) }

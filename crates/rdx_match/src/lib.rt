@@ -7,28 +7,17 @@
 //!
 //! The search goes to a limited depth, since the machine's stack is limited, and answers want of memory where it would go deeper; so
 //! it ends. The items of a list pattern are matched from the first on, and where one has no binding the others are left out, unless it
-//! may be the one that is split. Each part of a term is searched anew each time that it is met, so the time may grow fast with the term.
+//! may be the one that is split. From the first repetition of a list pattern to its last, each item meets each term at most once, at
+//! the places that can be reached, and what they bind is put together from the last item to the first, in all layouts. Each part of a
+//! term is searched anew each time that it is met, so the time may grow fast with the term.
+//!
+//! What needs no search, rows of bindings and of splits and what comes across them, stands in [`rdx_bind`].
 #![tactic(auto)]
 
-mod asks;
-mod atoms;
-mod choices;
-mod columns;
-mod combining;
 mod extending;
-mod literals;
-mod parts;
-mod places;
 mod plain;
-mod repetition;
 mod room;
-mod rows;
 mod search;
 mod sorting;
-mod spots;
-mod turn_matches;
-mod turn_spots;
-mod turns;
-mod ways;
 
 pub use plain::Plain;

@@ -6,43 +6,35 @@ ghost use Rattle.rdx_lang.specs.Names.{names};
 ghost use Rattle.rdx_lang.specs.Patterns.{named, in_hole, seq, one, many};
 ghost use Rattle.rdx_lang.specs.PatternView.{pattern_of, patterns_of, slot_of, items_of};
 ghost use Rattle.rdx_lang.specs.Rules.{AreAlternatives, Match, MatchItems};
-ghost use Rattle.rdx_match.specs.Inside.Columns.{AreCells, HasAsked, IsColumn, carried};
-ghost use Rattle.rdx_match.specs.Inside.Parts.{part_of, AreSingles, FoundRows, found_rows};
-ghost use Rattle.rdx_match.specs.Inside.PartRows.{AreRows, IsSearched, HaveSpots, HaveAll, found_split_rows};
-ghost use Rattle.rdx_match.specs.Inside.Rows.{split_row_of, split_rows_of};
-ghost use Rattle.rdx_match.specs.Inside.Combining.{Lists};
-ghost use Rattle.rdx_match.specs.Inside.Searching.{item_pattern, AnyMatches, AnySplits, IsRowOf, found_row};
-ghost use Rattle.rdx_match.specs.Inside.Spots.{ItemsSplitAt, PlacedAt, SplitsAt};
-ghost use Rattle.rdx_match.specs.Inside.Splitting.{Finds};
+ghost use Rattle.rdx_bind.specs.Columns.{AreCells, HasAsked, IsColumn, carried};
+ghost use Rattle.rdx_bind.specs.Parts.{part_of, AreSingles, FoundRows, found_rows};
+ghost use Rattle.rdx_bind.specs.PartRows.{AreRows, IsSearched, HaveSpots, HaveAll, found_split_rows};
+ghost use Rattle.rdx_bind.specs.Rows.{split_row_of, split_rows_of};
+ghost use Rattle.rdx_bind.specs.Combining.{Lists};
+ghost use Rattle.rdx_bind.specs.Searching.{AnyMatches, AnySplits, IsRowOf, found_row};
+ghost use Rattle.rdx_bind.specs.Spots.{ItemsSplitAt, PlacedAt, SplitsAt};
+ghost use Rattle.rdx_bind.specs.Splitting.{Finds};
 
-use crate::asks::Ask;
-use crate::atoms::{has_prefix, is_hole, is_of_kind, is_other_symbol};
-use crate::columns::{
+use crate::extending::with_contexts;
+use crate::room::Room;
+use rdx_bind::asks::Ask;
+use rdx_bind::atoms::{has_prefix, is_hole, is_of_kind, is_other_symbol};
+use rdx_bind::columns::{
     asked_first, asks_behind, empty_row, empty_rows, end_column, nothing_asked, one_column,
 };
-use crate::combining::{add_all_joins, empty_where, with_name};
-use crate::extending::{add_going_on, with_contexts};
-use crate::parts::{Part, parts_of};
-use crate::places::part_at;
-use crate::repetition::Repetition;
-use crate::room::Room;
-use crate::rows::{Row, joins_of_parts, placed, spots_of_parts};
-use crate::spots::{Gathered, Spot, whole};
-use crate::turns::turns_column;
+use rdx_bind::combining::{add_all_joins, empty_where, with_name};
+use rdx_bind::extending::add_going_on;
 use rdx_bind::listing;
+use rdx_bind::parts::{Part, parts_of, pattern_in};
+use rdx_bind::repetition::Repetition;
+use rdx_bind::rows::{Row, joins_of_parts, placed, spots_of_parts};
+use rdx_bind::spots::{Gathered, Spot, whole};
+use rdx_bind::turns::turns_column;
+use rdx_fill::part_at;
 use rdx_lang::{Binding, CheckedLang, Item, Pat, Ref};
 use rdx_term::{Name, NoMemory, Term};
 use std::alloc::Global;
 use std::slice::from_ref;
-
-// The pattern of an item.
-fn pattern_in(item: &Item) -> &Pat
-    ensures { pattern_of result.now ≡ item_pattern (slot_of item.now) }
-{
-    match item {
-        Item::One(pat) | Item::Many(pat, _) => pat,
-    }
-}
 
 // The names that the pattern binds, in a call of its own, so that the search has small frames.
 #[inline(never)]

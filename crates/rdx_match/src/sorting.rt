@@ -7,12 +7,12 @@ ghost use Rattle.rdx_lang.specs.Order.{decomposition_cmp};
 ghost use Rattle.rdx_lang.specs.Shown.{decomposition_of, decompositions_of};
 ghost use Rattle.rdx_term.specs.AtPaths.{IsPlace};
 ghost use Rattle.rdx_term.specs.View.{tree_of};
-ghost use Rattle.rdx_match.specs.Inside.Spots.{spot_of, spots_of};
-ghost use Rattle.rdx_match.specs.Inside.Splitting.{IsSplitAt, split_of};
+ghost use Rattle.rdx_bind.specs.Spots.{spot_of, spots_of};
+ghost use Rattle.rdx_bind.specs.Splitting.{IsSplitAt, split_of};
 
-use crate::places::{context_around, part_at};
-use crate::spots::Spot;
 use rdx_bind::listing_splits;
+use rdx_bind::spots::Spot;
+use rdx_fill::{context_around, part_at};
 use rdx_lang::Split;
 use rdx_term::{NoMemory, Term};
 use std::alloc::Global;

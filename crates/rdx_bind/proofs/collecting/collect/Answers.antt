@@ -1,7 +1,7 @@
 use Rattle.std.proofs.Common.{◌∙◌, sym, subst}
 use Rattle.rdx_lang.specs.Bindings.{HasAscendingNames}
 use Rattle.rdx_lang.specs.Shown.{bindings_of}
-use Rattle.rdx_bind.proofs.ColumnLaws.{columns_ascend, columns_collect}
+use Rattle.rdx_bind.proofs.ValueColumnLaws.{columns_ascend, columns_collect}
 use Rattle.rdx_bind.proofs.collecting.collect.Goals as goal
 
 pub new-requires : goal.new-requires

@@ -3,8 +3,8 @@ use Rattle.std.proofs.lemmas.List.{length-map}
 use Rattle.rdx_lang.specs.BindingView.{pair_of, pairs_of}
 use Rattle.rdx_lang.specs.Bindings.{Pair, Binding}
 use Rattle.rdx_lang.specs.Shown.{binding_of}
-use Rattle.rdx_bind.specs.Inside.Columns.{pair_at}
-use Rattle.rdx_bind.proofs.ColumnLaws.{pair_read}
+use Rattle.rdx_bind.specs.Inside.ValueColumns.{pair_at}
+use Rattle.rdx_bind.proofs.ValueColumnLaws.{pair_read}
 use Rattle.rdx_bind.proofs.collecting.value_at.Goals as goal
 
 pub bounds-pairs-place : goal.bounds-pairs-place

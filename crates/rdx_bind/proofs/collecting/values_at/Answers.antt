@@ -4,8 +4,8 @@ use Rattle.rdx_lang.specs.BindingView.{value_of}
 use Rattle.rdx_lang.specs.Bindings.{Value, Binding}
 use Rattle.rdx_lang.specs.Shown.{binding_of, bindings_of}
 use Rattle.rdx_lang.proofs.Rest.{rest_at}
-use Rattle.rdx_bind.specs.Inside.Columns.{column, pair_at}
-use Rattle.rdx_bind.proofs.ColumnLaws.{in_images, one_done}
+use Rattle.rdx_bind.specs.Inside.ValueColumns.{column, pair_at}
+use Rattle.rdx_bind.proofs.ValueColumnLaws.{in_images, one_done}
 use Rattle.rdx_bind.proofs.collecting.values_at.Goals as goal
 
 pub value_at-requires : goal.value_at-requires

@@ -1,7 +1,7 @@
 use Rattle.std.proofs.Common.{◌≡◌, ◌++◌, drop, map}
 use Rattle.rdx_lang.specs.BindingView.{value_of}
 use Rattle.rdx_lang.specs.Shown.{bindings_of}
-use Rattle.rdx_bind.specs.Inside.Columns.{column}
+use Rattle.rdx_bind.specs.Inside.ValueColumns.{column}
 use Rattle.rdx_bind.proofs.collecting.values_at.Given as goal
 
 abbrev pub invariant-loop-binding : goal.invariant-loop-binding

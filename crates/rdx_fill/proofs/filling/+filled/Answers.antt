@@ -2,7 +2,7 @@ use Rattle.std.proofs.Common.{◌≡◌, ◌<◌, length, map, Some, arith}
 use Rattle.std.proofs.lemmas.Grind.{common_steps}
 use Rattle.rdx_term.specs.View.{tree_of}
 use Rattle.rdx_term.proofs.Items.{mark-place, item_has_fewer_nodes}
-use Rattle.rdx_fill.proofs.Places.{filled_item-is, filled_item-limits, filled_list-limits}
+use Rattle.rdx_fill.proofs.FilledItems.{filled_item-is, filled_item-limits, filled_list-limits}
 use Rattle.rdx_fill.proofs.filling.+filled.Goals as goal
 
 pub offset_bounds-items-k : goal.offset_bounds-items-k

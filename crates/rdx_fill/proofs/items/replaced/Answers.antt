@@ -1,7 +1,7 @@
 use Rattle.std.proofs.Common.{arith}
 use Rattle.std.proofs.lemmas.Grind.{common_steps}
 use Rattle.rdx_term.proofs.Measures.{limits_of}
-use Rattle.rdx_fill.proofs.Places.{set-same_items}
+use Rattle.rdx_fill.proofs.FilledItems.{set-same_items}
 use Rattle.rdx_fill.proofs.items.replaced.Goals as goal
 
 pub built-requires-clause-limits : goal.built-requires-clause-limits

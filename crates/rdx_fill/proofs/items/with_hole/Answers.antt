@@ -1,7 +1,7 @@
 use Rattle.std.proofs.Common.{arith}
 use Rattle.std.proofs.lemmas.Grind.{common_steps}
 use Rattle.rdx_term.proofs.Measures.{limits_of}
-use Rattle.rdx_fill.proofs.Places.{set-context}
+use Rattle.rdx_fill.proofs.FilledItems.{set-context}
 use Rattle.rdx_fill.proofs.items.with_hole.Goals as goal
 
 pub replaced-requires-clause-limits : goal.replaced-requires-clause-limits

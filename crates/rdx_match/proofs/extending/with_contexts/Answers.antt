@@ -1,9 +1,9 @@
 use Rattle.std.proofs.Common.{◌≡◌, ◌++◌, List, [], ◌∷◌, arith}
 use Rattle.std.proofs.lemmas.Grind.{common_steps}
 use Rattle.rdx_term.specs.View.{tree_of}
-use Rattle.rdx_match.proofs.Gathering.{collects-last, last_in}
-use Rattle.rdx_match.specs.Inside.Spots.{Spot, spot_of, spots_of}
-use Rattle.rdx_match.specs.Inside.Splitting.{NamesContext}
+use Rattle.rdx_bind.proofs.Gathering.{collects-last, last_in}
+use Rattle.rdx_bind.specs.Spots.{Spot, spot_of, spots_of}
+use Rattle.rdx_bind.specs.Splitting.{NamesContext}
 use Rattle.rdx_match.proofs.extending.with_contexts.Goals as goal
 
 pub add_named-requires : goal.add_named-requires

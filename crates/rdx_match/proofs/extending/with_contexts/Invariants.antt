@@ -1,8 +1,8 @@
 use Rattle.std.proofs.Common.{[], List, vec_len}
 use Rattle.rdx_lang.proofs.Collecting.{Collects}
 use Rattle.rdx_term.specs.View.{tree_of}
-use Rattle.rdx_match.specs.Inside.Spots.{Spot, spots_of}
-use Rattle.rdx_match.specs.Inside.Splitting.{NamesContext}
+use Rattle.rdx_bind.specs.Spots.{Spot, spots_of}
+use Rattle.rdx_bind.specs.Splitting.{NamesContext}
 use Rattle.rdx_match.proofs.extending.with_contexts.Given as goal
 
 abbrev pub invariant-loop-spot : goal.invariant-loop-spot

@@ -7,9 +7,9 @@ use Rattle.rdx_lang.specs.Shown.{decomposition_of, decompositions_of}
 use Rattle.rdx_lang.proofs.Collecting.{Collects, adds_one, collects-start, collects-end, listing_of_all}
 use Rattle.rdx_term.specs.Tree.{Tree}
 use Rattle.rdx_term.specs.View.{tree_of}
-use Rattle.rdx_match.proofs.Gathering.{collects-last, last_in}
-use Rattle.rdx_match.specs.Inside.Spots.{Spot, spot_of, spots_of}
-use Rattle.rdx_match.specs.Inside.Splitting.{IsSplitAt}
+use Rattle.rdx_bind.proofs.Gathering.{collects-last, last_in}
+use Rattle.rdx_bind.specs.Spots.{Spot, spot_of, spots_of}
+use Rattle.rdx_bind.specs.Splitting.{IsSplitAt}
 use Rattle.rdx_match.proofs.sorting.sorted_splits.Goals as goal
 
 pub loop-spot-init : goal.loop-spot-init

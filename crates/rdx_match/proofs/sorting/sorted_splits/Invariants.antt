@@ -3,8 +3,8 @@ use Rattle.rdx_lang.proofs.Collecting.{Collects}
 use Rattle.rdx_lang.specs.Decompositions.{Decomposition}
 use Rattle.rdx_lang.specs.Shown.{decompositions_of}
 use Rattle.rdx_term.specs.View.{tree_of}
-use Rattle.rdx_match.specs.Inside.Spots.{spots_of}
-use Rattle.rdx_match.specs.Inside.Splitting.{IsSplitAt}
+use Rattle.rdx_bind.specs.Spots.{spots_of}
+use Rattle.rdx_bind.specs.Splitting.{IsSplitAt}
 use Rattle.rdx_match.proofs.sorting.sorted_splits.Given as goal
 
 abbrev pub invariant-loop-spot : goal.invariant-loop-spot

@@ -5,8 +5,8 @@ use Rattle.rdx_lang.specs.Inside.Collecting.{HasExactly}
 use Rattle.rdx_lang.specs.Patterns.{Language}
 use Rattle.rdx_lang.specs.PatternView.{pattern_of}
 use Rattle.rdx_term.specs.View.{tree_of}
-use Rattle.rdx_match.proofs.SplitRules.{splits_listing}
-use Rattle.rdx_match.specs.Inside.Spots.{SplitsAt, spots_of}
+use Rattle.rdx_bind.proofs.SplitRules.{splits_listing}
+use Rattle.rdx_bind.specs.Spots.{SplitsAt, spots_of}
 use Rattle.rdx_match.proofs.plain.PlainMatcher.splits.Goals as goal
 
 pub returns : goal.returns

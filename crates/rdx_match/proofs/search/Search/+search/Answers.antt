@@ -1,4 +1,4 @@
-use Rattle.std.proofs.Common.{arith, ◌≡◌, ℕ, suc, ◌+◌, nat_eq, true, false, ◌&&◌, List, [], ◌∷◌, ◌++◌, Some, None, length, drop, get_or, map, reverse, refl, ap, sym, ◌∙◌, subst, add-one, Option, ◌<◌, take, IfSome, IsTrue}
+use Rattle.std.proofs.Common.{arith, ◌≡◌, ℕ, suc, ◌+◌, nat_eq, true, false, ◌&&◌, List, [], ◌∷◌, ◌++◌, Some, None, length, drop, get_or, map, reverse, refl, ap, sym, ◌∙◌, subst, add-one, Option, take, IfSome, IsTrue}
 use Rattle.std.proofs.Math.ListN.{set, get_or-map}
 use Rattle.std.proofs.lemmas.Grind.{common_steps}
 use Rattle.std.proofs.lemmas.List.{nil_from_length, map-set, length-map, drop_more}
@@ -24,34 +24,34 @@ use Rattle.rdx_lang.specs.PatternView.{Slot, just, pattern_of, patterns_of, slot
 use Rattle.rdx_lang.proofs.Rest.{rest_at, rest_none}
 use Rattle.rdx_lang.specs.Rules.{Match, MatchItems}
 use Rattle.rdx_lang.specs.Shown.{bindings_of}
-use Rattle.rdx_match.specs.Inside.Atoms.{is_other_symbol}
-use Rattle.rdx_match.specs.Inside.Columns.{HasAsked, has_nothing, has_matches, has_splits, IsColumn, asks_behind}
-use Rattle.rdx_match.specs.Inside.Combining.{JoinsAcross, rows_of}
-use Rattle.rdx_match.specs.Inside.Ones.{AreOnes, is_nothing, nothings}
-use Rattle.rdx_match.specs.Inside.Rows.{SplitRow, SpotsAcross, split_row_of, split_rows_of}
-use Rattle.rdx_match.specs.Inside.Searching.{item_pattern, IsRowOf, row_matches, row_splits, row_fails, found_row}
-use Rattle.rdx_match.specs.Inside.Spots.{Spot, SplitsAt, ItemsSplitAt, spot_of, spots_of, PlacedAt}
-use Rattle.rdx_match.specs.Inside.Turns.{AreTurns, BindExactly}
-use Rattle.rdx_match.specs.declared.asks.Ask.{Ask}
-use Rattle.rdx_match.specs.declared.asks.Ask.TheVariants.{Nothing}
-use Rattle.rdx_match.specs.Inside.PartRows.{IsSearched, HaveSpots, HaveAll, found_split_rows, PartSplits}
-use Rattle.rdx_match.specs.Inside.Parts.{Part, part_of, Unmatched, BindAcross, FoundRows, rows_found, none_found, found_rows}
-use Rattle.rdx_match.proofs.AnyOf.{untried_first, untried_next, untried_none}
-use Rattle.rdx_match.proofs.AskedRows.{all-nothing, nothings-length, asked-length, nothing-column, end-column, column-head, column-length, exactly_placed, cells-terms, cells-length, cells-bind}
-use Rattle.rdx_match.proofs.AtomListings.{listing_wild, listing_kind, listing_except, listing_prefix, listing_hole, listing_lit, listing_none}
-use Rattle.rdx_match.proofs.ColumnLoops.{last_left, cells-next, cells-end, turns-next, turns-asked, turns-end}
-use Rattle.rdx_match.proofs.Gathering.{exactly_as, exactly_added, exactly_listed, exactly_none, adds_exactly}
-use Rattle.rdx_match.proofs.OneColumns.{ones-column}
-use Rattle.rdx_match.proofs.PartListings.{listing_nt, listing_named, listing_hide_hole, listing_closed, no_bindings, some_bindings, some_of_listing, none_of_listing}
-use Rattle.rdx_match.proofs.PartRows.{item_unmatched}
-use Rattle.rdx_match.proofs.AcrossRows.{rows_are_maps, bindings_are_maps}
-use Rattle.rdx_match.proofs.SpotRows.{split_rows_are_maps, IsMapRow, spots_are_maps}
-use Rattle.rdx_match.proofs.Prefixes.{taken_next, taken_rest, taken_whole, taken_length, next_items, rest_items, none_bind, items_next, no_rows_found, rows_next_found, no_row_found, all_rows_found, not_both, stays, ends}
-use Rattle.rdx_match.proofs.ThreeParts.{found_bind, not_found, found_fit, listing_parts_of, first_unmatched, middle_unmatched, last_unmatched, exactly_all_parts, exactly_one_part, first_fails, last_fails, middle_fails}
-use Rattle.rdx_match.proofs.FilledRows.{Filled, filled_none, filled-next, filled-length, filled-end}
-use Rattle.rdx_match.proofs.SplitRules.{MatchesOn, SplitsOn, exactly_hole, exactly_any, exactly_nt, exactly_closed, exactly_named, exactly_in_hole, listing_in_hole, adds_matches, adds_splits}
-use Rattle.rdx_match.proofs.TurnColumns.{IsAsked, carried-asked, turns-column}
-use Rattle.rdx_match.proofs.MiddleRow.{row_binds, no_row_binds, asked_matches, asked_where, middle_found, middle_spots, middle_none, no_middle, no_middle_spots, some_spots}
+use Rattle.rdx_bind.specs.Atoms.{is_other_symbol}
+use Rattle.rdx_bind.specs.Columns.{HasAsked, has_nothing, has_matches, has_splits, IsColumn, asks_behind}
+use Rattle.rdx_bind.specs.Combining.{rows_of}
+use Rattle.rdx_bind.specs.Ones.{AreOnes, is_nothing, nothings}
+use Rattle.rdx_bind.specs.Rows.{SplitRow, split_row_of, split_rows_of}
+use Rattle.rdx_bind.specs.Searching.{item_pattern, IsRowOf, row_matches, row_splits, row_fails, found_row}
+use Rattle.rdx_bind.specs.Spots.{Spot, SplitsAt, spot_of, spots_of, PlacedAt}
+use Rattle.rdx_bind.specs.Turns.{AreTurns, BindExactly}
+use Rattle.rdx_bind.specs.declared.asks.Ask.{Ask}
+use Rattle.rdx_bind.specs.declared.asks.Ask.TheVariants.{Nothing}
+use Rattle.rdx_bind.specs.PartRows.{IsSearched, HaveSpots, HaveAll, found_split_rows, PartSplits}
+use Rattle.rdx_bind.specs.Parts.{Part, part_of, Unmatched, BindAcross, FoundRows, rows_found, none_found, found_rows}
+use Rattle.rdx_bind.proofs.AnyOf.{untried_first, untried_next, untried_none}
+use Rattle.rdx_bind.proofs.AskedRows.{all-nothing, nothings-length, asked-length, nothing-column, end-column, column-head, column-length, exactly_placed, cells-terms, cells-length, cells-bind}
+use Rattle.rdx_bind.proofs.AtomListings.{listing_wild, listing_kind, listing_except, listing_prefix, listing_hole, listing_lit}
+use Rattle.rdx_bind.proofs.ColumnLoops.{last_left, cells-next, cells-end, turns-next, turns-asked, turns-end}
+use Rattle.rdx_bind.proofs.Gathering.{exactly_as, exactly_added, exactly_listed, adds_exactly}
+use Rattle.rdx_bind.proofs.OneColumns.{ones-column}
+use Rattle.rdx_bind.proofs.PartListings.{listing_nt, listing_named, listing_hide_hole, listing_closed, no_bindings, some_bindings, some_of_listing, none_of_listing}
+use Rattle.rdx_bind.proofs.PartRows.{item_unmatched}
+use Rattle.rdx_bind.proofs.AcrossRows.{rows_are_maps, bindings_are_maps}
+use Rattle.rdx_bind.proofs.SpotRows.{split_rows_are_maps, IsMapRow, spots_are_maps}
+use Rattle.rdx_bind.proofs.Prefixes.{taken_next, taken_rest, taken_whole, taken_length, next_items, rest_items, none_bind, items_next, no_rows_found, rows_next_found, no_row_found, all_rows_found, not_both, stays, ends}
+use Rattle.rdx_bind.proofs.ThreeParts.{found_bind, not_found, found_fit, listing_parts_of, first_unmatched, middle_unmatched, last_unmatched, exactly_all_parts, exactly_one_part, first_fails, last_fails, middle_fails}
+use Rattle.rdx_bind.proofs.FilledRows.{Filled, filled_none, filled-next, filled-length, filled-end}
+use Rattle.rdx_bind.proofs.SplitRules.{MatchesOn, SplitsOn, exactly_hole, exactly_any, exactly_nt, exactly_closed, exactly_named, exactly_in_hole, listing_in_hole, adds_matches, adds_splits}
+use Rattle.rdx_bind.proofs.TurnColumns.{IsAsked, carried-asked, turns-column}
+use Rattle.rdx_bind.proofs.MiddleRow.{row_binds, no_row_binds, asked_matches, asked_where, middle_found, middle_spots, middle_none, no_middle, some_spots}
 use Rattle.rdx_match.proofs.search.Search.+search.Goals as goal
 use Rattle.rdx_match.proofs.search.Search.+search.Goals.{middle_rows-then-all_match, middle_rows-else-all_match, middle_rows-else-is_empty-2-via-then-is_empty-2+else-is_empty-3, middle_rows-else-is_empty-2-via-else-is_empty-2}
 

@@ -6,15 +6,15 @@ use Rattle.rdx_lang.proofs.Collecting.{Collects}
 use Rattle.rdx_lang.specs.Bindings.{Binding}
 use Rattle.rdx_lang.specs.PatternView.{Slot, pattern_of, patterns_of, slot_of}
 use Rattle.rdx_lang.specs.Shown.{bindings_of}
-use Rattle.rdx_match.specs.Inside.Combining.{rows_of}
-use Rattle.rdx_match.specs.Inside.PartRows.{AreRows, IsSearched}
-use Rattle.rdx_match.specs.Inside.Parts.{AreSingles, BindAcross}
-use Rattle.rdx_match.specs.Inside.Rows.{SplitRow, split_rows_of}
-use Rattle.rdx_match.specs.Inside.Spots.{Spot, SplitsAt, spots_of}
-use Rattle.rdx_match.proofs.AnyOf.{Untried}
-use Rattle.rdx_match.proofs.ColumnLoops.{CellsSoFar, TurnsSoFar}
-use Rattle.rdx_match.proofs.FilledRows.{Filled}
-use Rattle.rdx_match.proofs.SplitRules.{MatchesOn, SplitsOn}
+use Rattle.rdx_bind.specs.Combining.{rows_of}
+use Rattle.rdx_bind.specs.PartRows.{AreRows, IsSearched}
+use Rattle.rdx_bind.specs.Parts.{AreSingles, BindAcross}
+use Rattle.rdx_bind.specs.Rows.{SplitRow, split_rows_of}
+use Rattle.rdx_bind.specs.Spots.{Spot, SplitsAt, spots_of}
+use Rattle.rdx_bind.proofs.AnyOf.{Untried}
+use Rattle.rdx_bind.proofs.ColumnLoops.{CellsSoFar, TurnsSoFar}
+use Rattle.rdx_bind.proofs.FilledRows.{Filled}
+use Rattle.rdx_bind.proofs.SplitRules.{MatchesOn, SplitsOn}
 use Rattle.rdx_match.proofs.search.Search.+search.Given as goal
 
 abbrev pub decreases-matches : goal.decreases-matches

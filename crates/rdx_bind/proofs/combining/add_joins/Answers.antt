@@ -1,0 +1,18 @@
+use Rattle.std.proofs.Common.{◌≡◌, ◌+◌, ◌∷◌, drop, arith}
+use Rattle.rdx_lang.specs.Join.{IsJoin}
+use Rattle.rdx_lang.specs.Shown.{binding_of, bindings_of}
+use Rattle.rdx_lang.proofs.Rest.{rest_at, rest_none}
+use Rattle.rdx_lang.proofs.Collecting.{collects-next, collects-end}
+use Rattle.rdx_bind.proofs.combining.add_joins.Goals as goal
+
+pub loop-other-preserved : goal.loop-other-preserved
+loop-other-preserved c =
+    let xs = c.args.others.now in
+    let e : bindings_of (drop c.loop-other.other-index xs) ≡ binding_of c.other-item.result ∷ bindings_of (drop (c.loop-other.other-index + 1) xs) =
+    rest_at binding_of xs c.loop-other.other-index c.other-item.result c.loop-other-test.true c.other-item.is in
+    collects-next (IsJoin (binding_of c.args.first.now)) (bindings_of xs) (bindings_of c.args.found.now.items) (binding_of c.other-item.result) _ _ _ _ e c.loop-other.invariant c.in_ok-add_join.ensures
+
+pub returns : goal.returns
+returns c =
+    let xs = c.args.others.now in
+    collects-end (IsJoin (binding_of c.args.first.now)) (bindings_of xs) (bindings_of (drop c.loop-other.other-index xs)) _ _ (rest_none binding_of xs c.loop-other.other-index (omega arith)) c.loop-other.invariant

@@ -1,7 +1,0 @@
-use Rattle.std.proofs.Common.{◌≡◌}
-use Rattle.rdx_match.specs.Inside.Ones.{empty_rows}
-use Rattle.rdx_match.specs.Inside.Rows.{split_rows_of}
-use Rattle.rdx_match.proofs.columns.empty_rows.Given as goal
-
-abbrev pub invariant-loop : goal.invariant-loop
-invariant-loop l = split_rows_of l.found.items ≡ empty_rows l.counter

@@ -1,7 +1,0 @@
-use Rattle.std.proofs.Common.{◌≡◌, ◌++◌, drop}
-use Rattle.rdx_match.specs.Inside.Combining.{rows_of}
-use Rattle.rdx_match.specs.Inside.Rows.{all_matches, split_rows_of}
-use Rattle.rdx_match.proofs.rows.matches_across.Given as goal
-
-abbrev pub invariant-loop-row : goal.invariant-loop-row
-invariant-loop-row l = rows_of l.matches.items ++ all_matches (split_rows_of (drop l.row-index l.rows)) ≡ all_matches (split_rows_of l.rows)
