@@ -1,0 +1,4 @@
+pub mod Extending
+pub mod Ids
+pub mod ShapesOfTrees
+pub mod Inserting

@@ -1,0 +1,3 @@
+pub mod Stored
+pub mod Laws
+pub mod Model
