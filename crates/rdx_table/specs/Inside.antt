@@ -1,0 +1,17 @@
+pub mod Index
+pub mod Nodes
+pub mod Settings
+pub mod Tasks
+pub mod Looks
+pub mod Cuts
+pub mod Cells
+pub mod Forgetting
+pub mod Frames
+pub mod Memos
+pub mod Remaining
+pub mod ByTerm
+pub mod SameColumns
+pub mod LookForms
+pub mod Numbers
+pub mod Once
+pub mod Numbering

@@ -1,0 +1,251 @@
+// A look at a goal whose pattern is no list: what its parts bind and split, put together.
+ghost use Rattle.std.specs.Prelude.{◌≡◌, ◌<◌, ◌≤◌, IfOk, length, None};
+ghost use Rattle.rdx_term.specs.AtPaths.{tree_at, IsPlace};
+ghost use Rattle.rdx_lang.specs.Bindings.{no_names};
+ghost use Rattle.rdx_lang.specs.Members.{In};
+ghost use Rattle.rdx_lang.specs.Patterns.{named, in_hole, hide_hole, closed, nt};
+ghost use Rattle.rdx_lang.specs.PatternView.{patterns_of};
+ghost use Rattle.rdx_lang.specs.Rules.{AreAlternatives};
+ghost use Rattle.rdx_bind.specs.Columns.{HasAsked};
+ghost use Rattle.rdx_bind.specs.Rows.{split_row_of};
+ghost use Rattle.rdx_bind.specs.Searching.{AnyMatches, AnySplits};
+ghost use Rattle.rdx_bind.specs.Spots.{spot_of, spots_of};
+ghost use Rattle.rdx_store.specs.Stored.{tree_by_id};
+ghost use Rattle.rdx_table.specs.Inside.Looks.{aim_pattern, aim_tree, AreAsked, IsAim, IsLook};
+ghost use Rattle.rdx_table.specs.Inside.Looks.{language_of_look, patterns_of_look, trees_of_look};
+ghost use Rattle.rdx_table.specs.Inside.Looks.{Meets, Stops};
+ghost use Rattle.rdx_table.specs.Inside.Nodes.{opened_in, pattern_at, patterns_at};
+ghost use Rattle.rdx_table.specs.Inside.Nodes.{AreBelow, AreOpened};
+ghost use Rattle.rdx_table.specs.Inside.Settings.{IsClosedDoor};
+ghost use Rattle.rdx_table.specs.Inside.Tasks.{asked_where};
+
+use crate::look::Look;
+use crate::node::Nonterminal;
+use crate::splitting::{part_id, with_contexts};
+use crate::task::{Goal, Stop, Task};
+use rdx_bind::combining::{add_all_joins, empty_where, with_name};
+use rdx_bind::extending::add_going_on;
+use rdx_bind::listing;
+use rdx_bind::rows::Row;
+use rdx_bind::spots::{Gathered, Spot};
+use rdx_term::{Name, NoMemory};
+use std::slice::from_ref;
+
+impl<'s, 'a> Look<'s, 'a> {
+    // The row of a part, which is asked for where it is not there yet.
+    fn part(&self, goal: Goal, next: &mut usize) -> Result<Row, Stop>
+        requires look { IsLook self.now }
+        requires goal { IsAim self.now goal }
+        ensures found { IfOk result (λ row. Meets self.now goal row) }
+        ensures stop { Stops self.now.setting.now result }
+    {
+        match self.row(goal, next)? {
+            Some(row) => Ok(row),
+            None => Err(Stop::Asks(self.asks_of(from_ref(&goal.number), goal, 1)?)),
+        }
+    }
+
+    // The goals of the patterns with these numbers at the term of the goal, as tasks: as many as
+    // answers were read, but one at least and all at most. The first one comes last.
+    fn asks_of(&self, numbers: &[usize], goal: Goal, answered: usize) -> Result<Vec<Task>, NoMemory>
+        requires goal { IsAim self.now goal }
+        requires some { 1 ≤ length numbers.now }
+        requires numbers { AreBelow numbers.now (length (patterns_of_look self.now)) }
+        ensures { IfOk result (λ tasks. AreAsked self.now.setting.now tasks.items) }
+    {
+        let count = numbers.len().min(answered.max(1));
+        let mut tasks = Vec::with_capacity(self.setting.alloc, count)?;
+        for i in (0..count).rev() {
+            tasks.push(Task::Goal(Goal {
+                number: numbers[i],
+                ..goal
+            }))?;
+        }
+        Ok(tasks)
+    }
+
+    // Whether one of the patterns with these numbers matches the term of the goal, and where they
+    // split it, with no names; the matches of the row are the empty binding, or none.
+    fn any_of(&self, numbers: &[usize], goal: Goal) -> Result<Row, Stop>
+        requires look { IsLook self.now }
+        requires numbers { AreBelow numbers.now (length (patterns_of_look self.now)) }
+        requires goal { IsAim self.now goal }
+        ensures found { IfOk result (λ row. HasAsked
+            (λ b. (b ≡ no_names) × AnyMatches (language_of_look self.now)
+            (patterns_at (patterns_of_look self.now) numbers.now) (aim_tree self.now goal))
+            (AnySplits (language_of_look self.now)
+            (patterns_at (patterns_of_look self.now) numbers.now) (aim_tree self.now goal))
+            (asked_where goal.splits) (split_row_of row)) }
+        ensures stop { Stops self.now.setting.now result }
+    {
+        let alloc = self.setting.alloc;
+        let mut next = 0;
+        let mut any = false;
+        let mut gathered = Gathered::new(alloc);
+        for i in 0..numbers.len() {
+            let part = Goal {
+                number: numbers[i],
+                ..goal
+            };
+            let Some(row) = self.row(part, &mut next)? else {
+                return Err(Stop::Asks(self.asks_of(&numbers[i..], goal, next)?));
+            };
+            any |= !row.matches.is_empty();
+            if any && !goal.splits {
+                let matches = empty_where(alloc, any)?;
+                let spots = Vec::new(alloc);
+                return Ok(Row { matches, spots });
+            }
+            gathered.add(row.spots)?;
+        }
+        let matches = empty_where(alloc, any)?;
+        let spots = gathered.nameless(alloc)?;
+        Ok(Row { matches, spots })
+    }
+
+    /// The row of a goal whose pattern is this nonterminal.
+    pub(crate) fn nonterminal(&self, it: &Nonterminal<'a>, goal: Goal) -> Result<Row, Stop>
+        requires look { IsLook self.now }
+        requires goal { IsAim self.now goal }
+        requires pattern { aim_pattern self.now goal ≡ nt it.now.name.now }
+        requires alternatives { AreAlternatives (language_of_look self.now) it.now.name.now
+            (patterns_of it.now.alternatives.now) }
+        requires opened { AreOpened (language_of_look self.now) (patterns_of_look self.now)
+            (length (patterns_of_look self.now)) (patterns_of it.now.alternatives.now)
+            (opened_in it.now) }
+        requires door { opened_in it.now ≡ None → IsClosedDoor self.now.setting.now goal.number }
+        ensures found { IfOk result (λ row. Meets self.now goal row) }
+        ensures stop { Stops self.now.setting.now result }
+    {
+        let Some(numbers) = &it.opened else {
+            return Err(Stop::Opens(goal.number));
+        };
+        self.any_of(numbers, goal)
+    }
+
+    /// The row of a goal whose pattern is the closed one of this part.
+    pub(crate) fn closed(&self, part: usize, goal: Goal) -> Result<Row, Stop>
+        requires look { IsLook self.now }
+        requires goal { IsAim self.now goal }
+        requires part { part < length (patterns_of_look self.now) }
+        requires pattern { aim_pattern self.now goal
+            ≡ closed (pattern_at (patterns_of_look self.now) part) }
+        ensures found { IfOk result (λ row. Meets self.now goal row) }
+        ensures stop { Stops self.now.setting.now result }
+    {
+        self.any_of(from_ref(&part), goal)
+    }
+
+    /// The row of a goal whose pattern is this part with a name.
+    pub(crate) fn named(&self, name: &Name, part: usize, goal: Goal) -> Result<Row, Stop>
+        requires look { IsLook self.now }
+        requires goal { IsAim self.now goal }
+        requires part { part < length (patterns_of_look self.now) }
+        requires pattern { aim_pattern self.now goal
+            ≡ named name.now (pattern_at (patterns_of_look self.now) part) }
+        ensures found { IfOk result (λ row. Meets self.now goal row) }
+        ensures stop { Stops self.now.setting.now result }
+    {
+        let inside = Goal {
+            number: part,
+            ..goal
+        };
+        let row = self.part(inside, &mut 0)?;
+        let t = self.setting.store.term(goal.id);
+        let matches = with_name(self.setting.alloc, &row.matches, name, t)?;
+        let spots = with_contexts(self.setting.alloc, row.spots, name, t)?;
+        Ok(Row { matches, spots })
+    }
+
+    /// The row of a goal whose pattern hides the hole of this part.
+    pub(crate) fn hide_hole(&self, part: usize, goal: Goal) -> Result<Row, Stop>
+        requires look { IsLook self.now }
+        requires goal { IsAim self.now goal }
+        requires part { part < length (patterns_of_look self.now) }
+        requires pattern { aim_pattern self.now goal
+            ≡ hide_hole (pattern_at (patterns_of_look self.now) part) }
+        ensures found { IfOk result (λ row. Meets self.now goal row) }
+        ensures stop { Stops self.now.setting.now result }
+    {
+        let hidden = Goal {
+            number: part,
+            id: goal.id,
+            splits: false,
+        };
+        self.part(hidden, &mut 0)
+    }
+
+    // The goal that asks the same of this pattern at the part at a spot.
+    fn goal_of_spot(&self, spot: &Spot, number: usize, goal: Goal) -> Goal
+        requires goal { IsAim self.now goal }
+        requires number { number < length (patterns_of_look self.now) }
+        requires place { IsPlace (aim_tree self.now goal) (spot_of spot.now).path }
+        ensures number { result.number ≡ number }
+        ensures id { result.id < length (trees_of_look self.now) }
+        ensures part { tree_by_id (trees_of_look self.now) result.id
+            ≡ tree_at (aim_tree self.now goal) (spot_of spot.now).path }
+        ensures splits { result.splits ≡ goal.splits }
+    {
+        let id = part_id(&self.setting.store, goal.id, &spot.trail);
+        Goal { number, id, ..goal }
+    }
+
+    // The goals of this pattern at the parts at these spots, as tasks: as many as answers were read,
+    // but one at least and all at most. The first one comes last.
+    fn asks_at(
+        &self,
+        spots: &[Spot],
+        number: usize,
+        goal: Goal,
+        answered: usize,
+    ) -> Result<Vec<Task>, NoMemory>
+        requires goal { IsAim self.now goal }
+        requires number { number < length (patterns_of_look self.now) }
+        requires some { 1 ≤ length spots.now }
+        requires places { (s : _) → In s (spots_of spots.now)
+            → IsPlace (aim_tree self.now goal) s.path }
+        ensures { IfOk result (λ tasks. AreAsked self.now.setting.now tasks.items) }
+    {
+        let count = spots.len().min(answered.max(1));
+        let mut tasks = Vec::with_capacity(self.setting.alloc, count)?;
+        for i in (0..count).rev() {
+            tasks.push(Task::Goal(self.goal_of_spot(&spots[i], number, goal)))?;
+        }
+        Ok(tasks)
+    }
+
+    /// The row of a goal whose pattern is the right part in the hole of the left one.
+    pub(crate) fn in_hole(&self, left: usize, right: usize, goal: Goal) -> Result<Row, Stop>
+        requires look { IsLook self.now }
+        requires goal { IsAim self.now goal }
+        requires left { left < length (patterns_of_look self.now) }
+        requires right { right < length (patterns_of_look self.now) }
+        requires pattern { aim_pattern self.now goal
+            ≡ in_hole (pattern_at (patterns_of_look self.now) left)
+            (pattern_at (patterns_of_look self.now) right) }
+        ensures found { IfOk result (λ row. Meets self.now goal row) }
+        ensures stop { Stops self.now.setting.now result }
+    {
+        let alloc = self.setting.alloc;
+        let mut next = 0;
+        let outer = Goal {
+            number: left,
+            id: goal.id,
+            splits: true,
+        };
+        let spots = self.part(outer, &mut next)?.spots;
+        let mut found = Vec::new(alloc);
+        let mut gathered = Gathered::new(alloc);
+        for i in 0..spots.len() {
+            let spot = &spots[i];
+            let Some(row) = self.row(self.goal_of_spot(spot, right, goal), &mut next)? else {
+                return Err(Stop::Asks(self.asks_at(&spots[i..], right, goal, next)?));
+            };
+            add_all_joins(alloc, &spot.binding, row.matches, &mut found)?;
+            add_going_on(alloc, spot, row.spots, &mut gathered)?;
+        }
+        let matches = listing(alloc, found)?;
+        let spots = gathered.distinct(alloc)?;
+        Ok(Row { matches, spots })
+    }
+}
