@@ -1,4 +1,5 @@
 pub mod Upto
+pub mod Whether
 pub mod OneReading
 pub mod OneText
 pub mod AllMet

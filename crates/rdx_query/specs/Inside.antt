@@ -7,3 +7,4 @@ pub mod Asking
 pub mod Steps
 pub mod Appending
 pub mod Contexts
+pub mod Whether

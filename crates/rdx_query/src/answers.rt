@@ -5,7 +5,7 @@ ghost use Rattle.rdx_query.specs.Views.{AllNamesKnown, known_in, queries_of};
 
 use crate::CheckedFile;
 use crate::match_answers::write_answer;
-use rdx_match::Plain;
+use rdx_table::Table;
 use rdx_term::NoMemory;
 use std::alloc::Global;
 
@@ -24,7 +24,7 @@ pub fn answer(alloc: Global, file: &CheckedFile) -> Result<Answered, NoMemory>
     ensures { IfOk result (λ a. AreAnswers (known_in file.now) (queries_of file.now)
         a.transcript.items a.met) }
 {
-    let mut matcher = Plain::new(alloc);
+    let mut matcher = Table::new(alloc)?;
     let mut transcript = Vec::new(alloc);
     let mut met = true;
     for query in &file.queries {

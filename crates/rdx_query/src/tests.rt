@@ -1,8 +1,12 @@
-// The file without forms, and calls of the crates below that no file makes so far.
-use crate::{answer, check_file};
-use rdx_lang::{Binding, Value};
+// The file without forms, both matchers side by side, and calls of the crates below that no file
+// makes so far.
+use crate::known::place_named;
+use crate::{Program, Query, answer, check_file};
+use rdx_lang::{Binding, CheckedPat, Matcher, Value};
+use rdx_match::Plain;
 use rdx_sexp::{datum_text, read_all};
-use rdx_term::{Name, Term};
+use rdx_table::Table;
+use rdx_term::{Name, NoMemory, Term};
 use std::process::Abort;
 use std::rc::RcStr;
 use std::test::Fail;
@@ -43,5 +47,62 @@ fn bindings_are_shared(rt: HostRuntime) -> Result<(), Fail> {
     pairs.push((name, Value::One(Term::Int(1))))?;
     let binding = Binding::new(pairs);
     assert!(rt; binding.share()? == binding);
+    Ok(())
+}
+
+// Names, contexts, repetitions with and without length names, and what matches in several ways.
+const QUERIES: &[u8] = b"(define-language A (e (+ e e) n) (n number) (E hole (+ E e) (+ n E)))
+(define-language B (e v x) (v x) (x variable))
+(define-language H (C hole (C any) (any C)))
+(redex-match A (in-hole E (+ n_1 n_2)) (term (+ (+ 1 2) (+ 3 4))))
+(redex-decompose A E (term (+ 1 2)))
+(redex-decompose A (hide-hole E) (term (+ 1 2)))
+(redex-match A (_ ..._a _ ..._b) (term (1 2)))
+(redex-match A (number_1 ...) (term ()))
+(redex-match A + (term +))
+(redex-match A ((number_1 ..._n) (number_2 ..._n)) (term ((1 2) (3))))
+(redex-match B e_1 (term a))
+(redex-match H (in-hole C hole) (term (hole hole)))
+(redex-match H ((in-hole C hole) (in-hole C 1)) (term ((hole hole) (hole 1))))";
+
+// Whether both matchers list the same of the pattern and the term, twice.
+fn agree(
+    plain: &mut Plain,
+    table: &mut Table,
+    program: &Program,
+    name: &Name,
+    pat: &CheckedPat,
+    t: &Term,
+) -> Result<bool, NoMemory> {
+    let Some(place) = place_named(program, name.text()) else {
+        return Ok(false);
+    };
+    let language = &program.languages[place];
+    let mut same = true;
+    for _ in 0..2 {
+        same &= plain.matches(language, pat, t)? == table.matches(language, pat, t)?;
+        same &= plain.splits(language, pat, t)? == table.splits(language, pat, t)?;
+    }
+    Ok(same)
+}
+
+#[test]
+fn both_matchers_agree(rt: HostRuntime) -> Result<(), Fail> {
+    let alloc = rt.alloc();
+    let data = read_all(alloc, QUERIES)?;
+    let file = check_file(alloc, &data).expect(&rt, "a file that is accepted");
+    let mut plain = Plain::new(alloc);
+    let mut table = Table::new(alloc)?;
+    assert_eq!(rt; file.queries.len(), 10);
+    for query in &file.queries {
+        match query {
+            Query::Match(name, pat, t)
+            | Query::Whether(name, pat, t)
+            | Query::Decompose(name, pat, t) => {
+                let same = agree(&mut plain, &mut table, &file.program, name, pat, t)?;
+                assert!(rt; same);
+            }
+        }
+    }
     Ok(())
 }

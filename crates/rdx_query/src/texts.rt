@@ -1,12 +1,14 @@
 // The texts of answers.
-ghost use Rattle.std.specs.Prelude.{◌≡◌, ◌++◌, OnOk, IsTrue, decimal, map};
+ghost use Rattle.std.specs.Prelude.{◌≡◌, ◌++◌, OnOk, IsTrue, List, decimal, map};
 ghost use Rattle.rdx_term.specs.Context.{is_context};
 ghost use Rattle.rdx_term.specs.View.{tree_of};
+ghost use Rattle.rdx_lang.specs.Bindings as bindings;
 ghost use Rattle.rdx_lang.specs.Bindings.{one, values};
 ghost use Rattle.rdx_lang.specs.BindingView.{value_of, pair_of};
 ghost use Rattle.rdx_lang.specs.Shown.{binding_of, bindings_of, decomposition_of, decompositions_of};
 ghost use Rattle.rdx_query.specs.AnswerText as text;
 ghost use Rattle.rdx_query.specs.Inside.Contexts.{HaveContexts};
+ghost use Rattle.rdx_query.specs.Inside.Whether as whether;
 
 use itoa::Buffer;
 use rdx_fill::path_of;
@@ -200,13 +202,15 @@ pub(crate) fn write_splits(
 }
 
 /// Whether there are some.
-pub(crate) fn write_whether(found: &[Binding], out: &mut Vec<u8>) -> Result<(), NoMemory>
-    ensures { OnOk result
-        (out.new.items ≡ out.old.items ++ text.whether_text (bindings_of found.now)) }
+pub(crate) fn write_whether(are_some: bool, out: &mut Vec<u8>) -> Result<(), NoMemory>
+    ensures { OnOk result ((found : List bindings.Binding) → are_some ≡ whether.are_some found
+        → out.new.items ≡ out.old.items ++ text.whether_text found) }
 {
-    match found {
-        [] => out.extend_from_slice(b"matches #f\n")?,
-        [_, ..] => out.extend_from_slice(b"matches #t\n")?,
-    }
+    let line: &[u8] = if are_some {
+        b"matches #t\n"
+    } else {
+        b"matches #f\n"
+    };
+    out.extend_from_slice(line)?;
     Ok(())
 }
