@@ -7,6 +7,7 @@ pub mod RunEnds
 pub mod WayLaws
 pub mod TurnRows
 pub mod TurnLoop
+pub mod TrailOrder
 pub mod SpotOrder
 pub mod Extended
 pub mod SplitRules

@@ -9,6 +9,7 @@ pub mod Ends
 pub mod Rows
 pub mod Turns
 pub mod Searching
+pub mod Trails
 pub mod Spots
 pub mod Splitting
 pub mod Inside

@@ -1,5 +1,5 @@
 -- Where patterns split terms: for a given term a split is fixed by the path to its part and by what the names stand for.
-use Rattle.std.specs.Prelude.{◌≡◌, ℕ, suc, List, [], ◌∷◌, Option, map, reverse}
+use Rattle.std.specs.Prelude.{◌≡◌, ℕ, suc, List, [], ◌∷◌, Option, map}
 use Rattle.rdx_term.specs.Tree.{Tree, Trees, cons}
 use Rattle.rdx_term.specs.AtPaths.{IsPlace, tree_at, context_at}
 use Rattle.rdx_lang.specs.Bindings.{Binding}
@@ -9,6 +9,7 @@ use Rattle.rdx_lang.specs.Names.{names}
 use Rattle.rdx_lang.specs.Patterns.{Pattern, Items, one, many, Language}
 use Rattle.rdx_lang.specs.Rules.{Match, MatchItems, MatchRun, Split}
 use Rattle.rdx_lang.specs.Shown.{binding_of}
+use Rattle.rdx_bind.specs.Trails.{trail_of}
 use Rattle.rdx_bind.specs.declared.spots.Spot as code
 
 -- the places from the root to the part, and what the names stand for
@@ -54,7 +55,7 @@ mutual
 
 -- the spot that a spot of the code stands for
 abbrev pub spot_of : code.Spot → Spot
-spot_of s = record { path = reverse s.trail.items; binding = binding_of s.binding }
+spot_of s = record { path = trail_of s.trail; binding = binding_of s.binding }
 
 -- spots in their order
 abbrev pub spots_of : List code.Spot → List Spot

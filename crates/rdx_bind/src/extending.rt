@@ -46,8 +46,7 @@ fn add_inner(
         (spots_of found.old.items) (spots_of found.new.items)) }
 {
     if let Some(binding) = join(alloc, &outer.binding, &inner.binding)? {
-        let mut trail = inner.trail;
-        trail.extend_from_slice(&outer.trail)?;
+        let trail = outer.trail.then(alloc, inner.trail)?;
         found.push(Spot { trail, binding })?;
     }
     Ok(())

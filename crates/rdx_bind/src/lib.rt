@@ -6,7 +6,7 @@
 //!
 //! The modules are for those who write a matcher: given what the parts of a pattern bind, and where they split their terms, they find
 //! what the whole does. Patterns that match by the term alone stand in [`atoms`]. A split is kept as a [`Spot`](spots::Spot), a path
-//! and a binding; [`extending`] and [`spots`] put spots together, and [`combining`] lists of bindings. A list pattern is cut by
+//! ([`Trail`](trail::Trail)) and a binding; [`extending`] and [`spots`] put spots together, and [`combining`] lists of bindings. A list pattern is cut by
 //! [`parts`]. What an item binds and where it splits is a [`Row`](rows::Row), and [`rows`] is what comes across rows. Items with
 //! repetitions are columns of rows, one for each place of the list, which are made where something is asked ([`asks`]): that of one
 //! item by [`columns`], that of a repetition by [`turns`].
@@ -30,6 +30,7 @@ mod splits;
 pub mod spots;
 #[cfg(test)]
 mod tests;
+pub mod trail;
 pub mod turn_matches;
 pub mod turn_spots;
 pub mod turns;

@@ -13,6 +13,7 @@ use crate::combining::{empty_where, is_no_names_alone, joins_of};
 use crate::joining::join;
 use crate::sorting::listing;
 use crate::spots::Spot;
+use crate::trail::Trail;
 use rdx_lang::Binding;
 use rdx_term::NoMemory;
 use std::alloc::Global;
@@ -72,8 +73,7 @@ pub fn shared_spots(alloc: Global, spots: &[Spot]) -> Result<Vec<Spot>, NoMemory
 {
     let mut found = Vec::with_capacity(alloc, spots.len())?;
     for spot in spots {
-        let mut trail = Vec::with_capacity(alloc, spot.trail.len())?;
-        trail.extend_from_slice(&spot.trail)?;
+        let trail = spot.trail.share()?;
         let binding = spot.binding.share()?;
         found.push(Spot { trail, binding })?;
     }
@@ -87,8 +87,7 @@ pub fn placed(alloc: Global, spots: Vec<Spot>, place: usize) -> Result<Vec<Spot>
     let mut rest = spots;
     let mut found = Vec::with_capacity(alloc, rest.len())?;
     while let Some(spot) = rest.pop() {
-        let mut trail = spot.trail;
-        trail.push(place)?;
+        let trail = Trail::within(alloc, place, spot.trail)?;
         found.push(Spot {
             trail,
             binding: spot.binding,
@@ -108,8 +107,7 @@ fn add_joined(
         (spots_of found.old.items) (spots_of found.new.items)) }
 {
     if let Some(binding) = join(alloc, &spot.binding, other)? {
-        let mut trail = Vec::with_capacity(alloc, spot.trail.len())?;
-        trail.extend_from_slice(&spot.trail)?;
+        let trail = spot.trail.share()?;
         found.push(Spot { trail, binding })?;
     }
     Ok(())

@@ -1,23 +1,23 @@
 //! Where patterns split terms.
-ghost use Rattle.std.specs.Prelude.{◌≡◌, ◌∷◌, [], map, IfOk, IsTrue, OnOk};
+ghost use Rattle.std.specs.Prelude.{◌≡◌, ◌∷◌, [], IfOk, IsTrue, OnOk};
 ghost use Rattle.rdx_lang.specs.Bindings.{no_names};
 ghost use Rattle.rdx_lang.specs.Inside.Collecting.{Adds, Arises};
 ghost use Rattle.rdx_lang.specs.Members.{In};
 ghost use Rattle.rdx_bind.specs.Spots.{spots_of};
 ghost use Rattle.rdx_bind.specs.Splitting.{Finds, IsNameless};
 
+use crate::trail::Trail;
 use rdx_lang::Binding;
 use rdx_term::NoMemory;
 use std::alloc::Global;
 use std::collections::BTreeSet;
 
-/// A way in which a pattern splits a term: the places on the way from the part up to the root, and
-/// what the names stand for.
+/// A way in which a pattern splits a term: the path from the root to the part, and what the names
+/// stand for.
 #[derive(PartialEq, Eq, PartialOrd, Ord, Drop)]
 pub struct Spot {
-    /// The path from the root to the part, backwards, so that one list more around the term is one
-    /// place more at the end.
-    pub trail: Vec<usize>,
+    /// The path from the root to the part.
+    pub trail: Trail,
     /// What the names of the pattern stand for.
     pub binding: Binding,
 }
@@ -29,7 +29,7 @@ pub fn whole(alloc: Global) -> Result<Vec<Spot>, NoMemory>
 {
     let mut found = Vec::with_capacity(alloc, 1)?;
     found.push(Spot {
-        trail: Vec::new(alloc),
+        trail: Trail::Here,
         binding: Binding::new(Vec::new(alloc)),
     })?;
     Ok(found)
@@ -62,15 +62,15 @@ fn without_names(alloc: Global, spots: Vec<Spot>) -> Result<Vec<Spot>, NoMemory>
     Ok(found)
 }
 
-// The spots of a set of them, each with the length of its path.
-fn spots_in(alloc: Global, set: BTreeSet<(usize, Spot)>) -> Result<Vec<Spot>, NoMemory>
-    ensures { IfOk result (λ spots. spots.items ≡ map (λ key. key.1) set.keys) }
+// The spots of a set of them.
+fn spots_in(alloc: Global, set: BTreeSet<Spot>) -> Result<Vec<Spot>, NoMemory>
+    ensures { IfOk result (λ spots. spots.items ≡ set.keys) }
 {
-    let spots = set.into_iter().map(|(_, spot)| spot).collect(alloc)?;
+    let spots = set.into_iter().collect(alloc)?;
     Ok(spots)
 }
 
-// The same, each once. They are compared by the lengths of their paths first, which mostly decide.
+// The same, each once.
 fn distinct(alloc: Global, spots: Vec<Spot>) -> Result<Vec<Spot>, NoMemory>
     ensures { Finds result (λ s. In s (spots_of spots.items)) }
 {
@@ -80,8 +80,7 @@ fn distinct(alloc: Global, spots: Vec<Spot>) -> Result<Vec<Spot>, NoMemory>
     let mut rest = spots;
     let mut set = BTreeSet::new(alloc);
     while let Some(spot) = rest.pop() {
-        let length = spot.trail.len();
-        set.insert((length, spot))?;
+        set.insert(spot)?;
     }
     spots_in(alloc, set)
 }

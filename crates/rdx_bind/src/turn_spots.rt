@@ -36,8 +36,7 @@ fn add_spot(
         (spots_of found.old.items) (spots_of found.new.items)) }
 {
     if let Some(binding) = join(alloc, first, other)? {
-        let mut trail = Vec::with_capacity(alloc, spot.trail.len())?;
-        trail.extend_from_slice(&spot.trail)?;
+        let trail = spot.trail.share()?;
         found.push(Spot { trail, binding })?;
     }
     Ok(())

@@ -1,2 +1,2 @@
 pub mod FilledItems
-pub mod Trails
+pub mod StepsDown

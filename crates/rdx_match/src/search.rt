@@ -116,7 +116,8 @@ impl<'a> Search<'a> {
         let spots = self.splits(left, t, room)?;
         let mut found = Vec::new(self.alloc);
         for spot in &spots {
-            let inners = self.matches(right, part_at(t, &spot.trail), room)?;
+            let path = spot.trail.places(self.alloc)?;
+            let inners = self.matches(right, part_at(t, &path), room)?;
             add_all_joins(self.alloc, &spot.binding, inners, &mut found)?;
         }
         listing(self.alloc, found)
@@ -265,7 +266,8 @@ impl<'a> Search<'a> {
         let spots = self.splits(left, t, room)?;
         let mut gathered = Gathered::new(self.alloc);
         for outer in &spots {
-            let inners = self.splits(right, part_at(t, &outer.trail), room)?;
+            let path = outer.trail.places(self.alloc)?;
+            let inners = self.splits(right, part_at(t, &path), room)?;
             add_going_on(self.alloc, outer, inners, &mut gathered)?;
         }
         gathered.distinct(self.alloc)

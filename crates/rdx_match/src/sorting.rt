@@ -22,8 +22,9 @@ fn split_at(alloc: Global, t: &Term, spot: Spot) -> Result<Split, NoMemory>
     requires { IsPlace (tree_of t.now) (spot_of spot).path }
     ensures { IfOk result (λ d. decomposition_of d ≡ split_of (tree_of t.now) (spot_of spot)) }
 {
-    let context = context_around(alloc, t, &spot.trail)?;
-    let part = part_at(t, &spot.trail).share()?;
+    let path = spot.trail.places(alloc)?;
+    let context = context_around(alloc, t, &path)?;
+    let part = part_at(t, &path).share()?;
     Ok(Split {
         context,
         part,

@@ -1,5 +1,5 @@
 // Spots and contexts of interned terms.
-ghost use Rattle.std.specs.Prelude.{◌≡◌, ◌<◌, IfOk, OnOk, length, reverse};
+ghost use Rattle.std.specs.Prelude.{◌≡◌, ◌<◌, IfOk, OnOk, length};
 ghost use Rattle.rdx_lang.specs.Inside.Collecting.{Adds, Arises};
 ghost use Rattle.rdx_lang.specs.Listing.{IsListing};
 ghost use Rattle.rdx_lang.specs.Members.{In};
@@ -9,28 +9,32 @@ ghost use Rattle.rdx_term.specs.AtPaths.{IsPlace, tree_at};
 ghost use Rattle.rdx_term.specs.View.{tree_of};
 ghost use Rattle.rdx_bind.specs.Spots.{spot_of, spots_of};
 ghost use Rattle.rdx_bind.specs.Splitting.{split_of, Finds, IsSplitAt, NamesContext};
+ghost use Rattle.rdx_bind.specs.Trails.{trail_of};
 ghost use Rattle.rdx_store.specs.Stored.{tree_by_id};
 
 use rdx_bind::extending::add_with_context;
 use rdx_bind::listing_splits;
 use rdx_bind::spots::Spot;
+use rdx_bind::trail::Trail;
 use rdx_fill::{context_around, part_at};
 use rdx_lang::Split;
 use rdx_store::{Store, TermId};
 use rdx_term::{Name, NoMemory, Term};
 use std::alloc::Global;
 
-/// The id of what stands in the term where the path leads. The trail is the path, backwards.
-pub(crate) fn part_id(store: &Store, id: TermId, trail: &[usize]) -> TermId
+/// The id of what stands in the term where the path leads.
+pub(crate) fn part_id(store: &Store, id: TermId, trail: &Trail) -> TermId
     requires id { id < length store.now }
-    requires place { IsPlace (tree_by_id store.now id) (reverse trail.now) }
+    requires place { IsPlace (tree_by_id store.now id) (trail_of trail.now) }
     ensures id { result < length store.now }
     ensures part { tree_by_id store.now result
-        ≡ tree_at (tree_by_id store.now id) (reverse trail.now) }
+        ≡ tree_at (tree_by_id store.now id) (trail_of trail.now) }
 {
     let mut part = id;
-    for i in (0..trail.len()).rev() {
-        part = store.items(part)[trail[i]];
+    let mut rest = trail;
+    while let Trail::Within(step) = rest {
+        part = store.items(part)[step.place];
+        rest = &step.rest;
     }
     part
 }
@@ -47,7 +51,8 @@ fn add_named(
     ensures { OnOk result (Adds (NamesContext name.now (tree_of t.now) (spot_of spot))
         (spots_of found.old.items) (spots_of found.new.items)) }
 {
-    let context = context_around(alloc, t, &spot.trail)?;
+    let path = spot.trail.places(alloc)?;
+    let context = context_around(alloc, t, &path)?;
     add_with_context(alloc, spot, name, &context, found)
 }
 
@@ -75,8 +80,9 @@ fn split_at(alloc: Global, t: &Term, spot: Spot) -> Result<Split, NoMemory>
     requires { IsPlace (tree_of t.now) (spot_of spot).path }
     ensures { IfOk result (λ d. decomposition_of d ≡ split_of (tree_of t.now) (spot_of spot)) }
 {
-    let context = context_around(alloc, t, &spot.trail)?;
-    let part = part_at(t, &spot.trail).share()?;
+    let path = spot.trail.places(alloc)?;
+    let context = context_around(alloc, t, &path)?;
+    let part = part_at(t, &path).share()?;
     Ok(Split {
         context,
         part,

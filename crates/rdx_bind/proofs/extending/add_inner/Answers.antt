@@ -1,6 +1,5 @@
-use Rattle.std.proofs.Common.{◌≡◌, ◌++◌, [], ◌∷◌, reverse, arith}
+use Rattle.std.proofs.Common.{◌≡◌, ◌++◌, [], ◌∷◌, refl, arith}
 use Rattle.std.proofs.lemmas.Grind.{common_steps}
-use Rattle.std.proofs.lemmas.List.{reverse-append}
 use Rattle.rdx_lang.proofs.Collecting.{adds_one}
 use Rattle.rdx_lang.specs.Join.{IsJoin}
 use Rattle.rdx_lang.specs.Shown.{binding_of}
@@ -13,8 +12,8 @@ pub returns-in_ok-push : goal.returns-in_ok-push
 returns-in_ok-push c =
     let s : Spot = spot_of c.args.outer.now in
     let u : Spot = spot_of c.args.inner in
-    let w : Spot = record { path = reverse (c.args.inner.trail.items ++ c.args.outer.now.trail.items); binding = binding_of c.in-Some.binding } in
+    let w : Spot = record { path = s.path ++ u.path; binding = binding_of c.in-Some.binding } in
     let e : spots_of c.push.new.self.items ≡ spots_of c.args.found.now.items ++ w ∷ [] = grind (arith, common_steps) in
     let j : IsJoin s.binding u.binding w.binding = rw c.in-Some.is at c.in_ok-binding.ensures.some in
-    let n : GoesOn s u w = record { along = reverse-append c.args.inner.trail.items c.args.outer.now.trail.items; joined = j } in
+    let n : GoesOn s u w = record { along = refl; joined = j } in
     adds_one (GoesOn s u) (spots_of c.args.found.now.items) (spots_of c.push.new.self.items) w e n (λ y m. one_on s u w y n m)

@@ -1,6 +1,5 @@
-use Rattle.std.proofs.Common.{◌≡◌, ◌++◌, List, [], ◌∷◌, reverse, refl, sym, ◌∙◌, arith}
+use Rattle.std.proofs.Common.{◌≡◌, ◌++◌, List, [], ◌∷◌, refl, sym, ◌∙◌, arith}
 use Rattle.std.proofs.lemmas.Grind.{common_steps}
-use Rattle.std.proofs.lemmas.List.{reverse-append}
 use Rattle.rdx_lang.proofs.Collecting.{adds_one}
 use Rattle.rdx_lang.specs.Inside.Collecting.{Adds}
 use Rattle.rdx_bind.proofs.Extended.{one_spot}
@@ -13,10 +12,10 @@ loop-spot-preserved c =
     let nothing : List Spot = [] in
     let n = c.args.place in
     let s : Spot = spot_of c.in-Some.spot in
-    let u : Spot = record { path = reverse (c.in-Some.spot.trail.items ++ n ∷ []); binding = s.binding } in
+    let u : Spot = record { path = n ∷ s.path; binding = s.binding } in
     let e : spots_of c.loop-spot.rest.items ≡ spots_of c.pop.new.self.items ++ s ∷ [] = grind (arith, common_steps) in
-    let f : spots_of c.push-in-Some.new.self.items ≡ spots_of c.loop-spot.found.items ++ u ∷ [] = grind (arith, common_steps) in
-    let p : IsPlaced n s u = record { path = reverse-append c.in-Some.spot.trail.items (n ∷ []); binding = refl } in
-    let a : Adds (IsPlaced n s) (spots_of c.loop-spot.found.items) (spots_of c.push-in-Some.new.self.items) =
-    adds_one (IsPlaced n s) (spots_of c.loop-spot.found.items) (spots_of c.push-in-Some.new.self.items) u f p (λ y q. one_spot y u (q.path ∙ sym p.path) q.binding) in
-    collects-last (IsPlaced n) (spots_of c.args.spots.items) nothing s (spots_of c.loop-spot.rest.items) (spots_of c.pop.new.self.items) (spots_of c.loop-spot.found.items) (spots_of c.push-in-Some.new.self.items) e c.loop-spot.invariant a
+    let f : spots_of c.push.new.self.items ≡ spots_of c.loop-spot.found.items ++ u ∷ [] = grind (arith, common_steps) in
+    let p : IsPlaced n s u = record { path = refl; binding = refl } in
+    let a : Adds (IsPlaced n s) (spots_of c.loop-spot.found.items) (spots_of c.push.new.self.items) =
+    adds_one (IsPlaced n s) (spots_of c.loop-spot.found.items) (spots_of c.push.new.self.items) u f p (λ y q. one_spot y u (q.path ∙ sym p.path) q.binding) in
+    collects-last (IsPlaced n) (spots_of c.args.spots.items) nothing s (spots_of c.loop-spot.rest.items) (spots_of c.pop.new.self.items) (spots_of c.loop-spot.found.items) (spots_of c.push.new.self.items) e c.loop-spot.invariant a

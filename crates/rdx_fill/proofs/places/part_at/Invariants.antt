@@ -1,10 +1,10 @@
-use Rattle.std.proofs.Common.{◌≡◌, take, reverse}
+use Rattle.std.proofs.Common.{◌≡◌, drop}
 use Rattle.rdx_term.specs.AtPaths.{IsPlace, tree_at}
 use Rattle.rdx_term.specs.View.{tree_of}
 use Rattle.rdx_fill.proofs.places.part_at.Given as goal
 
-abbrev pub invariant-loop-i : goal.invariant-loop-i
-invariant-loop-i l = record {
-  place : IsPlace (tree_of l.part) (reverse (take l.i l.trail));
-  same : tree_at (tree_of l.part) (reverse (take l.i l.trail)) ≡ tree_at (tree_of l.t) (reverse l.trail);
+abbrev pub invariant-loop-k : goal.invariant-loop-k
+invariant-loop-k l = record {
+  place : IsPlace (tree_of l.part) (drop l.k-index l.path);
+  same : tree_at (tree_of l.part) (drop l.k-index l.path) ≡ tree_at (tree_of l.t) l.path;
 }

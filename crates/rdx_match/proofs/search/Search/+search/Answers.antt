@@ -1,4 +1,4 @@
-use Rattle.std.proofs.Common.{arith, ◌≡◌, ℕ, suc, ◌+◌, nat_eq, true, false, ◌&&◌, List, [], ◌∷◌, ◌++◌, Some, None, length, drop, get_or, map, reverse, refl, ap, sym, ◌∙◌, subst, add-one, Option, take, IfSome, IsTrue}
+use Rattle.std.proofs.Common.{arith, ◌≡◌, ℕ, suc, ◌+◌, nat_eq, true, false, ◌&&◌, List, [], ◌∷◌, ◌++◌, Some, None, length, drop, get_or, map, refl, ap, sym, ◌∙◌, subst, add-one, Option, take, IfSome, IsTrue}
 use Rattle.std.proofs.Math.ListN.{set, get_or-map}
 use Rattle.std.proofs.lemmas.Grind.{common_steps}
 use Rattle.std.proofs.lemmas.List.{nil_from_length, map-set, length-map, drop_more}
@@ -283,7 +283,7 @@ match_in_hole-part_at-requires t c =
     let h : HasExactly (spots_of xs) (SplitsAt L (pattern_of c.args.left.now) (tree_of c.args.t.now)) =
     subst (λ ys. HasExactly (spots_of ys) (SplitsAt L (pattern_of c.args.left.now) (tree_of c.args.t.now))) (sym c.deref-spot-items.ensures.value) c.in_ok-spots.ensures in
     let a : In s (spots_of xs) = c.loop-spot.invariant.part s (In_along (s ∷ spots_of (drop (i + 1) xs)) (spots_of (drop i xs)) (sym e) (here refl)) in
-    subst (λ ks. IsPlace (tree_of c.args.t.now) (reverse ks)) (sym c.deref.ensures.value) (h.sound s a).inside
+    subst (IsPlace (tree_of c.args.t.now)) (sym (c.deref.ensures.value ∙ c.in_ok-path.ensures)) (h.sound s a).inside
 
 pub match_in_hole-loop-spot-preserved : goal.match_in_hole-loop-spot-preserved
 match_in_hole-loop-spot-preserved t c =
@@ -297,7 +297,7 @@ match_in_hole-loop-spot-preserved t c =
     let old : List Binding = bindings_of c.loop-spot.found.items in
     let new : List Binding = bindings_of c.add_all_joins.new.found.items in
     let e : spots_of (drop i xs) ≡ s ∷ spots_of (drop (i + 1) xs) = rest_at spot_of xs i c.spot-item.result c.loop-spot-test.true c.spot-item.is in
-    let f : u ≡ tree_at (tree_of c.args.t.now) s.path = c.part_at.ensures ∙ ap (λ ks. tree_at (tree_of c.args.t.now) (reverse ks)) c.deref.ensures.value in
+    let f : u ≡ tree_at (tree_of c.args.t.now) s.path = c.part_at.ensures ∙ ap (tree_at (tree_of c.args.t.now)) (c.deref.ensures.value ∙ c.in_ok-path.ensures) in
     let a : Adds (step s) old new = adds_matches s u (bindings_of c.in_ok-inners.inners.items) old new f c.in_ok-inners.ensures c.in_ok-add_all_joins.ensures in
     collects-next step (spots_of xs) nothing s (spots_of (drop i xs)) (spots_of (drop (i + 1) xs)) old new e c.loop-spot.invariant a
 
@@ -324,7 +324,7 @@ split_in_hole-part_at-requires t c =
     let h : HasExactly (spots_of xs) (SplitsAt L (pattern_of c.args.left.now) (tree_of c.args.t.now)) =
     subst (λ ys. HasExactly (spots_of ys) (SplitsAt L (pattern_of c.args.left.now) (tree_of c.args.t.now))) (sym c.deref-outer-items.ensures.value) c.in_ok-spots.ensures in
     let a : In s (spots_of xs) = c.loop-outer.invariant.part s (In_along (s ∷ spots_of (drop (i + 1) xs)) (spots_of (drop i xs)) (sym e) (here refl)) in
-    subst (λ ks. IsPlace (tree_of c.args.t.now) (reverse ks)) (sym c.deref.ensures.value) (h.sound s a).inside
+    subst (IsPlace (tree_of c.args.t.now)) (sym (c.deref.ensures.value ∙ c.in_ok-path.ensures)) (h.sound s a).inside
 
 pub split_in_hole-loop-outer-preserved : goal.split_in_hole-loop-outer-preserved
 split_in_hole-loop-outer-preserved t c =
@@ -338,7 +338,7 @@ split_in_hole-loop-outer-preserved t c =
     let old : List Spot = spots_of c.loop-outer.gathered.spots.items in
     let new : List Spot = spots_of c.add_going_on.new.gathered.spots.items in
     let e : spots_of (drop i xs) ≡ s ∷ spots_of (drop (i + 1) xs) = rest_at spot_of xs i c.outer-item.result c.loop-outer-test.true c.outer-item.is in
-    let f : u ≡ tree_at (tree_of c.args.t.now) s.path = c.part_at.ensures ∙ ap (λ ks. tree_at (tree_of c.args.t.now) (reverse ks)) c.deref.ensures.value in
+    let f : u ≡ tree_at (tree_of c.args.t.now) s.path = c.part_at.ensures ∙ ap (tree_at (tree_of c.args.t.now)) (c.deref.ensures.value ∙ c.in_ok-path.ensures) in
     let a : Adds (step s) old new =
     adds_splits s u (spots_of c.in_ok-inners.inners.items) old new f c.in_ok-inners.ensures c.in_ok-add_going_on.ensures in
     collects-next step (spots_of xs) nothing s (spots_of (drop i xs)) (spots_of (drop (i + 1) xs)) old new e c.loop-outer.invariant a

@@ -1,8 +1,6 @@
--- Trails, which are paths backwards, and the items to which they lead.
-use Rattle.std.proofs.Common.{◌≡◌, ℕ, ◌+◌, ◌<◌, Some, List, [], ◌∷◌, length, get_or, take, reverse, sym, ◌∙◌, ap, subst, add-one}
+-- Paths, step by step, and the items to which they lead.
+use Rattle.std.proofs.Common.{◌≡◌, ℕ, ◌<◌, Some, List, ◌∷◌, length, get_or, sym, ◌∙◌, ap, subst}
 use Rattle.std.proofs.Math.ListN.{set}
-use Rattle.std.proofs.Math.Seq.{take-suc}
-use Rattle.std.proofs.lemmas.List.{reverse-append}
 use Rattle.rdx_term.specs.AtPaths.{IsPlace, tree_at, context_at}
 use Rattle.rdx_term.specs.Items.{tree_items, trees_count, item_at, put_at}
 use Rattle.rdx_term.specs.Limits.{KeepsLimits}
@@ -13,11 +11,6 @@ use Rattle.rdx_term.specs.declared.term.Term.{Term}
 use Rattle.rdx_term.proofs.AtPaths.{KeepsLimits-context_at}
 use Rattle.rdx_term.proofs.PutItems.{trees_count-trees_of, item_at-trees_of, item_at-other, trees_of-set}
 
--- the path of a part of a trail begins with the place that is last in that part
-pub first_step : (ks : List ℕ) (i j : ℕ) → i ≡ j + 1 → j < length ks → reverse (take i ks) ≡ get_or ks j 0 ∷ reverse (take j ks)
-first_step ks i j e h =
-    ap (λ n. reverse (take n ks)) (e ∙ add-one j) ∙ ap reverse (take-suc ks j 0 h) ∙ reverse-append (take j ks) (get_or ks j 0 ∷ [])
-
 -- the items of a tree, as terms: there is a term at each place
 pub place_in : (t : Tree) (xs : List Term) (k : ℕ) → trees_of xs ≡ tree_items t → k < trees_count (tree_items t) → k < length xs
 place_in t xs k e h = subst (λ n. k < n) (ap trees_count (sym e) ∙ trees_count-trees_of xs) h
@@ -27,7 +20,7 @@ pub item_in : (t : Tree) (xs : List Term) (k : ℕ) (x : Term) → trees_of xs �
 item_in t xs k x e h f =
     item_at-other (tree_items t) k t (tree_of x) h ∙ ap (λ (ts : Trees). item_at ts k (tree_of x)) (sym e) ∙ item_at-trees_of xs k x ∙ ap tree_of (sym f)
 
--- one step down a trail: the item at its last place
+-- one step down a path: the item at its first place
 pub record StepDown (t : Tree) (ks : List ℕ) (xs : List Term) (k : ℕ) : Type 0 where
   pub inside : k < trees_count (tree_items t)
   pub bound : k < length xs
