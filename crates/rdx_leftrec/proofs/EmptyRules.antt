@@ -15,7 +15,8 @@ use Rattle.rdx_lang.specs.declared.pattern.Ref.{Ref}
 use Rattle.rdx_leftrec.specs.Inside.EmptyRules.{Rule, Follows, follows, AreWithin, IsLeast, is_empty_alone, may_be_empty, needs, alternatives_rules, definitions_rules, language_rules, empty_by}
 use Rattle.rdx_leftrec.specs.Inside.Leads.{place, places}
 use Rattle.rdx_leftrec.specs.Inside.Reach.{IsMarked}
-use Rattle.rdx_leftrec.proofs.Lists.{At, at-in, in-at, at_same, at-length}
+use Rattle.rdx_leftrec.specs.Inside.Lists.{At}
+use Rattle.rdx_leftrec.proofs.Lists.{at-in, in-at, at_same, at-length}
 use Rattle.rdx_leftrec.proofs.Marks.{marked-inside, marked-replicate}
 use Rattle.rdx_leftrec.proofs.Places.{place-at, at-place, inside-place, all_alternatives-in, are_known, in-chosen, chosen-in}
 

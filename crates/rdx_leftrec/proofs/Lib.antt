@@ -1,9 +1,14 @@
 pub mod Lists
+pub mod Sorted
 pub mod Marks
-pub mod Rounds
-pub mod Exploring
+pub mod Occurring
+pub mod Deducing
 pub mod Places
 pub mod EmptyRules
 pub mod Paths
-pub mod Counting
+pub mod Walking
+pub mod WalkEnds
+pub mod ComponentNumbers
+pub mod Scaling
 pub mod Falling
+pub mod IndexPlaces

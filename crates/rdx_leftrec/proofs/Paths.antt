@@ -1,5 +1,7 @@
 -- Paths between places are left edges between nonterminals, and the first place that reaches itself is the first recursive nonterminal.
-use Rattle.std.proofs.Common.{◌≡◌, ℕ, zero, suc, ◌<◌, Bool, true, List, [], ◌∷◌, length, take, drop, refl, sym, subst, ◌⊎◌, inl, inr, arith, if◌then◌else◌}
+use Rattle.std.proofs.Common.{◌≡◌, ℕ, zero, suc, ◌<◌, Bool, true, List, [], ◌∷◌, length, get_or, take, drop, refl, sym, subst, ◌⊎◌, inl, inr, arith, if◌then◌else◌}
+use Rattle.std.specs.Prelude.{Vec}
+use Rattle.std.specs.declared.alloc.Global.{Global}
 use Rattle.std.proofs.lemmas.List.{length-map}
 use Rattle.rdx_lang.specs.Edges.{Edge, edge_nt, edge_named, edge_hide_hole, edge_closed, edge_left, edge_right, Reaches, at_once, further, IsRecursive, IsFirstRecursive}
 use Rattle.rdx_lang.specs.Empty.{TellsEmpty, is_empty}
@@ -12,12 +14,13 @@ use Rattle.rdx_lang.proofs.Emptiness.{is_empty-exact}
 use Rattle.rdx_lang.proofs.FirstRecursive.{first_recursive-same}
 use Rattle.rdx_lang.proofs.MemberLaws.{in-append, append-left, append-right, in-map, map-in}
 use Rattle.rdx_leftrec.specs.Recursion.{IsRecursionOf, Names}
-use Rattle.rdx_leftrec.specs.Inside.Leads.{leads, all_leads, place, places, targets_of}
-use Rattle.rdx_leftrec.specs.Inside.Numbers.{IsFirst}
+use Rattle.rdx_leftrec.specs.Inside.Leads.{leads, all_leads, place, places, targets_of, lists_of}
+use Rattle.rdx_leftrec.specs.Inside.Components.{IsFirst}
 use Rattle.rdx_leftrec.specs.Inside.Reach.{targets_at, Path, once, more, AreTargets}
 use Rattle.rdx_leftrec.specs.declared.recursion.LeftRec.{LeftRec}
 use Rattle.rdx_leftrec.specs.declared.recursion.LeftRec.TheVariants.{LeftRecursive, NoMemory}
-use Rattle.rdx_leftrec.proofs.Lists.{At, at_inside, at-length, at-in, in-at, at_same, at-map, at-split, in-take}
+use Rattle.rdx_leftrec.specs.Inside.Lists.{At}
+use Rattle.rdx_leftrec.proofs.Lists.{at_read, at_inside, at-length, at-in, in-at, at_same, at-map, at-split, in-take}
 use Rattle.rdx_leftrec.proofs.Places.{place-at, at-place, are_known, in-chosen, chosen-in, leads-among, all_leads-in, in-all_leads}
 
 -- left edges after left edges
@@ -26,10 +29,14 @@ reaches_on (at_once e) k = further e k
 reaches_on (further e h) k = further e (reaches_on h k)
 
 -- a place that has targets is one
-targets_at-inside : (ts : List (List ℕ)) (i k : ℕ) → In k (targets_at ts i) → i < length ts
+pub targets_at-inside : (ts : List (List ℕ)) (i k : ℕ) → In k (targets_at ts i) → i < length ts
 targets_at-inside [] i k h = elim h [ ]
 targets_at-inside (t ∷ ts) zero k h = omega arith
 targets_at-inside (t ∷ ts) (suc i) k h = let n = targets_at-inside ts i k h in omega arith
+
+-- the targets that are read at a place
+pub targets_at-read : (vs : List (Vec ℕ Global)) (i : ℕ) (v : Vec ℕ Global) → i < length vs → v ≡ get_or vs i v → targets_at (lists_of vs) i ≡ v.items
+targets_at-read vs i v h e = at-map (λ (u : Vec ℕ Global). u.items) vs i v [] (at_read vs i v h e)
 
 -- a step before a path
 pub path-before : (ts : List (List ℕ)) (i j k : ℕ) → In j (targets_at ts i) → Path ts j k → Path ts i k

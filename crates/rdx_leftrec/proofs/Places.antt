@@ -12,7 +12,8 @@ use Rattle.rdx_lang.specs.References.{is_same, is_among, are_distinct}
 use Rattle.rdx_lang.specs.WellFormed.{has_known_nonterminals, is_well_formed, all_patterns, all_alternatives, defined, IsWellFormed}
 use Rattle.rdx_lang.specs.declared.pattern.Ref.{Ref}
 use Rattle.rdx_leftrec.specs.Inside.Leads.{leads, all_leads, place}
-use Rattle.rdx_leftrec.proofs.Lists.{At, at-in}
+use Rattle.rdx_leftrec.specs.Inside.Lists.{At}
+use Rattle.rdx_leftrec.proofs.Lists.{at-in}
 
 -- the nonterminals of definitions
 abbrev pub nonterminals_of : List Definition → List Ref

@@ -1,7 +1,13 @@
 pub mod Leads
+pub mod Index
+pub mod Language
+pub mod Lists
 pub mod Reach
+pub mod Components
+pub mod Found
+pub mod Walks
 pub mod Marking
 pub mod EmptyRules
-pub mod Rounds
+pub mod Deductions
 pub mod Numbers
 pub mod Preorder

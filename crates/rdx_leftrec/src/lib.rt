@@ -5,12 +5,15 @@
 //! numbers fall along every left edge, or names the first nonterminal that reaches itself.
 #![tactic(auto)]
 
+mod components;
+mod deduction;
 mod edges;
 mod empty;
+mod nonterminals;
 mod ranks;
-mod reach;
 mod recursion;
 #[cfg(test)]
 mod tests;
+mod walk;
 
 pub use recursion::{LeftRec, check};

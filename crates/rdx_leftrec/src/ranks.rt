@@ -1,16 +1,19 @@
-// Ranks for the nodes of a language's patterns, from how many nonterminals each one reaches.
+// Ranks for the nodes of a language's patterns, from numbers of its nonterminals that fall along
+// every step.
 ghost use Rattle.std.specs.Prelude.{◌≡◌, ◌<◌, ◌+◌, ◌++◌, ◌&&◌, IfOk, OnOk, length, map, max, slice_set, if◌then◌else◌};
 ghost use Rattle.rdx_lang.specs.Empty.{TellsEmpty, is_empty};
 ghost use Rattle.rdx_lang.specs.PatternView.{pattern_of, patterns_of, language_of, slot_of, items_of};
 ghost use Rattle.rdx_lang.specs.Ranks.{AreRanks};
 ghost use Rattle.rdx_lang.specs.LeftNumbers.{left_number};
 ghost use Rattle.rdx_lang.specs.WellFormed.{IsWellFormed};
+ghost use Rattle.rdx_leftrec.specs.Inside.Components.{AreFalling};
 ghost use Rattle.rdx_leftrec.specs.Inside.EmptyRules.{empty_by};
+ghost use Rattle.rdx_leftrec.specs.Inside.Language.{language_at};
 ghost use Rattle.rdx_leftrec.specs.Inside.Leads.{targets_of};
-ghost use Rattle.rdx_leftrec.specs.Inside.Numbers.{AreCounts, number_in, scaled, height, height_among, height_in};
+ghost use Rattle.rdx_leftrec.specs.Inside.Numbers.{number_in, scaled, height, height_among, height_in};
 ghost use Rattle.rdx_leftrec.specs.Inside.Preorder.{pattern_ranks, items_ranks, patterns_ranks, definitions_ranks};
 
-use crate::edges::place;
+use crate::nonterminals::Nonterminals;
 use rdx_lang::{Item, Language, Pat, Ranks, Ref};
 use rdx_term::NoMemory;
 use std::alloc::Global;
@@ -61,14 +64,14 @@ fn height_in(language: &Language) -> Result<usize, NoMemory>
     Ok(most)
 }
 
-// A number for each nonterminal. Where one is too large for the machine, the language has more than
-// 2^32 nonterminals or patterns around one, which memory doesn't hold.
-fn numbers(alloc: Global, counts: &[usize], scale: usize) -> Result<Vec<usize>, NoMemory>
-    ensures { IfOk result (λ v. v.items ≡ scaled scale counts.now) }
+// These numbers of nonterminals, with room between them. Where one is too large for the machine,
+// the language has more than 2^32 nonterminals or patterns around one, which memory doesn't hold.
+fn scaled(alloc: Global, falling: &[usize], scale: usize) -> Result<Vec<usize>, NoMemory>
+    ensures { IfOk result (λ v. v.items ≡ scaled scale falling.now) }
 {
     let mut numbers = Vec::new(alloc);
-    for count in counts {
-        let more = count.checked_add(1).ok_or(NoMemory)?;
+    for number in falling {
+        let more = number.checked_add(1).ok_or(NoMemory)?;
         numbers.push(more.checked_mul(scale).ok_or(NoMemory)?)?;
     }
     Ok(numbers)
@@ -109,11 +112,16 @@ impl Root {
 }
 
 // That of a nonterminal.
-fn nonterminal(language: &Language, empty: &[bool], numbers: &[usize], name: &Ref) -> Root
-    ensures rank { result.rank ≡ number_in (language_of language.now) numbers.now name.now }
-    ensures empty { result.empty ≡ empty_by (language_of language.now) empty.now name.now }
+fn nonterminal(
+    nonterminals: &Nonterminals<'_>,
+    empty: &[bool],
+    numbers: &[usize],
+    name: &Ref,
+) -> Root
+    ensures rank { result.rank ≡ number_in (language_at nonterminals.now) numbers.now name.now }
+    ensures empty { result.empty ≡ empty_by (language_at nonterminals.now) empty.now name.now }
 {
-    let place = place(language, name);
+    let place = nonterminals.place(name);
     Root {
         rank: numbers.get(place).copied().unwrap_or(0),
         empty: empty.get(place).copied().unwrap_or(false),
@@ -133,20 +141,20 @@ fn write_root(ranks: &mut Vec<usize>, at: usize, root: Root) -> Root
 // Adds the ranks of the nodes of a pattern, in pre-order.
 #[cycle(ranking)]
 fn rank_nodes(
-    language: &Language,
+    nonterminals: &Nonterminals<'_>,
     empty: &[bool],
     numbers: &[usize],
     pat: &Pat,
     ranks: &mut Vec<usize>,
 ) -> Result<Root, NoMemory>
     ensures ranks { OnOk result (ranks.new.items ≡ ranks.old.items ++
-        pattern_ranks (empty_by (language_of language.now) empty.now)
-        (number_in (language_of language.now) numbers.now) (pattern_of pat.now)) }
+        pattern_ranks (empty_by (language_at nonterminals.now) empty.now)
+        (number_in (language_at nonterminals.now) numbers.now) (pattern_of pat.now)) }
     ensures rank { IfOk result (λ r. r.rank ≡
-        left_number (empty_by (language_of language.now) empty.now)
-        (number_in (language_of language.now) numbers.now) (pattern_of pat.now)) }
+        left_number (empty_by (language_at nonterminals.now) empty.now)
+        (number_in (language_at nonterminals.now) numbers.now) (pattern_of pat.now)) }
     ensures empty { IfOk result (λ r. r.empty ≡
-        is_empty (empty_by (language_of language.now) empty.now) (pattern_of pat.now)) }
+        is_empty (empty_by (language_at nonterminals.now) empty.now) (pattern_of pat.now)) }
 {
     let at = ranks.len();
     ranks.push(0)?;
@@ -160,27 +168,27 @@ fn rank_nodes(
             empty: true,
         }),
         Pat::Nt(name) => {
-            let root = nonterminal(language, empty, numbers, name);
+            let root = nonterminal(nonterminals, empty, numbers, name);
             Ok(write_root(ranks, at, root))
         }
         Pat::Named(_, inner) | Pat::Closed(inner) => {
-            let part = rank_nodes(language, empty, numbers, inner, ranks)?;
+            let part = rank_nodes(nonterminals, empty, numbers, inner, ranks)?;
             let root = part.around(part.empty)?;
             Ok(write_root(ranks, at, root))
         }
         Pat::InHole(left, right) => {
-            let left = rank_nodes(language, empty, numbers, left, ranks)?;
-            let right = rank_nodes(language, empty, numbers, right, ranks)?;
+            let left = rank_nodes(nonterminals, empty, numbers, left, ranks)?;
+            let right = rank_nodes(nonterminals, empty, numbers, right, ranks)?;
             let root = left.with(right)?;
             Ok(write_root(ranks, at, root))
         }
         Pat::HideHole(inner) => {
-            let part = rank_nodes(language, empty, numbers, inner, ranks)?;
+            let part = rank_nodes(nonterminals, empty, numbers, inner, ranks)?;
             let root = part.around(false)?;
             Ok(write_root(ranks, at, root))
         }
         Pat::Seq(items) => {
-            rank_items(language, empty, numbers, items, ranks)?;
+            rank_items(nonterminals, empty, numbers, items, ranks)?;
             Ok(Root {
                 rank: 0,
                 empty: false,
@@ -192,37 +200,37 @@ fn rank_nodes(
 // Adds the ranks of the nodes of items.
 #[cycle(ranking)]
 fn rank_items(
-    language: &Language,
+    nonterminals: &Nonterminals<'_>,
     empty: &[bool],
     numbers: &[usize],
     items: &[Item],
     ranks: &mut Vec<usize>,
 ) -> Result<(), NoMemory>
     ensures { OnOk result (ranks.new.items ≡ ranks.old.items ++
-        items_ranks (empty_by (language_of language.now) empty.now)
-        (number_in (language_of language.now) numbers.now) (items_of (map slot_of items.now))) }
+        items_ranks (empty_by (language_at nonterminals.now) empty.now)
+        (number_in (language_at nonterminals.now) numbers.now) (items_of (map slot_of items.now))) }
 {
     for item in items {
         let (Item::One(pat) | Item::Many(pat, _)) = item;
-        rank_nodes(language, empty, numbers, pat, ranks)?;
+        rank_nodes(nonterminals, empty, numbers, pat, ranks)?;
     }
     Ok(())
 }
 
 // Adds the ranks of the nodes of these patterns.
 fn rank_patterns(
-    language: &Language,
+    nonterminals: &Nonterminals<'_>,
     empty: &[bool],
     numbers: &[usize],
     alternatives: &[Pat],
     ranks: &mut Vec<usize>,
 ) -> Result<(), NoMemory>
     ensures { OnOk result (ranks.new.items ≡ ranks.old.items ++
-        patterns_ranks (empty_by (language_of language.now) empty.now)
-        (number_in (language_of language.now) numbers.now) (patterns_of alternatives.now)) }
+        patterns_ranks (empty_by (language_at nonterminals.now) empty.now)
+        (number_in (language_at nonterminals.now) numbers.now) (patterns_of alternatives.now)) }
 {
     for pat in alternatives {
-        rank_nodes(language, empty, numbers, pat, ranks)?;
+        rank_nodes(nonterminals, empty, numbers, pat, ranks)?;
     }
     Ok(())
 }
@@ -230,41 +238,42 @@ fn rank_patterns(
 // The ranks of the nodes of all alternatives, from a number for each nonterminal.
 fn rank_language(
     alloc: Global,
-    language: &Language,
+    nonterminals: &Nonterminals<'_>,
     empty: &[bool],
     numbers: &[usize],
 ) -> Result<Vec<usize>, NoMemory>
     ensures { IfOk result (λ v. v.items ≡
-        definitions_ranks (empty_by (language_of language.now) empty.now)
-        (number_in (language_of language.now) numbers.now)
-        (language_of language.now).nonterminals) }
+        definitions_ranks (empty_by (language_at nonterminals.now) empty.now)
+        (number_in (language_at nonterminals.now) numbers.now)
+        (language_at nonterminals.now).nonterminals) }
 {
     let mut ranks = Vec::new(alloc);
-    for (_, alternatives) in &language.nts {
-        rank_patterns(language, empty, numbers, alternatives, &mut ranks)?;
+    for (_, alternatives) in &nonterminals.language.nts {
+        rank_patterns(nonterminals, empty, numbers, alternatives, &mut ranks)?;
     }
     Ok(ranks)
 }
 
-// Ranks that fall along every left edge, where it is known which nonterminals are Empty, how many
-// each reaches, and that none reaches itself.
+// Ranks that fall along every left edge, where it is known which nonterminals are Empty, from
+// numbers of the nonterminals that fall along every step.
 pub(crate) fn ranks(
     alloc: Global,
-    language: &Language,
+    nonterminals: &Nonterminals<'_>,
     empty: &[bool],
-    counts: &[usize],
+    falling: &[usize],
 ) -> Result<Ranks, NoMemory>
-    requires well_formed { IsWellFormed (language_of language.now) }
-    requires empty { TellsEmpty (language_of language.now)
-        (empty_by (language_of language.now) empty.now) }
-    requires size { length counts.now ≡ length (targets_of
-        (empty_by (language_of language.now) empty.now) (language_of language.now)) }
-    requires counts { AreCounts (targets_of
-        (empty_by (language_of language.now) empty.now) (language_of language.now)) counts.now }
-    ensures { IfOk result (λ r. AreRanks (language_of language.now) r.of.items) }
+    requires well_formed { IsWellFormed (language_at nonterminals.now) }
+    requires empty { TellsEmpty (language_at nonterminals.now)
+        (empty_by (language_at nonterminals.now) empty.now) }
+    requires falling { AreFalling (targets_of
+        (empty_by (language_at nonterminals.now) empty.now)
+        (language_at nonterminals.now)) falling.now }
+    ensures { IfOk result (λ r. AreRanks (language_at nonterminals.now) r.of.items) }
 {
-    let scale = height_in(language)?.checked_add(1).ok_or(NoMemory)?;
-    let numbers = numbers(alloc, counts, scale)?;
-    let of = rank_language(alloc, language, empty, &numbers)?;
+    let scale = height_in(nonterminals.language)?
+        .checked_add(1)
+        .ok_or(NoMemory)?;
+    let numbers = scaled(alloc, falling, scale)?;
+    let of = rank_language(alloc, nonterminals, empty, &numbers)?;
     Ok(Ranks { of })
 }

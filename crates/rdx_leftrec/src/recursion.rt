@@ -7,13 +7,15 @@ ghost use Rattle.rdx_lang.specs.Ranks.{AreRanks};
 ghost use Rattle.rdx_lang.specs.WellFormed.{IsWellFormed};
 ghost use Rattle.rdx_leftrec.specs.Recursion.{IsRecursionOf, IsNamed};
 ghost use Rattle.rdx_leftrec.specs.Inside.EmptyRules.{empty_by};
+ghost use Rattle.rdx_leftrec.specs.Inside.Language.{language_at};
 ghost use Rattle.rdx_leftrec.specs.Inside.Leads.{targets_of};
-ghost use Rattle.rdx_leftrec.specs.Inside.Numbers.{IsFirst};
+ghost use Rattle.rdx_leftrec.specs.Inside.Components.{IsFirst};
 
+use crate::components::Found;
 use crate::edges::targets;
 use crate::empty::empty_nonterminals;
+use crate::nonterminals::Nonterminals;
 use crate::ranks::ranks;
-use crate::reach::{Walked, walk};
 use rdx_lang::laws::ranks_fall;
 use rdx_lang::{Language, Ranks, Ref};
 use rdx_term::NoMemory;
@@ -40,17 +42,34 @@ impl From<NoMemory> for LeftRec {
 }
 
 // The refusal that names the nonterminal at this place, the first that reaches itself.
-fn refusal(language: &Language, empty: &[bool], place: usize) -> LeftRec
-    requires well_formed { IsWellFormed (language_of language.now) }
-    requires empty { TellsEmpty (language_of language.now)
-        (empty_by (language_of language.now) empty.now) }
+fn refusal(nonterminals: &Nonterminals<'_>, empty: &[bool], place: usize) -> LeftRec
+    requires well_formed { IsWellFormed (language_at nonterminals.now) }
+    requires empty { TellsEmpty (language_at nonterminals.now)
+        (empty_by (language_at nonterminals.now) empty.now) }
     requires first { IsFirst (targets_of
-        (empty_by (language_of language.now) empty.now) (language_of language.now)) place }
-    ensures { IsRecursionOf (language_of language.now) result }
+        (empty_by (language_at nonterminals.now) empty.now) (language_at nonterminals.now)) place }
+    ensures { IsRecursionOf (language_at nonterminals.now) result }
 {
-    match language.nts[place].0.share() {
+    match nonterminals.language.nts[place].0.share() {
         Ok(name) => LeftRec::LeftRecursive(name),
         Err(_) => LeftRec::NoMemory,
+    }
+}
+
+// Ranks for the language of these nonterminals, or the first one that reaches itself.
+fn check_all(alloc: Global, nonterminals: &Nonterminals<'_>) -> Result<Ranks, LeftRec>
+    requires { IsWellFormed (language_at nonterminals.now) }
+    ensures ranks { IfOk result (λ r. AreRanks (language_at nonterminals.now) r.of.items) }
+    ensures free { IfOk result (λ r. IsFree (language_at nonterminals.now)) }
+    ensures recursive { IfErr result (IsRecursionOf (language_at nonterminals.now)) }
+    ensures exact { IsNamed (language_at nonterminals.now) result }
+{
+    ranks_fall();
+    let empty = empty_nonterminals(alloc, nonterminals)?;
+    let targets = targets(alloc, nonterminals, &empty)?;
+    match Found::of(alloc, &targets)? {
+        Found::Recursive(place) => Err(refusal(nonterminals, &empty, place)),
+        Found::Numbers(falling) => Ok(ranks(alloc, nonterminals, &empty, &falling)?),
     }
 }
 
@@ -63,11 +82,6 @@ pub fn check(alloc: Global, language: &Language) -> Result<Ranks, LeftRec>
     ensures recursive { IfErr result (IsRecursionOf (language_of language.now)) }
     ensures exact { IsNamed (language_of language.now) result }
 {
-    ranks_fall();
-    let empty = empty_nonterminals(alloc, language)?;
-    let targets = targets(alloc, language, &empty)?;
-    match walk(alloc, &targets)? {
-        Walked::Recursive(place) => Err(refusal(language, &empty, place)),
-        Walked::Counts(counts) => Ok(ranks(alloc, language, &empty, &counts)?),
-    }
+    let nonterminals = Nonterminals::new(alloc, language)?;
+    check_all(alloc, &nonterminals)
 }

@@ -273,3 +273,73 @@ fn first_recursive_with_contexts(rt: HostRuntime) -> Result<(), Fail> {
     }
     Ok(())
 }
+
+const SIZE: usize = 300;
+
+// The name of the nonterminal with this number: one letter, and as many more.
+fn numbered(alloc: Global, number: usize) -> Result<Name, NoMemory> {
+    let mut text = String::new(alloc);
+    for _ in 0..=number {
+        text.push('n')?;
+    }
+    name(alloc, &text)
+}
+
+// The language of nonterminals that lead to those with these numbers, or to none.
+fn linked(alloc: Global, links: &[Option<usize>]) -> Result<Language, NoMemory> {
+    let mut nts = Vec::new(alloc);
+    for (number, link) in links.iter().enumerate() {
+        let mut alternatives = Vec::new(alloc);
+        match link {
+            Some(other) => alternatives.push(Pat::Nt(Ref::Nt(numbered(alloc, *other)?)))?,
+            None => alternatives.push(Pat::Kind(Kind::Any))?,
+        }
+        nts.push((Ref::Nt(numbered(alloc, number)?), alternatives))?;
+    }
+    let name = name(alloc, "L")?;
+    Ok(Language { name, nts })
+}
+
+// Whether the check names the nonterminal with this text in this language, or none.
+fn names(alloc: Global, links: &[Option<usize>], expected: Option<&str>) -> Result<bool, NoMemory> {
+    let language = linked(alloc, links)?;
+    if !language.is_well_formed(alloc)? {
+        return Ok(false);
+    }
+    let found = check(alloc, &language);
+    Ok(is_named(&found, expected))
+}
+
+#[test]
+fn long_chain_forwards(rt: HostRuntime) -> Result<(), Fail> {
+    let mut links = Vec::new(rt.alloc());
+    for number in 1..SIZE {
+        links.push(Some(number))?;
+    }
+    links.push(None)?;
+    assert!(rt; names(rt.alloc(), &links, None)?);
+    Ok(())
+}
+
+#[test]
+fn long_chain_backwards(rt: HostRuntime) -> Result<(), Fail> {
+    let mut links = Vec::new(rt.alloc());
+    links.push(None)?;
+    for number in 1..SIZE {
+        links.push(Some(number - 1))?;
+    }
+    assert!(rt; names(rt.alloc(), &links, None)?);
+    Ok(())
+}
+
+// The first nonterminal leads to the ring of all others, and isn't on it.
+#[test]
+fn ring_behind_the_first(rt: HostRuntime) -> Result<(), Fail> {
+    let mut links = Vec::new(rt.alloc());
+    for number in 1..SIZE {
+        links.push(Some(number))?;
+    }
+    links.push(Some(1))?;
+    assert!(rt; names(rt.alloc(), &links, Some("nn"))?);
+    Ok(())
+}

@@ -1,35 +1,9 @@
--- How many places are reached from each place.
-use Rattle.std.specs.Prelude.{◌≡◌, ◌+◌, ◌*◌, ◌<◌, ℕ, Bool, max, List, [], ◌∷◌, length, map, slice_index}
+-- Numbers of nonterminals, and the heights of patterns.
+use Rattle.std.specs.Prelude.{◌+◌, ◌*◌, ℕ, max, List, [], ◌∷◌, map, slice_index}
 use Rattle.rdx_lang.specs.Patterns.{Pattern, wild, of_kind, except, prefix, hole, lit, nt, named, in_hole, hide_hole, closed, seq, Definition, Language}
 use Rattle.rdx_lang.specs.WellFormed.{defined}
 use Rattle.rdx_lang.specs.declared.pattern.Ref.{Ref}
 use Rattle.rdx_leftrec.specs.Inside.Leads.{place}
-use Rattle.rdx_leftrec.specs.Inside.Marking.{marked}
-use Rattle.rdx_leftrec.specs.Inside.Reach.{Path, IsReach, AreFreeBefore}
-use Rattle.rdx_leftrec.specs.declared.reach.Walked.{Walked}
-use Rattle.rdx_leftrec.specs.declared.reach.Walked.TheVariants.{Counts, Recursive}
-
--- n places are reached from i
-pub record IsCount (ts : List (List ℕ)) (i n : ℕ) : Type 0 where
-  pub marks : List Bool
-  pub reach : IsReach ts i marks
-  pub count : n ≡ marked marks
-
--- so many places are reached from each of the first places, and none of these reaches itself
-pub record AreCounts (ts : List (List ℕ)) (counts : List ℕ) : Type 0 where
-  pub each : (i : ℕ) → i < length counts → IsCount ts i (slice_index counts i)
-  pub free : AreFreeBefore ts (length counts)
-
--- i is the first place that reaches itself
-pub record IsFirst (ts : List (List ℕ)) (i : ℕ) : Type 0 where
-  pub inside : i < length ts
-  pub recursive : Path ts i i
-  pub first : AreFreeBefore ts i
-
--- how many places each reaches, or the first that reaches itself
-abbrev pub IsWalked : List (List ℕ) → Walked → Type 0
-IsWalked ts (Counts v) = (length v.items ≡ length ts) × AreCounts ts v.items
-IsWalked ts (Recursive i) = IsFirst ts i
 
 -- the number of a nonterminal, where there is one for each place
 abbrev pub number_at : List Ref → List ℕ → Ref → ℕ
@@ -39,9 +13,9 @@ number_at xs ns x = slice_index ns (place x xs)
 abbrev pub number_in : Language → List ℕ → Ref → ℕ
 number_in L ns = number_at (defined L) ns
 
--- the numbers of nonterminals that reach so many places
+-- these numbers, with room between them
 abbrev pub scaled : ℕ → List ℕ → List ℕ
-scaled scale counts = map (λ n. (n + 1) * scale) counts
+scaled scale ns = map (λ n. (n + 1) * scale) ns
 
 -- how many patterns stand one in the other, at most, on a way to a nonterminal to which the pattern may lead
 abbrev pub height : Pattern → ℕ

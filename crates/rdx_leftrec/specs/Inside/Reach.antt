@@ -1,5 +1,5 @@
 -- Which places are reached from a place, where each place has a list of targets.
-use Rattle.std.specs.Prelude.{◌≡◌, ◌<◌, ◌↔◌, ℕ, Bool, true, false, List, [], length, slice_index_or}
+use Rattle.std.specs.Prelude.{◌≡◌, ◌<◌, ℕ, Bool, true, false, List, [], length, slice_index_or}
 use Rattle.rdx_lang.specs.Members.{In}
 
 -- the targets of the place i
@@ -18,11 +18,6 @@ AreTargets ts = (i j : ℕ) → In j (targets_at ts i) → j < length ts
 -- the place is marked
 abbrev pub IsMarked : List Bool → ℕ → Type 0
 IsMarked marks j = slice_index_or marks j false ≡ true
-
--- exactly the places are marked that are reached from i
-pub record IsReach (ts : List (List ℕ)) (i : ℕ) (marks : List Bool) : Type 0 where
-  pub size : length marks ≡ length ts
-  pub exact : (j : ℕ) → (IsMarked marks j ↔ Path ts i j)
 
 -- no place reaches itself among those before i
 abbrev pub AreFreeBefore : List (List ℕ) → ℕ → Type 0

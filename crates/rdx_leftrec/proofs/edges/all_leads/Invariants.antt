@@ -7,5 +7,5 @@ use Rattle.rdx_leftrec.proofs.edges.all_leads.Given as goal
 
 abbrev pub invariant-loop-pat : goal.invariant-loop-pat
 invariant-loop-pat l =
-    l.found.items ++ places (defined (language_of l.language)) (all_leads (empty_by (language_of l.language) l.empty) (patterns_of (drop l.pat-index l.alternatives)))
-    ≡ places (defined (language_of l.language)) (all_leads (empty_by (language_of l.language) l.empty) (patterns_of l.alternatives))
+    l.found.items ++ places (defined (language_of l.nonterminals.language.now)) (all_leads (empty_by (language_of l.nonterminals.language.now) l.empty) (patterns_of (drop l.pat-index l.alternatives)))
+    ≡ places (defined (language_of l.nonterminals.language.now)) (all_leads (empty_by (language_of l.nonterminals.language.now) l.empty) (patterns_of l.alternatives))

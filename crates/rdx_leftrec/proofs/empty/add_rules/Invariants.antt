@@ -6,5 +6,5 @@ use Rattle.rdx_leftrec.proofs.empty.add_rules.Given as goal
 
 abbrev pub invariant-loop-pat : goal.invariant-loop-pat
 invariant-loop-pat l =
-    rules_of l.rules.items ++ alternatives_rules (defined (language_of l.language)) l.whole (patterns_of (drop l.pat-index l.alternatives))
-    ≡ rules_of l.initial.rules.items ++ alternatives_rules (defined (language_of l.language)) l.whole (patterns_of l.alternatives)
+    rules_of l.rules.items ++ alternatives_rules (defined (language_of l.nonterminals.language.now)) l.whole (patterns_of (drop l.pat-index l.alternatives))
+    ≡ rules_of l.initial.rules.items ++ alternatives_rules (defined (language_of l.nonterminals.language.now)) l.whole (patterns_of l.alternatives)

@@ -6,5 +6,5 @@ use Rattle.rdx_leftrec.proofs.empty.all_rules.Given as goal
 
 abbrev pub invariant-loop-whole : goal.invariant-loop-whole
 invariant-loop-whole l =
-    rules_of l.rules.items ++ definitions_rules (defined (language_of l.language)) l.whole (map definition_of (drop l.whole l.language.nts.items))
-    ≡ language_rules (language_of l.language)
+    rules_of l.rules.items ++ definitions_rules (defined (language_of l.nonterminals.language.now)) l.whole (map definition_of (drop l.whole l.nonterminals.language.now.nts.items))
+    ≡ language_rules (language_of l.nonterminals.language.now)

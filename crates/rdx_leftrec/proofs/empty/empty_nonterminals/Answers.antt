@@ -18,14 +18,14 @@ of_result L w rs n (Err x) e f h = tt
 
 pub least_marks-requires : goal.least_marks-requires
 least_marks-requires c =
-    let L : Language = language_of c.args.language.now in
+    let L : Language = language_of c.args.nonterminals.now.language.now in
     let e : rules_of c.deref.result.now ≡ language_rules L = ap rules_of c.deref.ensures.value ∙ c.in_ok-rules.ensures in
     let n : c.len-size.result ≡ length L.nonterminals = grind (arith, common_steps) in
     subst (λ (rs : List Rule). AreWithin rs c.len-size.result) (sym e) (subst (λ (m : ℕ). AreWithin (language_rules L) m) (sym n) (rules-within L c.requires))
 
 pub returns : goal.returns
 returns c =
-    let L : Language = language_of c.args.language.now in
+    let L : Language = language_of c.args.nonterminals.now.language.now in
     let e : rules_of c.deref.result.now ≡ language_rules L = ap rules_of c.deref.ensures.value ∙ c.in_ok-rules.ensures in
     let n : c.len-size.result ≡ length L.nonterminals = grind (arith, common_steps) in
     of_result L c.requires (rules_of c.deref.result.now) c.len-size.result c.least_marks.result e n c.least_marks.ensures
@@ -38,5 +38,5 @@ of_none L h n (Err x) e = tt
 
 pub returns-then-has_no_empty_alternative : goal.returns-then-has_no_empty_alternative
 returns-then-has_no_empty_alternative c =
-    let L : Language = language_of c.args.language.now in
+    let L : Language = language_of c.args.nonterminals.now.language.now in
     of_none L (sym c.has_no_empty_alternative.ensures ∙ c.if-has_no_empty_alternative.true) c.len-size.result c.no_marks.result c.no_marks.ensures

@@ -14,7 +14,7 @@ use Rattle.rdx_leftrec.proofs.ranks.+ranking.Goals as goal
 
 pub rank_nodes-returns-in-Nt-clause-ranks : goal.rank_nodes-returns-in-Nt-clause-ranks
 rank_nodes-returns-in-Nt-clause-ranks t c =
-    let L : Language = language_of c.args.language.now in
+    let L : Language = language_of c.args.nonterminals.now.language.now in
     let E : Ref → Bool = empty_by L c.args.empty.now in
     let R : Ref → ℕ = number_in L c.args.numbers.now in
     let old : List ℕ = c.args.ranks.now.items in
@@ -27,7 +27,7 @@ rank_nodes-returns-in-Nt-clause-ranks t c =
 
 pub rank_nodes-returns-in_ok-root-in-Named-clause-ranks : goal.rank_nodes-returns-in_ok-root-in-Named-clause-ranks
 rank_nodes-returns-in_ok-root-in-Named-clause-ranks t c =
-    let L : Language = language_of c.args.language.now in
+    let L : Language = language_of c.args.nonterminals.now.language.now in
     let E : Ref → Bool = empty_by L c.args.empty.now in
     let R : Ref → ℕ = number_in L c.args.numbers.now in
     let old : List ℕ = c.args.ranks.now.items in
@@ -49,7 +49,7 @@ rank_nodes-returns-in_ok-root-in-Named-clause-ranks t c =
 
 pub rank_nodes-returns-in_ok-root-in-HideHole-clause-ranks : goal.rank_nodes-returns-in_ok-root-in-HideHole-clause-ranks
 rank_nodes-returns-in_ok-root-in-HideHole-clause-ranks t c =
-    let L : Language = language_of c.args.language.now in
+    let L : Language = language_of c.args.nonterminals.now.language.now in
     let E : Ref → Bool = empty_by L c.args.empty.now in
     let R : Ref → ℕ = number_in L c.args.numbers.now in
     let old : List ℕ = c.args.ranks.now.items in
@@ -65,7 +65,7 @@ rank_nodes-returns-in_ok-root-in-HideHole-clause-ranks t c =
 
 pub rank_nodes-returns-in_ok-root-in-InHole-clause-ranks : goal.rank_nodes-returns-in_ok-root-in-InHole-clause-ranks
 rank_nodes-returns-in_ok-root-in-InHole-clause-ranks t c =
-    let L : Language = language_of c.args.language.now in
+    let L : Language = language_of c.args.nonterminals.now.language.now in
     let E : Ref → Bool = empty_by L c.args.empty.now in
     let R : Ref → ℕ = number_in L c.args.numbers.now in
     let old : List ℕ = c.args.ranks.now.items in
@@ -89,7 +89,7 @@ rank_nodes-returns-in_ok-root-in-InHole-clause-ranks t c =
 
 pub rank_nodes-returns-in_ok-rank_items-in-Seq-clause-ranks : goal.rank_nodes-returns-in_ok-rank_items-in-Seq-clause-ranks
 rank_nodes-returns-in_ok-rank_items-in-Seq-clause-ranks t c =
-    let L : Language = language_of c.args.language.now in
+    let L : Language = language_of c.args.nonterminals.now.language.now in
     let E : Ref → Bool = empty_by L c.args.empty.now in
     let R : Ref → ℕ = number_in L c.args.numbers.now in
     let old : List ℕ = c.args.ranks.now.items in

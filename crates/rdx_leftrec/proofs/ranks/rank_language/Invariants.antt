@@ -7,5 +7,5 @@ use Rattle.rdx_leftrec.proofs.ranks.rank_language.Given as goal
 
 abbrev pub invariant-loop-alternatives : goal.invariant-loop-alternatives
 invariant-loop-alternatives l =
-    l.ranks.items ++ definitions_ranks (empty_by (language_of l.language) l.empty) (number_in (language_of l.language) l.numbers) (map definition_of (drop l.alternatives-index l.alternatives-items))
-    ≡ definitions_ranks (empty_by (language_of l.language) l.empty) (number_in (language_of l.language) l.numbers) (map definition_of l.language.nts.items)
+    l.ranks.items ++ definitions_ranks (empty_by (language_of l.nonterminals.language.now) l.empty) (number_in (language_of l.nonterminals.language.now) l.numbers) (map definition_of (drop l.alternatives-index l.alternatives-items))
+    ≡ definitions_ranks (empty_by (language_of l.nonterminals.language.now) l.empty) (number_in (language_of l.nonterminals.language.now) l.numbers) (map definition_of l.nonterminals.language.now.nts.items)

@@ -7,5 +7,5 @@ use Rattle.rdx_leftrec.proofs.ranks.rank_patterns.Given as goal
 
 abbrev pub invariant-loop-pat : goal.invariant-loop-pat
 invariant-loop-pat l =
-    l.ranks.items ++ patterns_ranks (empty_by (language_of l.language) l.empty) (number_in (language_of l.language) l.numbers) (patterns_of (drop l.pat-index l.alternatives))
-    ≡ l.initial.ranks.items ++ patterns_ranks (empty_by (language_of l.language) l.empty) (number_in (language_of l.language) l.numbers) (patterns_of l.alternatives)
+    l.ranks.items ++ patterns_ranks (empty_by (language_of l.nonterminals.language.now) l.empty) (number_in (language_of l.nonterminals.language.now) l.numbers) (patterns_of (drop l.pat-index l.alternatives))
+    ≡ l.initial.ranks.items ++ patterns_ranks (empty_by (language_of l.nonterminals.language.now) l.empty) (number_in (language_of l.nonterminals.language.now) l.numbers) (patterns_of l.alternatives)
