@@ -12,6 +12,13 @@ pub mod Decompositions
 pub mod BindingView
 pub mod Shown
 pub mod Checked
+pub mod Templates
+pub mod TemplateView
+pub mod Programs
+pub mod ProgramView
+pub mod Fitting
+pub mod Scopes
+pub mod Valid
 pub mod Order
 pub mod Join
 pub mod Collections
@@ -27,5 +34,6 @@ pub mod Names
 pub mod Laws
 pub mod Examples
 pub mod RepetitionExamples
+pub mod TemplateExamples
 pub mod Model
 pub mod Inside

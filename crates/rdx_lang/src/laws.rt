@@ -5,6 +5,7 @@ ghost use Rattle.rdx_lang.specs.Order.{TellsApart};
 ghost use Rattle.rdx_lang.specs.Examples.{TwoEqual, TwoDifferent, TwoMarks, NameAround, NameAroundItself, Forgotten, OnceForTwo, Mentioned, ExceptMentionsNone, NonterminalsAreNotMentioned, PrefixFirst, ItemsDecide, FirstPairDecides, NameKeepsTheTerm, ListTakesOff};
 ghost use Rattle.rdx_lang.specs.Examples.{InEachPlace, AtEitherHole, HiddenSplitsNothing, OneItemSplits, NeverAtBoth, ContextInContext, NameOfATerm, EqualContexts, ContextsWithMarks, EmptyThroughAnother, EmptyLeadsOn, ContextTakesOff};
 ghost use Rattle.rdx_lang.specs.RepetitionExamples.{EachDivision, NoTurn, EqualLengths, EqualSequences, SequenceOfSequences, OneTurnSplits};
+ghost use Rattle.rdx_lang.specs.TemplateExamples.{UnderEllipsis, UnderNone, OuterUndriven, BothDriven, NothingDrives, NotBound};
 ghost use Rattle.rdx_lang.specs.Laws.{OneListing, OneSplitsListing, SomeListing, SomeSplitsListing, OneJoin, JoinAgrees, JoinExists, NamesAscend, BindsAMap, BindsItsNames, SplitBindsAMap, SplitBindsItsNames, SplitFills, SplitHasPath, WholeIsEmpty, EmptySplitsAll, EmptyIsDecided, FreeOrRecursive, RanksFall, EdgesFall, RankedIsFree};
 
 /// The order of values is total, and values that it doesn't tell apart are equal.
@@ -126,4 +127,14 @@ pub fn worked_examples()
     ensures equal_sequences { EqualSequences }
     ensures sequence_of_sequences { SequenceOfSequences }
     ensures one_turn_splits { OneTurnSplits }
+{}
+
+/// The examples of which templates fit.
+pub fn fitting_examples()
+    ensures under_ellipsis { UnderEllipsis }
+    ensures under_none { UnderNone }
+    ensures outer_undriven { OuterUndriven }
+    ensures both_driven { BothDriven }
+    ensures nothing_drives { NothingDrives }
+    ensures not_bound { NotBound }
 {}

@@ -34,9 +34,11 @@ mod matcher;
 mod names;
 mod order;
 mod pattern;
+mod program;
 mod reference;
 mod sharing;
 mod split;
+mod template;
 mod uses;
 mod well_formed;
 
@@ -46,4 +48,6 @@ pub use depths::Depths;
 pub use language::{Language, Ranks};
 pub use matcher::Matcher;
 pub use pattern::{Item, Kind, Pat, Ref};
+pub use program::{Extra, Program, Relation, Rule};
 pub use split::Split;
+pub use template::{HostExpr, TItem, Template};

@@ -1,0 +1,47 @@
+// Programs, as the code has them.
+
+use crate::{CheckedLang, CheckedPat, Template};
+use rdx_term::Name;
+use std::rc::RcStr;
+
+/// What a binding has to meet.
+#[derive(Drop)]
+pub enum Extra {
+    /// `where`: what the template makes matches the pattern, whose names are bound from there on.
+    Where(CheckedPat, Template),
+}
+
+/// A rule of a relation.
+#[derive(Drop)]
+pub struct Rule {
+    /// What the rule goes by, where it has a name.
+    pub name: Option<RcStr>,
+    /// Which terms it takes a step from.
+    pub pattern: CheckedPat,
+    /// What each binding has to meet, one after the other.
+    pub extras: Vec<Extra>,
+    /// What the step leads to.
+    pub result: Template,
+}
+
+/// A reduction relation.
+#[derive(Drop)]
+pub struct Relation {
+    /// What the relation goes by.
+    pub name: Name,
+    /// The language of its patterns.
+    pub language: Name,
+    /// The terms that it is over, where it says so.
+    pub domain: Option<CheckedPat>,
+    /// Its rules, in their order.
+    pub rules: Vec<Rule>,
+}
+
+/// What a file defines.
+#[derive(Drop)]
+pub struct Program {
+    /// The languages, in the file's order.
+    pub languages: Vec<CheckedLang>,
+    /// The relations, in the file's order.
+    pub relations: Vec<Relation>,
+}
