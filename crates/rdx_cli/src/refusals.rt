@@ -41,6 +41,9 @@ fn form_name(kind: DefKind) -> &'static str
         DefKind::BadPattern => "S5 BadPattern",
         DefKind::EllipsisDepth => "S6 EllipsisDepth",
         DefKind::LeftRecursive => "S7 LeftRecursive",
+        DefKind::UnknownName => "S8 UnknownName",
+        DefKind::EllipsisVariable => "S9 EllipsisVariable",
+        DefKind::RacketEscape => "S10 RacketEscape",
     }
 }
 

@@ -8,6 +8,8 @@ pub mod ReadItems
 pub mod RoleItems
 pub mod OneItem
 pub mod Among
+pub mod Finding
+pub mod DefinitionKeys
 pub mod NamesAt
 pub mod Keywords
 pub mod Clashes

@@ -1,5 +1,3 @@
-pub mod HeadView
-pub mod OccurrenceView
 pub mod StandView
 pub mod PartViews
 pub mod BaseView
@@ -8,3 +6,4 @@ pub mod Found
 pub mod AreNames
 pub mod BoundView
 pub mod CheckedForms
+pub mod Adding

@@ -3,9 +3,11 @@ pub mod Names
 pub mod Refusal
 pub mod Unbuilt
 pub mod Heads
+pub mod HeadView
 pub mod Occurrences
 pub mod Kinds
 pub mod PatternChecks
+pub mod OccurrenceView
 pub mod Readable
 pub mod Reading
 pub mod PatternRefusal
@@ -20,4 +22,5 @@ pub mod Refused
 pub mod Answers
 pub mod Laws
 pub mod Examples
+pub mod Model
 pub mod Inside

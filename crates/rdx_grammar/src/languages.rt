@@ -5,6 +5,7 @@ mod checks;
 mod definitions;
 mod extension;
 mod form_parts;
+mod lookup;
 mod nonterminals;
 mod parts;
 mod reader;

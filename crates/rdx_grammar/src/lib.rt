@@ -18,5 +18,8 @@ mod patterns;
 pub mod shape;
 
 pub use languages::{extend, read_language};
-pub use patterns::read_pattern;
+pub use patterns::{
+    Names, Position, checks, heads, language_names, occurrences, read_pattern, readings,
+    symbol_name,
+};
 pub use shape::{DefFault, DefKind, DefRefusal, names, refusal, unbuilt};

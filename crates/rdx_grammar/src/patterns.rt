@@ -1,15 +1,18 @@
 // Patterns.
 
 mod assembly;
-pub(crate) mod checks;
-mod heads;
+pub mod checks;
+pub mod heads;
 pub(crate) mod kinds;
 pub(crate) mod names;
 pub(crate) mod nonterminals;
-pub(crate) mod occurrences;
+pub mod occurrences;
 pub(crate) mod position;
 mod reader;
-pub(crate) mod readings;
+pub mod readings;
 mod refusals;
 
+pub use names::{Names, symbol_name};
+pub use nonterminals::language_names;
+pub use position::Position;
 pub use reader::read_pattern;

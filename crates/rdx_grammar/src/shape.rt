@@ -6,6 +6,6 @@ pub mod names;
 pub mod refusal;
 pub mod unbuilt;
 
-pub(crate) use data::{are_symbols, symbol};
-pub use data::{is_symbol, is_word, items, text};
+pub(crate) use data::are_symbols;
+pub use data::{is_symbol, is_word, items, symbol, text};
 pub use fault::{DefFault, DefKind, DefRefusal};

@@ -38,7 +38,10 @@ fn is_early_kind(kind: DefKind) -> bool
         | DefKind::BadName
         | DefKind::BadPattern
         | DefKind::EllipsisDepth
-        | DefKind::LeftRecursive => false,
+        | DefKind::LeftRecursive
+        | DefKind::UnknownName
+        | DefKind::EllipsisVariable
+        | DefKind::RacketEscape => false,
     }
 }
 

@@ -1,16 +1,10 @@
--- The symbols that bind names, as values of the code have them.
-use Rattle.std.specs.Prelude.{ℕ, List, [], ◌∷◌, Option, Some, None, map}
-use Rattle.rdx_sexp.specs.Sexp.{Sexp}
+-- The names that are bound in the alternatives of a form.
+use Rattle.std.specs.Prelude.{ℕ, List, [], ◌∷◌, map}
 use Rattle.rdx_grammar.specs.Inside.AreNames.{AreNames}
 use Rattle.rdx_grammar.specs.Parts.{text_of}
 use Rattle.rdx_grammar.specs.PatternChecks.{Bound, all_bound}
 use Rattle.rdx_grammar.specs.Stands.{Stand, misshaped, defined, nonterminal, alternative, inherited}
 use Rattle.rdx_grammar.specs.declared.patterns.position.Position.TheVariants.{Grammar as InGrammar}
-
--- a symbol at a depth, where there is one
-abbrev pub bounds_of : Option (ℕ × Sexp) → List Bound
-bounds_of None = []
-bounds_of (Some x) = record { symbol = x.1; depth = x.0 } ∷ []
 
 -- the names that these bind
 abbrev pub bound_names : List Bound → List (List ℕ)

@@ -1,9 +1,13 @@
--- What a check for repeated nonterminals has seen before a place.
-use Rattle.std.specs.Prelude.{ℕ, List, [], ◌∷◌}
-use Rattle.rdx_grammar.specs.Checks.{seen_with}
-use Rattle.rdx_grammar.specs.Stands.{Stand}
+-- What a check for repeated nonterminals has seen.
+use Rattle.std.specs.Prelude.{◌≡◌, ℕ, List, map, bytes_eq}
+use Rattle.std.specs.BTreeSet.{BTreeSet}
+use Rattle.std.specs.Borrow.{Bor}
+use Rattle.std.specs.List.{list_any}
 
--- the names that are seen behind these
-abbrev pub seen_behind : List (List ℕ) → List Stand → List (List ℕ)
-seen_behind seen [] = seen
-seen_behind seen (s ∷ ss) = seen_behind (seen_with seen s) ss
+-- the texts in a set
+abbrev pub texts_in : BTreeSet (Bor (List ℕ)) → List (List ℕ)
+texts_in s = map (λ k. k.now) s.keys
+
+-- the same texts are in both
+abbrev pub HaveSame : List (List ℕ) → List (List ℕ) → Type 0
+HaveSame xs ys = (x : List ℕ) → list_any (bytes_eq x) xs ≡ list_any (bytes_eq x) ys

@@ -1,25 +1,26 @@
 // The checks of a form that defines a language one by one.
-ghost use Rattle.std.specs.Prelude.{◌≡◌, [], IfOk, option_map};
+ghost use Rattle.std.specs.Prelude.{◌≡◌, [], IfOk, OnOk, option_map};
 ghost use Rattle.rdx_grammar.specs.Checks as model;
 ghost use Rattle.rdx_grammar.specs.Inside.BaseView.{base_in};
 ghost use Rattle.rdx_grammar.specs.Inside.BoundView.{BindsNames, BindNames};
-ghost use Rattle.rdx_grammar.specs.Inside.Repeats.{seen_behind};
+ghost use Rattle.rdx_grammar.specs.Inside.Repeats.{texts_in, HaveSame};
 ghost use Rattle.rdx_grammar.specs.Inside.StandView.{stand_of, stands_of};
 ghost use Rattle.rdx_grammar.specs.Refusal.{first};
 
-use crate::languages::bases::all_inherit;
+use crate::languages::bases::{Base, all_inherit};
 use crate::languages::stands::Stand;
 use crate::patterns::checks::{
     first_bad_binder, first_bad_occurrence, first_depth_clash, first_keyword, when,
 };
 use crate::patterns::kinds::kind;
+use crate::patterns::names::Names;
 use crate::patterns::position::Position;
 use crate::shape::names::{begins_with_dots, has_suffix, is_bad_name, is_kept};
 use crate::shape::text;
-use rdx_lang::CheckedLang;
 use rdx_sexp::Datum;
-use rdx_term::{Name, NoMemory};
+use rdx_term::NoMemory;
 use std::alloc::Global;
+use std::collections::BTreeSet;
 
 fn shape_fault<'a>(s: &Stand<'a>) -> Option<&'a Datum>
     ensures { option_map (λ d. d.now) result ≡ first (model.shape_fault (stand_of s.now)) }
@@ -43,54 +44,40 @@ pub(crate) fn first_shape_fault<'a>(found: &[Stand<'a>]) -> Option<&'a Datum>
     None
 }
 
-// Whether this is the name of a nonterminal with the text of the symbol.
-fn names_same(s: &Stand, d: &Datum) -> bool
-    ensures { result ≡ model.is_seen (model.seen_with [] (stand_of s.now)) d.now }
+// The nonterminal that is defined here, where its text was seen. Its text is seen from now on.
+fn repeated<'a>(s: &Stand<'a>, seen: &mut BTreeSet<&'a str>) -> Result<Option<&'a Datum>, NoMemory>
+    ensures repeated { IfOk result (λ r. option_map (λ d. d.now) r
+        ≡ first (model.repeated (texts_in seen.old) (stand_of s.now))) }
+    ensures seen { OnOk result (HaveSame (texts_in seen.new)
+        (model.seen_with (texts_in seen.old) (stand_of s.now))) }
 {
     match s {
-        Stand::Nonterminal(e) => text(d) == text(e),
-        Stand::Misshaped(_)
-        | Stand::Defined(_)
-        | Stand::Alternative(_)
-        | Stand::Inherited(_, _, _) => false,
-    }
-}
-
-// Whether a nonterminal with the text of the symbol stands among these.
-fn is_seen(earlier: &[Stand], d: &Datum) -> bool
-    ensures { result ≡ model.is_seen (seen_behind [] (stands_of earlier.now)) d.now }
-{
-    for s in earlier {
-        if names_same(s, d) {
-            return true;
+        Stand::Nonterminal(d) => {
+            let is_new = seen.insert(text(d))?;
+            Ok(when(!is_new, d))
         }
-    }
-    false
-}
-
-fn repeated<'a>(earlier: &[Stand<'a>], s: &Stand<'a>) -> Option<&'a Datum>
-    ensures { option_map (λ d. d.now) result
-        ≡ first (model.repeated (seen_behind [] (stands_of earlier.now)) (stand_of s.now)) }
-{
-    match s {
-        Stand::Nonterminal(d) => when(is_seen(earlier, d), d),
         Stand::Misshaped(_)
         | Stand::Defined(_)
         | Stand::Alternative(_)
-        | Stand::Inherited(_, _, _) => None,
+        | Stand::Inherited(_, _, _) => Ok(None),
     }
 }
 
 /// The first nonterminal that is defined for the second time.
-pub(crate) fn first_repeated<'a>(found: &[Stand<'a>]) -> Option<&'a Datum>
-    ensures { option_map (λ d. d.now) result ≡ first (model.repeats [] (stands_of found.now)) }
+pub(crate) fn first_repeated<'a>(
+    alloc: Global,
+    found: &[Stand<'a>],
+) -> Result<Option<&'a Datum>, NoMemory>
+    ensures { IfOk result (λ r. option_map (λ d. d.now) r
+        ≡ first (model.repeats [] (stands_of found.now))) }
 {
-    for i in 0..found.len() {
-        if let Some(d) = repeated(&found[..i], &found[i]) {
-            return Some(d);
+    let mut seen = BTreeSet::new(alloc);
+    for s in found {
+        if let Some(d) = repeated(s, &mut seen)? {
+            return Ok(Some(d));
         }
     }
-    None
+    Ok(None)
 }
 
 // Whether no nonterminal may have this name.
@@ -123,7 +110,7 @@ pub(crate) fn first_bad_name<'a>(found: &[Stand<'a>]) -> Option<&'a Datum>
     None
 }
 
-fn bad_pattern<'a>(base: Option<&CheckedLang>, names: &[Name], s: &Stand<'a>) -> Option<&'a Datum>
+fn bad_pattern<'a>(base: Option<&Base>, names: &Names, s: &Stand<'a>) -> Option<&'a Datum>
     ensures { option_map (λ d. d.now) result
         ≡ first (model.bad_pattern (base_in (option_map (λ c. c.now) base.entry)) names.now
         (stand_of s.now)) }
@@ -137,8 +124,8 @@ fn bad_pattern<'a>(base: Option<&CheckedLang>, names: &[Name], s: &Stand<'a>) ->
 
 /// The first pattern that means nothing, over these nonterminals.
 pub(crate) fn first_bad_pattern<'a>(
-    base: Option<&CheckedLang>,
-    names: &[Name],
+    base: Option<&Base>,
+    names: &Names,
     found: &[Stand<'a>],
 ) -> Option<&'a Datum>
     ensures { option_map (λ d. d.now) result
@@ -155,7 +142,7 @@ pub(crate) fn first_bad_pattern<'a>(
 
 fn depth_clash<'a>(
     alloc: Global,
-    names: &[Name],
+    names: &Names,
     s: &Stand<'a>,
 ) -> Result<Option<&'a Datum>, NoMemory>
     requires { BindsNames names.now (stand_of s.now) }
@@ -174,7 +161,7 @@ fn depth_clash<'a>(
 /// The first symbol that binds a name at another depth than one before it in its alternative.
 pub(crate) fn first_depth_clash_in_form<'a>(
     alloc: Global,
-    names: &[Name],
+    names: &Names,
     found: &[Stand<'a>],
 ) -> Result<Option<&'a Datum>, NoMemory>
     requires { BindNames names.now (stands_of found.now) }

@@ -9,18 +9,19 @@ ghost use Rattle.rdx_grammar.specs.Nonterminals.{names_in};
 ghost use Rattle.rdx_grammar.specs.Parts.{text_of};
 ghost use Rattle.rdx_grammar.specs.Inside.PartViews as views;
 
+use crate::languages::bases::Base;
 use crate::languages::parts::{Definition, definition_in};
-use crate::patterns::names::symbol_name;
+use crate::patterns::names::{Names, symbol_name};
 use crate::patterns::position::Position;
 use crate::patterns::readings::read_datum;
 use crate::shape::is_word;
-use rdx_lang::{CheckedLang, Pat, Ref};
+use rdx_lang::{Pat, Ref};
 use rdx_sexp::Datum;
-use rdx_term::{Name, NoMemory};
+use rdx_term::NoMemory;
 use std::alloc::Global;
 
 // The alternatives that the base gives a nonterminal.
-fn inherited<'a>(base: Option<&'a CheckedLang>, nonterminal: &Ref) -> &'a [Pat]
+fn inherited<'a>(base: Option<&'a Base>, nonterminal: &Ref) -> &'a [Pat]
     ensures { patterns_of result.now
         ≡ alternatives_of (base_in (option_map (λ c. c.now) base.entry)) nonterminal.now }
 {
@@ -44,8 +45,8 @@ pub(crate) fn add_shared(alloc: Global, pats: &[Pat], out: &mut Vec<Pat>) -> Res
 // The alternatives that are written, with the inherited ones at `....`.
 fn read_alternatives(
     alloc: Global,
-    base: Option<&CheckedLang>,
-    names: &[Name],
+    base: Option<&Base>,
+    names: &Names,
     nonterminal: &Ref,
     alternatives: &[Datum],
 ) -> Result<Vec<Pat>, NoMemory>
@@ -68,8 +69,8 @@ fn read_alternatives(
 // Puts the definitions of each of the names behind those that are there.
 fn add_definition(
     alloc: Global,
-    base: Option<&CheckedLang>,
-    names: &[Name],
+    base: Option<&Base>,
+    names: &Names,
     definition: Definition<'_>,
     out: &mut Vec<(Ref, Vec<Pat>)>,
 ) -> Result<(), NoMemory>
@@ -97,8 +98,8 @@ fn add_definition(
 /// The definitions over these nonterminals, each name with all its alternatives.
 pub(crate) fn read_definitions(
     alloc: Global,
-    base: Option<&CheckedLang>,
-    names: &[Name],
+    base: Option<&Base>,
+    names: &Names,
     definitions: &[Datum],
 ) -> Result<Vec<(Ref, Vec<Pat>)>, NoMemory>
     requires { AreNames (names_in definitions.now) }

@@ -2,26 +2,14 @@
 ghost use Rattle.std.specs.Prelude.{◌≡◌, ◌++◌, IfOk, OnOk, [], ◌∷◌, map, option_map};
 ghost use Rattle.rdx_lang.specs.PatternView.{definition_of, patterns_of};
 ghost use Rattle.rdx_grammar.specs.Inside.BaseView.{base_in};
-ghost use Rattle.rdx_grammar.specs.Inside.Found.{found_among};
 ghost use Rattle.rdx_grammar.specs.Extension as model;
 
+use crate::languages::bases::Base;
 use crate::languages::definitions::add_shared;
-use rdx_lang::{CheckedLang, Pat, Ref};
+use crate::languages::lookup::Definitions;
+use rdx_lang::{Pat, Ref};
 use rdx_term::NoMemory;
 use std::alloc::Global;
-
-// The alternatives of a nonterminal, where it is defined.
-fn find<'a>(definitions: &'a [(Ref, Vec<Pat>)], nonterminal: &Ref) -> Option<&'a [Pat]>
-    ensures { option_map (λ pats. patterns_of pats.now) result
-        ≡ found_among (map definition_of definitions.now) nonterminal.now }
-{
-    for (defined, alternatives) in definitions {
-        if nonterminal.same(defined) {
-            return Some(alternatives);
-        }
-    }
-    None
-}
 
 // Puts the same definition behind those that are there.
 fn add_same(
@@ -43,7 +31,7 @@ fn add_same(
 // Puts the definitions of a base behind those that are there, with the new alternatives where it has some.
 fn add_redefined(
     alloc: Global,
-    new: &[(Ref, Vec<Pat>)],
+    new: &Definitions,
     base: &[(Ref, Vec<Pat>)],
     out: &mut Vec<(Ref, Vec<Pat>)>,
 ) -> Result<(), NoMemory>
@@ -53,7 +41,7 @@ fn add_redefined(
         ++ map (model.redefined (map definition_of new.now)) (map definition_of base.now)) }
 {
     for (nonterminal, alternatives) in base {
-        match find(new, nonterminal) {
+        match new.find(nonterminal) {
             Some(others) => add_same(alloc, nonterminal, others, out)?,
             None => add_same(alloc, nonterminal, alternatives, out)?,
         }
@@ -65,7 +53,7 @@ fn add_redefined(
 fn add_added(
     alloc: Global,
     new: &[(Ref, Vec<Pat>)],
-    base: &[(Ref, Vec<Pat>)],
+    base: &Definitions,
     out: &mut Vec<(Ref, Vec<Pat>)>,
 ) -> Result<(), NoMemory>
     ensures { OnOk result (
@@ -74,7 +62,7 @@ fn add_added(
         ++ model.added (map definition_of base.now) (map definition_of new.now)) }
 {
     for (nonterminal, alternatives) in new {
-        if find(base, nonterminal).is_none() {
+        if base.find(nonterminal).is_none() {
             add_same(alloc, nonterminal, alternatives, out)?;
         }
     }
@@ -84,7 +72,7 @@ fn add_added(
 /// The definitions of the base, with the new ones.
 pub(crate) fn extended(
     alloc: Global,
-    base: Option<&CheckedLang>,
+    base: Option<&Base>,
     new: Vec<(Ref, Vec<Pat>)>,
 ) -> Result<Vec<(Ref, Vec<Pat>)>, NoMemory>
     ensures { IfOk result (λ all.
@@ -95,9 +83,10 @@ pub(crate) fn extended(
     match base {
         None => Ok(new),
         Some(base) => {
-            let inherited = &base.language().nts;
+            let inherited = base.definitions();
+            let redefining = Definitions::new(alloc, &new)?;
             let mut all = Vec::new(alloc);
-            add_redefined(alloc, &new, inherited, &mut all)?;
+            add_redefined(alloc, &redefining, inherited.all(), &mut all)?;
             add_added(alloc, &new, inherited, &mut all)?;
             Ok(all)
         }

@@ -5,10 +5,10 @@ ghost use Rattle.rdx_grammar.specs.Inside.BaseView.{base_in};
 ghost use Rattle.rdx_grammar.specs.Nonterminals.{names_in, all_names};
 ghost use Rattle.rdx_grammar.specs.Parts.{text_of};
 
+use crate::languages::bases::Base;
 use crate::languages::parts::definition_in;
 use crate::patterns::names::symbol_name;
 use crate::patterns::nonterminals::language_names;
-use rdx_lang::CheckedLang;
 use rdx_sexp::Datum;
 use rdx_term::{Name, NoMemory};
 use std::alloc::Global;
@@ -40,7 +40,7 @@ fn add_defined(definitions: &[Datum], out: &mut Vec<Name>) -> Result<(), NoMemor
 /// The names of all nonterminals of a form over a base.
 pub(crate) fn form_names(
     alloc: Global,
-    base: Option<&CheckedLang>,
+    base: Option<&Base>,
     definitions: &[Datum],
 ) -> Result<Vec<Name>, NoMemory>
     requires { AreNames (names_in definitions.now) }
@@ -48,7 +48,7 @@ pub(crate) fn form_names(
         names.items ≡ all_names (base_in (option_map (λ c. c.now) base.entry)) definitions.now) }
 {
     let mut names = match base {
-        Some(language) => language_names(alloc, language)?,
+        Some(base) => language_names(alloc, base.language())?,
         None => Vec::new(alloc),
     };
     add_defined(definitions, &mut names)?;

@@ -10,13 +10,14 @@ ghost use Rattle.rdx_grammar.specs.Inside.PartViews.{parts_of};
 ghost use Rattle.rdx_grammar.specs.Languages as model;
 ghost use Rattle.rdx_grammar.specs.Readable.{IsReadable};
 
+use crate::languages::bases::Base;
 use crate::languages::definitions::read_definitions;
 use crate::languages::extension::extended;
 use crate::languages::form_parts::{FormParts, extension_form, language_form};
 use crate::languages::nonterminals::form_names;
 use crate::languages::recursion::checked;
 use crate::languages::refusals::refuse_form;
-use crate::patterns::names::symbol_name;
+use crate::patterns::names::{Names, symbol_name};
 use crate::shape::DefFault;
 use rdx_lang::{CheckedLang, Language};
 use rdx_sexp::Datum;
@@ -26,7 +27,7 @@ use std::alloc::Global;
 // The language of these parts over a base.
 fn read_parts(
     alloc: Global,
-    base: Option<&CheckedLang>,
+    base: Option<&Base>,
     parts: FormParts<'_>,
 ) -> Result<Language, NoMemory>
     requires { AreNamed (parts_of parts) }
@@ -36,7 +37,8 @@ fn read_parts(
         (parts_of parts.entry)) }
 {
     let name = symbol_name(parts.name)?;
-    let names = form_names(alloc, base, parts.definitions)?;
+    let all = form_names(alloc, base, parts.definitions)?;
+    let names = Names::new(alloc, &all)?;
     let new = read_definitions(alloc, base, &names, parts.definitions)?;
     let nts = extended(alloc, base, new)?;
     Ok(Language { name, nts })
@@ -45,7 +47,7 @@ fn read_parts(
 // The language of a form with these parts over a base.
 fn read_form(
     alloc: Global,
-    base: Option<&CheckedLang>,
+    base: Option<&Base>,
     form: &Datum,
     parts: Option<FormParts<'_>>,
 ) -> Result<CheckedLang, DefFault>
@@ -76,5 +78,6 @@ pub fn extend(alloc: Global, base: &CheckedLang, form: &Datum) -> Result<Checked
     requires { IsReadable form.now }
     ensures { ReadsForm (language_in base.now) form.now (forms.extension_form form.now) result }
 {
-    read_form(alloc, Some(base), form, extension_form(form))
+    let base = Base::new(alloc, base)?;
+    read_form(alloc, Some(&base), form, extension_form(form))
 }

@@ -8,16 +8,17 @@ ghost use Rattle.rdx_grammar.specs.Inside.StandView.{stands_of};
 ghost use Rattle.rdx_grammar.specs.Refusal.{refusal_of, first_refusal};
 ghost use Rattle.rdx_grammar.specs.Refused as model;
 
+use crate::languages::bases::Base;
 use crate::languages::checks::{
     first_bad_name, first_bad_pattern, first_depth_clash_in_form, first_repeated, first_shape_fault,
 };
 use crate::languages::form_parts::FormParts;
 use crate::languages::nonterminals::form_names;
 use crate::languages::stands::{Stand, form_stands};
+use crate::patterns::names::Names;
 use crate::shape::refusal::{named, unnamed};
 use crate::shape::unbuilt::has_word_to_come;
 use crate::shape::{DefKind, DefRefusal};
-use rdx_lang::CheckedLang;
 use rdx_sexp::Datum;
 use rdx_term::{Name, NoMemory};
 use std::alloc::Global;
@@ -32,7 +33,7 @@ fn refuse_early(alloc: Global, found: &[Stand]) -> Result<Option<DefRefusal>, No
     if let Some(d) = first_shape_fault(found) {
         return Ok(Some(unnamed(DefKind::Shape, d)));
     }
-    if let Some(d) = first_repeated(found) {
+    if let Some(d) = first_repeated(alloc, found)? {
         return Ok(Some(named(alloc, DefKind::Duplicate, d)?));
     }
     if let Some(d) = first_bad_name(found) {
@@ -44,8 +45,8 @@ fn refuse_early(alloc: Global, found: &[Stand]) -> Result<Option<DefRefusal>, No
 // The refusal by what the patterns in a form mean over these nonterminals, if one refuses it.
 fn refuse_late(
     alloc: Global,
-    base: Option<&CheckedLang>,
-    names: &[Name],
+    base: Option<&Base>,
+    names: &Names,
     found: &[Stand],
 ) -> Result<Option<DefRefusal>, NoMemory>
     requires { BindNames names.now (stands_of found.now) }
@@ -67,7 +68,7 @@ fn refuse_late(
 // The nonterminals of a form with these parts.
 fn names_over(
     alloc: Global,
-    base: Option<&CheckedLang>,
+    base: Option<&Base>,
     parts: Option<FormParts<'_>>,
 ) -> Result<Vec<Name>, NoMemory>
     requires { AreNamedIn (option_map parts_of parts) }
@@ -85,7 +86,7 @@ fn names_over(
 /// The refusal by the check with the least number that refuses a form with these parts over a base, but for left recursion.
 pub(crate) fn refuse_form(
     alloc: Global,
-    base: Option<&CheckedLang>,
+    base: Option<&Base>,
     form: &Datum,
     parts: Option<FormParts<'_>>,
 ) -> Result<Option<DefRefusal>, NoMemory>
@@ -103,6 +104,7 @@ pub(crate) fn refuse_form(
     if let Some(refusal) = refuse_early(alloc, &found)? {
         return Ok(Some(refusal));
     }
-    let names = names_over(alloc, base, parts)?;
+    let all = names_over(alloc, base, parts)?;
+    let names = Names::new(alloc, &all)?;
     refuse_late(alloc, base, &names, &found)
 }

@@ -2,7 +2,7 @@
 ghost use Rattle.std.specs.Prelude.{◌≡◌, IfOk, map, option_map};
 ghost use Rattle.rdx_lang.specs.PatternView.{pattern_of, slot_of, items_of};
 ghost use Rattle.rdx_lang.specs.Patterns.{named};
-ghost use Rattle.rdx_grammar.specs.Inside.HeadView.{head_view};
+ghost use Rattle.rdx_grammar.specs.HeadView.{head_view};
 ghost use Rattle.rdx_grammar.specs.Reading as model;
 
 use crate::patterns::heads::Head;

@@ -1,24 +1,24 @@
-// The checks of a pattern one by one.
+//! The checks of a pattern one by one.
 ghost use Rattle.std.specs.Prelude.{◌≡◌, IfOk, option_map};
 ghost use Rattle.rdx_grammar.specs.Inside.AreNames.{AreNames};
-ghost use Rattle.rdx_grammar.specs.Inside.BoundView.{bounds_of, bound_names};
-ghost use Rattle.rdx_grammar.specs.Inside.OccurrenceView.{occurrence_of, occurrences_of};
+ghost use Rattle.rdx_grammar.specs.Inside.BoundView.{bound_names};
+ghost use Rattle.rdx_grammar.specs.OccurrenceView.{bounds_of, occurrence_of, occurrences_of};
 ghost use Rattle.rdx_grammar.specs.PatternChecks as model;
 ghost use Rattle.rdx_grammar.specs.Refusal.{first};
 
 use crate::patterns::kinds::is_base;
-use crate::patterns::names::symbol_name;
+use crate::patterns::names::{Names, symbol_name};
 use crate::patterns::occurrences::Occurrence;
 use crate::patterns::position::Position;
 use crate::shape::names::{begins_with_dots, front, has_suffix, is_bad_name, is_ellipsis};
 use crate::shape::{is_word, text};
 use rdx_lang::Depths;
 use rdx_sexp::Datum;
-use rdx_term::{Name, NoMemory};
+use rdx_term::NoMemory;
 use std::alloc::Global;
 
 /// The datum, where the test says so.
-pub(crate) fn when(test: bool, d: &Datum) -> Option<&Datum>
+pub fn when(test: bool, d: &Datum) -> Option<&Datum>
     ensures { option_map (λ d. d.now) result ≡ first (model.when test d.now) }
 {
     if test { Some(d) } else { None }
@@ -38,7 +38,7 @@ fn keyword_fault<'a>(o: &Occurrence<'a>) -> Option<&'a Datum>
 }
 
 /// The first keyword.
-pub(crate) fn first_keyword<'a>(found: &[Occurrence<'a>]) -> Option<&'a Datum>
+pub fn first_keyword<'a>(found: &[Occurrence<'a>]) -> Option<&'a Datum>
     ensures { option_map (λ d. d.now) result ≡ first (model.keyword_faults (occurrences_of found.now)) }
 {
     for o in found {
@@ -63,7 +63,7 @@ fn bad_binder<'a>(o: &Occurrence<'a>) -> Option<&'a Datum>
 }
 
 /// The first name that is bound and may not be.
-pub(crate) fn first_bad_binder<'a>(found: &[Occurrence<'a>]) -> Option<&'a Datum>
+pub fn first_bad_binder<'a>(found: &[Occurrence<'a>]) -> Option<&'a Datum>
     ensures { option_map (λ d. d.now) result ≡ first (model.bad_binders (occurrences_of found.now)) }
 {
     for o in found {
@@ -75,7 +75,7 @@ pub(crate) fn first_bad_binder<'a>(found: &[Occurrence<'a>]) -> Option<&'a Datum
 }
 
 // Whether the symbol is no pattern.
-fn is_bad_symbol(names: &[Name], text: &str) -> bool
+fn is_bad_symbol(names: &Names, text: &str) -> bool
     ensures { result ≡ model.is_bad_symbol names.now text.now }
 {
     begins_with_dots(text) || (text != "_" && has_suffix(text) && !is_base(names, front(text)))
@@ -88,7 +88,7 @@ fn is_bad_excepted(text: &str) -> bool
     begins_with_dots(text) && !is_ellipsis(text)
 }
 
-fn bad_occurrence<'a>(names: &[Name], o: &Occurrence<'a>) -> Option<&'a Datum>
+fn bad_occurrence<'a>(names: &Names, o: &Occurrence<'a>) -> Option<&'a Datum>
     ensures { option_map (λ d. d.now) result
         ≡ first (model.bad_occurrence names.now (occurrence_of o.now)) }
 {
@@ -101,10 +101,7 @@ fn bad_occurrence<'a>(names: &[Name], o: &Occurrence<'a>) -> Option<&'a Datum>
 }
 
 /// The first part that means nothing, over these nonterminals.
-pub(crate) fn first_bad_occurrence<'a>(
-    names: &[Name],
-    found: &[Occurrence<'a>],
-) -> Option<&'a Datum>
+pub fn first_bad_occurrence<'a>(names: &Names, found: &[Occurrence<'a>]) -> Option<&'a Datum>
     ensures { option_map (λ d. d.now) result
         ≡ first (model.bad_occurrences names.now (occurrences_of found.now)) }
 {
@@ -127,7 +124,7 @@ fn binds_itself(position: Position) -> bool
 }
 
 // Whether the symbol binds its text as a pattern.
-fn binds(names: &[Name], position: Position, text: &str) -> bool
+fn binds(names: &Names, position: Position, text: &str) -> bool
     ensures { result ≡ model.binds names.now position text.now }
 {
     if text == "_" || text == "hole" {
@@ -147,9 +144,9 @@ fn bound_when(test: bool, depth: usize, d: &Datum) -> Option<(usize, &Datum)>
     if test { Some((depth, d)) } else { None }
 }
 
-// The symbol that binds a name, with its depth, where the occurrence is one.
-fn bound_by<'a>(
-    names: &[Name],
+/// The symbol that binds a name, with its depth, where the occurrence is one.
+pub fn bound_by<'a>(
+    names: &Names,
     position: Position,
     o: &Occurrence<'a>,
 ) -> Option<(usize, &'a Datum)>
@@ -167,7 +164,7 @@ fn bound_by<'a>(
 /// The first symbol that binds a name at another depth than one before it, over these nonterminals.
 pub(crate) fn first_depth_clash<'a>(
     alloc: Global,
-    names: &[Name],
+    names: &Names,
     position: Position,
     found: &[Occurrence<'a>],
 ) -> Result<Option<&'a Datum>, NoMemory>

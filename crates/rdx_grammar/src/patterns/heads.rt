@@ -1,8 +1,8 @@
-// Lists of patterns by their heads.
+//! Lists of patterns by their heads.
 ghost use Rattle.std.specs.Prelude.{◌≡◌, option_map};
 ghost use Rattle.rdx_sexp.specs.Sexp.{sexps};
 ghost use Rattle.rdx_grammar.specs.Heads as model;
-ghost use Rattle.rdx_grammar.specs.Inside.HeadView.{head_view, role_view, roles_view};
+ghost use Rattle.rdx_grammar.specs.HeadView.{head_view, role_view, roles_view};
 ghost use Rattle.rdx_grammar.specs.Reading as reading;
 
 use crate::shape::names::is_ellipsis;
@@ -11,7 +11,7 @@ use rdx_sexp::{Datum, Form};
 
 /// The kinds of lists.
 #[derive(Clone, Copy)]
-pub(crate) enum Head {
+pub enum Head {
     /// `(name x p)`
     Naming,
     /// `(variable-except x ...)`
@@ -28,7 +28,7 @@ pub(crate) enum Head {
 
 /// What one item of a list is there for.
 #[derive(Clone, Copy)]
-pub(crate) enum Role {
+pub enum Role {
     /// The word at the head.
     Word,
     /// A symbol that is bound.
@@ -43,7 +43,7 @@ pub(crate) enum Role {
 
 /// What the items of a list are there for.
 #[derive(Clone, Copy)]
-pub(crate) enum Roles {
+pub enum Roles {
     /// No further items.
     Done,
     /// One item.
@@ -77,7 +77,7 @@ fn head_of(text: &str) -> Head
 }
 
 /// The kind of a list of these items.
-pub(crate) fn head_among(items: &[Datum]) -> Head
+pub fn head_among(items: &[Datum]) -> Head
     ensures { head_view result ≡ model.head_among (sexps items.now) }
 {
     match items {
@@ -90,7 +90,7 @@ pub(crate) fn head_among(items: &[Datum]) -> Head
 }
 
 /// The table: what the items of each kind of list are there for.
-pub(crate) fn roles_of(head: Head) -> Roles
+pub fn roles_of(head: Head) -> Roles
     ensures { roles_view result ≡ model.roles_of (head_view head) }
 {
     match head {
@@ -111,7 +111,7 @@ fn is_ellipsis_symbol(d: &Datum) -> bool
 }
 
 /// The role of the next item, where there may be one.
-pub(crate) fn next(roles: Roles, item: &Datum) -> Option<Role>
+pub fn next(roles: Roles, item: &Datum) -> Option<Role>
     ensures { option_map role_view result ≡ model.next (roles_view roles) item.now }
 {
     match roles {
@@ -133,7 +133,7 @@ pub(crate) fn next(roles: Roles, item: &Datum) -> Option<Role>
 }
 
 /// The roles of the items behind it.
-pub(crate) fn rest(roles: Roles, item: &Datum) -> Roles
+pub fn rest(roles: Roles, item: &Datum) -> Roles
     ensures { roles_view result ≡ model.rest (roles_view roles) item.now }
 {
     match roles {
@@ -153,7 +153,7 @@ pub(crate) fn rest(roles: Roles, item: &Datum) -> Roles
 }
 
 /// Whether an item in this role is a pattern.
-pub(crate) fn is_pattern(role: Option<Role>) -> bool
+pub fn is_pattern(role: Option<Role>) -> bool
     ensures { result ≡ reading.is_pattern (option_map role_view role) }
 {
     match role {
@@ -173,7 +173,7 @@ fn is_of_ellipsis(role: Option<Role>) -> bool
 }
 
 /// Whether the first of the items in these roles is the ellipsis that repeats the item before them.
-pub(crate) fn is_repeated(roles: Roles, items: &[Datum]) -> bool
+pub fn is_repeated(roles: Roles, items: &[Datum]) -> bool
     ensures { result ≡ model.is_repeated (roles_view roles) (sexps items.now) }
 {
     match items {
@@ -207,7 +207,7 @@ fn suits(role: Option<Role>, d: &Datum) -> bool
 }
 
 /// Whether the items may stand in these roles, and no other is missing.
-pub(crate) fn fits(roles: Roles, items: &[Datum]) -> bool
+pub fn fits(roles: Roles, items: &[Datum]) -> bool
     ensures { result ≡ model.fits (roles_view roles) (sexps items.now) }
 {
     let mut left = roles;

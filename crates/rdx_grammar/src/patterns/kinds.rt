@@ -2,8 +2,8 @@
 ghost use Rattle.std.specs.Prelude.{◌≡◌};
 ghost use Rattle.rdx_grammar.specs.Kinds as model;
 
+use crate::patterns::names::Names;
 use rdx_lang::Kind;
-use rdx_term::Name;
 
 /// What a built-in name stands for.
 pub(crate) fn kind(text: &str) -> Option<Kind>
@@ -23,21 +23,9 @@ pub(crate) fn kind(text: &str) -> Option<Kind>
     }
 }
 
-/// Whether this is one of the names.
-pub(crate) fn is_among(names: &[Name], text: &str) -> bool
-    ensures { result ≡ model.is_among names.now text.now }
-{
-    for name in names {
-        if name.text() == text {
-            return true;
-        }
-    }
-    false
-}
-
 /// Whether this is a built-in name or one of the nonterminals.
-pub(crate) fn is_base(names: &[Name], text: &str) -> bool
+pub(crate) fn is_base(names: &Names, text: &str) -> bool
     ensures { result ≡ model.is_base names.now text.now }
 {
-    kind(text).is_some() || is_among(names, text)
+    kind(text).is_some() || names.find(text).is_some()
 }

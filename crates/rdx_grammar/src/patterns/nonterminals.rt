@@ -27,7 +27,7 @@ fn add_name(nonterminal: &Ref, out: &mut Vec<Name>) -> Result<(), NoMemory>
 }
 
 /// The names of a language's nonterminals.
-pub(crate) fn language_names(alloc: Global, language: &CheckedLang) -> Result<Vec<Name>, NoMemory>
+pub fn language_names(alloc: Global, language: &CheckedLang) -> Result<Vec<Name>, NoMemory>
     ensures { IfOk result (λ names. names.items ≡ names_of (language_in language.now)) }
 {
     let mut names = Vec::new(alloc);

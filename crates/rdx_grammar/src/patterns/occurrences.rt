@@ -1,8 +1,8 @@
-// What stands in a pattern.
+//! What stands in a pattern.
 ghost use Rattle.std.specs.Prelude.{◌≡◌, ◌<◌, ◌+◌, ◌++◌, [], IfOk, option_map};
 ghost use Rattle.rdx_sexp.specs.Size.{sexp_depth};
-ghost use Rattle.rdx_grammar.specs.Inside.HeadView.{role_view};
-ghost use Rattle.rdx_grammar.specs.Inside.OccurrenceView.{occurrences_of};
+ghost use Rattle.rdx_grammar.specs.HeadView.{role_view};
+ghost use Rattle.rdx_grammar.specs.OccurrenceView.{occurrences_of};
 ghost use Rattle.rdx_grammar.specs.Occurrences as model;
 
 use crate::patterns::heads::{
@@ -13,7 +13,7 @@ use rdx_term::NoMemory;
 
 /// One of the things that stand in a pattern; of what may bind a name also how many repetitions stand around it.
 #[derive(Clone, Copy)]
-pub(crate) enum Occurrence<'a> {
+pub enum Occurrence<'a> {
     /// A keyword.
     Key(&'a Datum),
     /// A symbol that is bound, as by `(name x p)`.
@@ -74,7 +74,7 @@ fn deeper(repeated: bool, depth: usize) -> usize
 }
 
 /// Adds what stands in a pattern around which so many repetitions stand.
-pub(crate) fn add_pattern<'a>(
+pub fn add_pattern<'a>(
     depth: usize,
     d: &'a Datum,
     out: &mut Vec<Occurrence<'a>>,

@@ -5,6 +5,7 @@ ghost use Rattle.rdx_grammar.specs.Answers.{IsWellFormedIn, ReadsPattern};
 ghost use Rattle.rdx_grammar.specs.Nonterminals.{names_of};
 ghost use Rattle.rdx_grammar.specs.Readable.{IsReadable};
 
+use crate::patterns::names::Names;
 use crate::patterns::nonterminals::language_names;
 use crate::patterns::position::Position;
 use crate::patterns::readings::read_datum;
@@ -25,7 +26,8 @@ pub fn read_pattern(
     ensures same { language_in language.new ≡ language_in language.old }
     ensures well_formed { IfOk result (λ c. IsWellFormedIn (language_in language.new) c) }
 {
-    let names = language_names(alloc, language)?;
+    let all = language_names(alloc, language)?;
+    let names = Names::new(alloc, &all)?;
     if let Some(refusal) = refuse_pattern(alloc, &names, d)? {
         return Err(DefFault::Refused(refusal));
     }

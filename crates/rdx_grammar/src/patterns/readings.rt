@@ -1,17 +1,18 @@
-// The patterns of data.
+//! The patterns of data.
 ghost use Rattle.std.specs.Prelude.{◌≡◌, ◌++◌, IfOk, OnOk, option_map};
 ghost use Rattle.std.specs.Bool.{then_some};
 ghost use Rattle.std.specs.Rc.{rc_str_bytes};
 ghost use Rattle.rdx_lang.specs.PatternView.{pattern_of, slot_of};
 ghost use Rattle.rdx_sexp.specs.Sexp.{sexps};
 ghost use Rattle.rdx_term.specs.Spelling.{is_name};
-ghost use Rattle.rdx_grammar.specs.Inside.HeadView.{role_view, roles_view};
+ghost use Rattle.rdx_grammar.specs.HeadView.{role_view, roles_view};
 ghost use Rattle.rdx_grammar.specs.Parts.{text_of};
 ghost use Rattle.rdx_grammar.specs.Reading as model;
 
 use crate::patterns::assembly::{assembled, named};
 use crate::patterns::heads::{Role, Roles, fits, head_among, is_pattern, next, rest, roles_of};
 use crate::patterns::kinds::kind;
+use crate::patterns::names::Names;
 use crate::patterns::position::Position;
 use crate::shape::names::{front, has_suffix};
 use crate::shape::{symbol, text};
@@ -22,22 +23,20 @@ use std::alloc::Global;
 use std::rc::RcStr;
 
 // The built-in name or the nonterminal of this text.
-fn base(names: &[Name], text: &str) -> Result<Option<Pat>, NoMemory>
+fn base(names: &Names, text: &str) -> Result<Option<Pat>, NoMemory>
     ensures { IfOk result (λ found. option_map pattern_of found ≡ model.base names.now text.now) }
 {
     if let Some(kind) = kind(text) {
         return Ok(Some(Pat::Kind(kind)));
     }
-    for name in names {
-        if name.text() == text {
-            return Ok(Some(Pat::Nt(Ref::Nt(name.share()?))));
-        }
+    match names.find(text) {
+        Some(name) => Ok(Some(Pat::Nt(Ref::Nt(name.share()?)))),
+        None => Ok(None),
     }
-    Ok(None)
 }
 
 // A symbol that is neither a built-in name nor a nonterminal.
-fn read_other(alloc: Global, names: &[Name], name: Name) -> Result<Pat, NoMemory>
+fn read_other(alloc: Global, names: &Names, name: Name) -> Result<Pat, NoMemory>
     ensures { IfOk result (λ pat. pattern_of pat ≡ model.other_symbol names.now name) }
 {
     if !has_suffix(name.text()) {
@@ -50,7 +49,7 @@ fn read_other(alloc: Global, names: &[Name], name: Name) -> Result<Pat, NoMemory
 }
 
 // A symbol that is a name.
-fn read_name(alloc: Global, names: &[Name], position: Position, name: Name) -> Result<Pat, NoMemory>
+fn read_name(alloc: Global, names: &Names, position: Position, name: Name) -> Result<Pat, NoMemory>
     ensures { IfOk result (λ pat.
         pattern_of pat ≡ model.by_base names.now position name (model.base names.now name)) }
 {
@@ -65,7 +64,7 @@ fn read_name(alloc: Global, names: &[Name], position: Position, name: Name) -> R
 
 fn read_symbol(
     alloc: Global,
-    names: &[Name],
+    names: &Names,
     position: Position,
     text: &RcStr,
 ) -> Result<Pat, NoMemory>
@@ -159,9 +158,9 @@ fn with_ellipsis(roles: Roles, others: &[Datum], pat: Pat) -> Result<Item, NoMem
 }
 
 /// The pattern of a datum over these nonterminals.
-pub(crate) fn read_datum(
+pub fn read_datum(
     alloc: Global,
-    names: &[Name],
+    names: &Names,
     position: Position,
     d: &Datum,
 ) -> Result<Pat, NoMemory>

@@ -7,19 +7,20 @@ ghost use Rattle.rdx_grammar.specs.Refusal.{refusal_of};
 use crate::patterns::checks::{
     first_bad_binder, first_bad_occurrence, first_depth_clash, first_keyword,
 };
+use crate::patterns::names::Names;
 use crate::patterns::occurrences::add_pattern;
 use crate::patterns::position::Position;
 use crate::shape::refusal::{named, unnamed};
 use crate::shape::unbuilt::has_word_to_come;
 use crate::shape::{DefKind, DefRefusal};
 use rdx_sexp::Datum;
-use rdx_term::{Name, NoMemory};
+use rdx_term::NoMemory;
 use std::alloc::Global;
 
 /// The refusal by the check with the least number that refuses a pattern outside grammars, over these nonterminals.
 pub(crate) fn refuse_pattern(
     alloc: Global,
-    names: &[Name],
+    names: &Names,
     d: &Datum,
 ) -> Result<Option<DefRefusal>, NoMemory>
     requires { IsReadable d.now }

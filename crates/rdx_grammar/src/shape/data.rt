@@ -17,7 +17,7 @@ pub fn items(d: &Datum) -> Option<&[Datum]>
 }
 
 /// The text of a symbol.
-pub(crate) fn symbol(d: &Datum) -> Option<&RcStr>
+pub fn symbol(d: &Datum) -> Option<&RcStr>
     ensures { option_map (λ text. rc_str_bytes text.now) result ≡ parts.symbol_text d.now }
 {
     match &d.form {

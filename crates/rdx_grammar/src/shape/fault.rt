@@ -12,7 +12,7 @@ use std::rc::RcStr;
 pub enum DefKind {
     /// The form, or a word in it, is not built yet. The place is the form's.
     Unbuilt,
-    /// A form or a definition has not its shape, or a keyword stands in a pattern. The place is the innermost such datum's.
+    /// A form or a definition has not its shape, or a keyword stands in a pattern or a template. The place is the innermost such datum's.
     Shape,
     /// No earlier form defines the language. The place and the name are those of the name.
     UnknownLanguage,
@@ -20,12 +20,19 @@ pub enum DefKind {
     Duplicate,
     /// A name may not be that of a nonterminal, or of what else it is to name. The place and the name are its own.
     BadName,
-    /// What stands as a pattern means nothing as one. The place is its own.
+    /// What stands as a pattern or a template means nothing as one. The place is its own.
     BadPattern,
-    /// A name is bound at two depths of ellipses in one pattern. The place and the name are those of the symbol that comes later.
+    /// A name is bound at two depths of ellipses, or stands in a template under fewer ellipses than where it is bound. The place and the
+    /// name are those of the symbol that comes later.
     EllipsisDepth,
     /// The language is left-recursive. The place is the form's, and the name that of the first nonterminal that reaches itself.
     LeftRecursive,
+    /// No earlier form defines the relation, or the arrow is none. The place and the name are those of the name.
+    UnknownName,
+    /// An ellipsis of a template repeats what no name stands in that is bound under one. The place is that of what it repeats.
+    EllipsisVariable,
+    /// A form, or what stands in it, is Racket that means nothing here. The place is its own.
+    RacketEscape,
 }
 
 /// A form that is refused: why, where, and the name at which it is, where there is one.

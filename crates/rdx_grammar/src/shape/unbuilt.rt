@@ -12,9 +12,7 @@ fn is_form_word(text: &str) -> bool
 {
     matches!(
         text,
-        "reduction-relation"
-            | "where"
-            | "unquote"
+        "unquote"
             | "unquote-splicing"
             | "side-condition"
             | "judgment-holds"

@@ -15,7 +15,7 @@ use Rattle.rdx_grammar.specs.Refused.{recursion_at}
 use Rattle.rdx_grammar.specs.declared.shape.fault.DefFault.{DefFault}
 use Rattle.rdx_grammar.specs.declared.shape.fault.DefFault.TheVariants.{Refused, NoMemory}
 use Rattle.rdx_grammar.specs.declared.shape.fault.DefKind.{DefKind}
-use Rattle.rdx_grammar.specs.declared.shape.fault.DefKind.TheVariants.{Unbuilt, Shape, UnknownLanguage, Duplicate, BadName, BadPattern, EllipsisDepth, LeftRecursive}
+use Rattle.rdx_grammar.specs.declared.shape.fault.DefKind.TheVariants.{Unbuilt, Shape, UnknownLanguage, Duplicate, BadName, BadPattern, EllipsisDepth, LeftRecursive, UnknownName, EllipsisVariable, RacketEscape}
 use Rattle.rdx_query.specs.Definitions.{language}
 use Rattle.rdx_query.specs.File.{Defines, IsRefusedForm}
 use Rattle.rdx_query.specs.Known.{Known, language_named}
@@ -34,6 +34,9 @@ is_early_kind BadName = false
 is_early_kind BadPattern = false
 is_early_kind EllipsisDepth = false
 is_early_kind LeftRecursive = false
+is_early_kind UnknownName = false
+is_early_kind EllipsisVariable = false
+is_early_kind RacketEscape = false
 
 -- a fault that is such a refusal, or want of memory
 abbrev pub is_early_fault : DefFault → Bool

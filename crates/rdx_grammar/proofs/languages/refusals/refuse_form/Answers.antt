@@ -42,7 +42,7 @@ refuse_late-requires c =
     let n = nothing (named BadName) (bad_names ss) (none_or (bad_name_at ss) None k).0 in
     let s0 : stands_of c.in_ok-found.found.items ≡ ss = c.in_ok-found.ensures in
     let s : stands_of c.deref-3.result.now ≡ ss = cc in
-    subst (λ (rs : List Stand). BindNames c.deref-2.result.now rs) (sym s) (form-names c.deref-2.result.now c.args.form.now g c.requires.spelled c.requires.shallow n)
+    subst (λ (rs : List Stand). BindNames c.in_ok-names.names rs) (sym s) (form-names c.in_ok-names.names c.args.form.now g c.requires.spelled c.requires.shallow n)
 
 pub returns : goal.returns
 returns c =
@@ -55,8 +55,9 @@ returns c =
     let e : early ss ≡ None = ap early (sym r) ∙ sym c.in_ok-refusal.ensures ∙ ap (option_map refusal_of) c.in_default.is in
     let u : unbuilt_at c.args.form.now ≡ None =
     ap (λ b. if b then Some (unnamed Unbuilt c.args.form.now) else None) (sym c.has_word_to_come.ensures ∙ c.if-has_word_to_come.false) in
-    let n0 : c.in_ok-names.names.items ≡ ns = c.in_ok-names.ensures in
-    let n : c.deref-2.result.now ≡ ns = cc in
+    let n0 : c.in_ok-all.all.items ≡ ns = c.in_ok-all.ensures in
+    let m : c.in_ok-names.names ≡ c.deref-2.result.now = c.in_ok-names.ensures in
+    let n : c.in_ok-names.names ≡ ns = cc in
     let s0 : stands_of c.in_ok-found.found.items ≡ ss = c.in_ok-found.ensures in
     let s : stands_of c.deref-3.result.now ≡ ss = cc in
     subst (λ (o : Option Refusal). IfOk c.refuse_late.result (λ r. option_map refusal_of r ≡ o))

@@ -1,5 +1,5 @@
 use Rattle.std.proofs.Common.{◌≡◌, drop}
-use Rattle.rdx_grammar.specs.Inside.OccurrenceView.{occurrences_of}
+use Rattle.rdx_grammar.specs.OccurrenceView.{occurrences_of}
 use Rattle.rdx_grammar.specs.PatternChecks.{bad_binders}
 use Rattle.rdx_grammar.specs.Refusal.{first}
 use Rattle.rdx_grammar.proofs.patterns.checks.first_bad_binder.Given as goal

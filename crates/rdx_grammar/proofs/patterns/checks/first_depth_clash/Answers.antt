@@ -4,8 +4,7 @@ use Rattle.std.specs.List.{list_all}
 use Rattle.rdx_lang.specs.Depths.{agree}
 use Rattle.rdx_lang.specs.Met.{met, use_of, IsMet}
 use Rattle.rdx_lang.proofs.Rest.{rest_at}
-use Rattle.rdx_grammar.specs.Inside.BoundView.{bounds_of}
-use Rattle.rdx_grammar.specs.Inside.OccurrenceView.{occurrence_of, occurrences_of}
+use Rattle.rdx_grammar.specs.OccurrenceView.{bounds_of, occurrence_of, occurrences_of}
 use Rattle.rdx_grammar.specs.Parts.{text_of}
 use Rattle.rdx_grammar.specs.PatternChecks.{Bound, all_bound, depth_clashes}
 use Rattle.rdx_grammar.specs.Refusal.{first}

@@ -1,6 +1,6 @@
 use Rattle.std.proofs.Common.{drop}
 use Rattle.rdx_lang.specs.Met.{met}
-use Rattle.rdx_grammar.specs.Inside.OccurrenceView.{occurrences_of}
+use Rattle.rdx_grammar.specs.OccurrenceView.{occurrences_of}
 use Rattle.rdx_grammar.specs.PatternChecks.{all_bound, depth_clashes}
 use Rattle.rdx_grammar.specs.Refusal.{first}
 use Rattle.rdx_grammar.proofs.Clashes.{IsFirstClash}

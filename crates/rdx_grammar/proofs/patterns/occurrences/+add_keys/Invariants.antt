@@ -1,6 +1,6 @@
 use Rattle.std.proofs.Common.{◌≡◌, ◌++◌, drop}
 use Rattle.rdx_sexp.specs.Sexp.{sexps}
-use Rattle.rdx_grammar.specs.Inside.OccurrenceView.{occurrences_of}
+use Rattle.rdx_grammar.specs.OccurrenceView.{occurrences_of}
 use Rattle.rdx_grammar.specs.Occurrences.{keys_in}
 use Rattle.rdx_grammar.proofs.patterns.occurrences.+add_keys.Given as goal
 

@@ -2,7 +2,7 @@ use Rattle.std.proofs.Common.{◌≡◌, suc, arith}
 use Rattle.std.proofs.lemmas.Grind.{common_steps}
 use Rattle.rdx_sexp.specs.Sexp.{sexps}
 use Rattle.rdx_sexp.specs.Size.{sexp_depth, sexps_depth}
-use Rattle.rdx_grammar.specs.Inside.HeadView.{roles_view}
+use Rattle.rdx_grammar.specs.HeadView.{roles_view}
 use Rattle.rdx_grammar.proofs.RoleItems.{role-pattern, role-other, among-at, deeper-most}
 use Rattle.rdx_grammar.proofs.ShallowData.{depth-at}
 use Rattle.rdx_grammar.proofs.patterns.occurrences.+add_pattern.Goals.{then-is_pattern+in_ok-add_pattern-in-List, else-is_pattern+in_ok-add_other-in-List}

@@ -2,8 +2,8 @@ use Rattle.std.proofs.Common.{◌≡◌, ◌++◌, drop}
 use Rattle.rdx_sexp.specs.Sexp.{sexps}
 use Rattle.rdx_sexp.specs.Size.{sexp_depth}
 use Rattle.rdx_grammar.specs.Heads.{roles_of, head_among}
-use Rattle.rdx_grammar.specs.Inside.HeadView.{roles_view}
-use Rattle.rdx_grammar.specs.Inside.OccurrenceView.{occurrences_of}
+use Rattle.rdx_grammar.specs.HeadView.{roles_view}
+use Rattle.rdx_grammar.specs.OccurrenceView.{occurrences_of}
 use Rattle.rdx_grammar.specs.Occurrences.{occurrences_among}
 use Rattle.rdx_grammar.proofs.patterns.occurrences.+add_pattern.Given as goal
 

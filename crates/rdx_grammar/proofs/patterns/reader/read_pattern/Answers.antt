@@ -20,12 +20,12 @@ unreachable-requires c =
     let L = language_in c.args.language.now in
     let d = c.args.d.now in
     let p = pattern_of c.in_ok-pattern.pattern in
-    let n0 : c.in_ok-names.names.items ≡ names_of L = c.in_ok-names.ensures in
-    let n : c.deref.result.now ≡ names_of L = cc in
-    let m : c.deref-2.result.now ≡ names_of L = cc in
-    let r : option_map refusal_of c.in_ok-refusal.field-0 ≡ pattern_refusal c.deref.result.now d = c.in_ok-refusal.ensures in
+    let n0 : c.in_ok-all.all.items ≡ names_of L = c.in_ok-all.ensures in
+    let m : c.in_ok-names.names ≡ c.deref.result.now = c.in_ok-names.ensures in
+    let n : c.in_ok-names.names ≡ names_of L = cc in
+    let r : option_map refusal_of c.in_ok-refusal.field-0 ≡ pattern_refusal c.in_ok-names.names d = c.in_ok-refusal.ensures in
     let o : pattern_refusal (names_of L) d ≡ None = ap (λ xs. pattern_refusal xs d) (sym n) ∙ sym r ∙ ap (option_map refusal_of) c.in_default.is in
-    let e : p ≡ reading (names_of L) Query d = c.in_ok-pattern.ensures ∙ ap (λ xs. reading xs Query d) m in
+    let e : p ≡ reading (names_of L) Query d = c.in_ok-pattern.ensures ∙ ap (λ xs. reading xs Query d) n in
     let w : is_well_formed (defined L) p ≡ true =
     ap (is_well_formed (defined L)) e
     ∙ and_both (has_known_nonterminals (defined L) (reading (names_of L) Query d)) (has_fitting_names (reading (names_of L) Query d)) (reading_known (defined L) Query d) (fitting-pattern (names_of L) d c.requires o) in
@@ -34,19 +34,21 @@ unreachable-requires c =
 
 pub returns-in-Some-clause-reads : goal.returns-in-Some-clause-reads
 returns-in-Some-clause-reads c =
-    let n0 : c.in_ok-names.names.items ≡ names_of (language_in c.args.language.now) = c.in_ok-names.ensures in
-    let n : c.deref.result.now ≡ names_of (language_in c.args.language.now) = cc in
-    let r : option_map refusal_of c.in_ok-refusal.field-0 ≡ pattern_refusal c.deref.result.now c.args.d.now = c.in_ok-refusal.ensures in
+    let ns = names_of (language_in c.args.language.now) in
+    let n0 : c.in_ok-all.all.items ≡ ns = c.in_ok-all.ensures in
+    let m : c.in_ok-names.names ≡ c.deref.result.now = c.in_ok-names.ensures in
+    let n : c.in_ok-names.names ≡ ns = cc in
+    let r : option_map refusal_of c.in_ok-refusal.field-0 ≡ pattern_refusal c.in_ok-names.names c.args.d.now = c.in_ok-refusal.ensures in
     ap (λ xs. pattern_refusal xs c.args.d.now) (sym n) ∙ sym r ∙ ap (option_map refusal_of) c.in-Some.is
 
 pub returns-clause-reads : goal.returns-clause-reads
 returns-clause-reads c =
     let d = c.args.d.now in
     let ns = names_of (language_in c.args.language.now) in
-    let n0 : c.in_ok-names.names.items ≡ ns = c.in_ok-names.ensures in
-    let n : c.deref.result.now ≡ ns = cc in
-    let m : c.deref-2.result.now ≡ ns = cc in
-    let r : option_map refusal_of c.in_ok-refusal.field-0 ≡ pattern_refusal c.deref.result.now d = c.in_ok-refusal.ensures in
+    let n0 : c.in_ok-all.all.items ≡ ns = c.in_ok-all.ensures in
+    let m : c.in_ok-names.names ≡ c.deref.result.now = c.in_ok-names.ensures in
+    let n : c.in_ok-names.names ≡ ns = cc in
+    let r : option_map refusal_of c.in_ok-refusal.field-0 ≡ pattern_refusal c.in_ok-names.names d = c.in_ok-refusal.ensures in
     let p : pattern_in c.in-Some-2.pattern ≡ pattern_of c.in_ok-pattern.pattern = subst (λ o. IfSome o (λ x. pattern_in x ≡ pattern_of c.in_ok-pattern.pattern)) c.in-Some-2.is c.in_ok-pattern-2.ensures.same in
-    let e : pattern_in c.in-Some-2.pattern ≡ reading ns Query d = p ∙ c.in_ok-pattern.ensures ∙ ap (λ xs. reading xs Query d) m in
+    let e : pattern_in c.in-Some-2.pattern ≡ reading ns Query d = p ∙ c.in_ok-pattern.ensures ∙ ap (λ xs. reading xs Query d) n in
     (ap (λ xs. pattern_refusal xs d) (sym n) ∙ sym r ∙ ap (option_map refusal_of) c.in_default.is, e)

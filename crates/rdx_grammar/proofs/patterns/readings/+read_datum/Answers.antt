@@ -2,7 +2,7 @@ use Rattle.std.proofs.Common.{◌≡◌, map, subst, arith, IfOk}
 use Rattle.std.proofs.lemmas.Grind.{common_steps}
 use Rattle.rdx_lang.specs.PatternView.{pattern_of, slot_of, items_of}
 use Rattle.rdx_lang.specs.Patterns.{Pattern}
-use Rattle.rdx_grammar.specs.Inside.HeadView.{head_view, roles_view}
+use Rattle.rdx_grammar.specs.HeadView.{head_view, roles_view}
 use Rattle.rdx_grammar.specs.Reading.{assembled, reading}
 use Rattle.rdx_grammar.proofs.ReadItems.{before-push, before-nil, items-at, reading-shaped}
 use Rattle.rdx_grammar.proofs.patterns.readings.+read_datum.Goals.{then-is_pattern+in_ok-pat-in-List+in_ok-with_ellipsis-in-List+in_ok-push-in-List, else-is_pattern}

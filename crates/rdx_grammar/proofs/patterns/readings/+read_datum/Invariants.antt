@@ -2,7 +2,7 @@ use Rattle.std.proofs.Common.{◌≡◌, drop, map}
 use Rattle.rdx_lang.specs.PatternView.{slot_of}
 use Rattle.rdx_sexp.specs.Sexp.{sexps}
 use Rattle.rdx_grammar.specs.Heads.{roles_of, head_among}
-use Rattle.rdx_grammar.specs.Inside.HeadView.{roles_view}
+use Rattle.rdx_grammar.specs.HeadView.{roles_view}
 use Rattle.rdx_grammar.specs.Reading.{items_among}
 use Rattle.rdx_grammar.proofs.ReadItems.{before}
 use Rattle.rdx_grammar.proofs.patterns.readings.+read_datum.Given as goal

@@ -1,6 +1,6 @@
 use Rattle.std.proofs.Common.{◌≡◌, ◌++◌, drop}
 use Rattle.rdx_sexp.specs.Sexp.{sexps}
-use Rattle.rdx_grammar.specs.Inside.HeadView.{roles_view}
+use Rattle.rdx_grammar.specs.HeadView.{roles_view}
 use Rattle.rdx_grammar.specs.Reading.{names_among}
 use Rattle.rdx_grammar.proofs.patterns.readings.names_among.Given as goal
 

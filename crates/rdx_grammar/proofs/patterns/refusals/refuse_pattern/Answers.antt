@@ -2,7 +2,7 @@ use Rattle.std.proofs.Common.{◌≡◌, ◌++◌, List, None, sym, ap, ◌∙�
 use Rattle.std.specs.Prelude.{option_map}
 use Rattle.rdx_grammar.specs.Inside.AreNames.{AreNames}
 use Rattle.rdx_grammar.specs.Inside.BoundView.{bound_names}
-use Rattle.rdx_grammar.specs.Inside.OccurrenceView.{occurrences_of}
+use Rattle.rdx_grammar.specs.OccurrenceView.{occurrences_of}
 use Rattle.rdx_grammar.specs.Occurrences.{Occurrence, occurrences}
 use Rattle.rdx_grammar.specs.PatternChecks.{bad_binders, all_bound}
 use Rattle.rdx_grammar.specs.Refusal.{first}

@@ -1,6 +1,8 @@
 -- The things in patterns that values of the code stand for.
-use Rattle.std.specs.Prelude.{List, map}
+use Rattle.std.specs.Prelude.{ℕ, List, [], ◌∷◌, Option, Some, None, map}
+use Rattle.rdx_sexp.specs.Sexp.{Sexp}
 use Rattle.rdx_grammar.specs.Occurrences.{Occurrence, key, binder, single, repeats, excepted, malformed}
+use Rattle.rdx_grammar.specs.PatternChecks.{Bound}
 use Rattle.rdx_grammar.specs.declared.patterns.occurrences.Occurrence as code_occurrence
 use Rattle.rdx_grammar.specs.declared.patterns.occurrences.Occurrence.TheVariants as variants
 
@@ -16,3 +18,8 @@ occurrence_of (variants.Malformed d) = malformed d.now
 -- and what several are, in their order
 abbrev pub occurrences_of : List code_occurrence.Occurrence → List Occurrence
 occurrences_of os = map occurrence_of os
+
+-- a symbol at a depth, where there is one
+abbrev pub bounds_of : Option (ℕ × Sexp) → List Bound
+bounds_of None = []
+bounds_of (Some x) = record { symbol = x.1; depth = x.0 } ∷ []
