@@ -1,0 +1,12 @@
+pub mod Gathered
+pub mod HandedOn
+pub mod WithinLimits
+pub mod Sequences
+pub mod OneAnswer
+pub mod FiniteMaps
+pub mod SomeAnswer
+pub mod TemplateEquations
+pub mod Items
+pub mod Joining
+pub mod ExtraAfterExtra
+pub mod Examples

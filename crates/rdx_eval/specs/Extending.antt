@@ -1,0 +1,42 @@
+-- Extras: what a binding has to meet, one after the other, each over all bindings found so far, in ascending order. A name that an extra
+-- binds again has to have an equal value.
+use Rattle.std.specs.Prelude.{◌≡◌, List, [], ◌∷◌, Option, Some, None}
+use Rattle.rdx_term.specs.Tree.{Tree}
+use Rattle.rdx_lang.specs.Bindings.{Binding}
+use Rattle.rdx_lang.specs.Join.{IsJoin}
+use Rattle.rdx_lang.specs.Listing.{Matches}
+use Rattle.rdx_lang.specs.Members.{In}
+use Rattle.rdx_lang.specs.Order.{binding_cmp}
+use Rattle.rdx_lang.specs.Patterns.{Pattern, Language}
+use Rattle.rdx_lang.specs.Programs.{Extra, such_as}
+use Rattle.rdx_eval.specs.Answers.{Answer, value, Then, Gather, Lists}
+use Rattle.rdx_eval.specs.Calls.{Calls}
+use Rattle.rdx_eval.specs.Instantiation.{Makes}
+
+-- cs has the joins of b with those of ds with which it has one, in order
+pub data Joins (b : Binding) : List Binding → List Binding → Type 0 where
+  joins_none : Joins b [] []
+  joins_more : {d c : Binding} {ds cs : List Binding} → IsJoin b d c → Joins b ds cs → Joins b (d ∷ ds) (c ∷ cs)
+  joins_skip : {d : Binding} {ds cs : List Binding} → ((c : Binding) → ¬ IsJoin b d c) → Joins b ds cs → Joins b (d ∷ ds) cs
+
+-- the joins of b with the bindings by which p matches t
+pub data Matched (L : Language) (p : Pattern) (b : Binding) (t : Tree) : Answer (List Binding) → Type 0 where
+  matched : {ds cs : List Binding} → Matches L p t ds → Joins b ds cs → Matched L p b t (value cs)
+
+-- what an extra makes of one binding, where w is the whole term that fresh names avoid
+abbrev pub By : Language → Calls → Tree → Extra → Binding → Answer (List Binding) → Type 0
+By L C w (such_as p t) b = Then (Makes C b t) (Matched L p b)
+
+-- what an extra makes of all bindings, ascending and each once
+abbrev pub ByEach : Language → Calls → Tree → Extra → List Binding → Answer (List Binding) → Type 0
+ByEach L C w e bs = Then (Gather (By L C w e) bs) (λ cs. Lists binding_cmp (λ c. In c cs))
+
+-- what extras make of them, one after the other
+abbrev pub Extend : Language → Calls → Tree → List Extra → List Binding → Answer (List Binding) → Type 0
+Extend L C w [] bs = λ r. r ≡ value bs
+Extend L C w (e ∷ es) bs = Then (ByEach L C w e bs) (Extend L C w es)
+
+-- the same over a language, where there is one
+abbrev pub ExtendOver : Option Language → Calls → Tree → List Extra → List Binding → Answer (List Binding) → Type 0
+ExtendOver None C w es bs r = ⊥
+ExtendOver (Some L) C w es bs r = Extend L C w es bs r

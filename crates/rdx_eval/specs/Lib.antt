@@ -1,0 +1,10 @@
+pub mod Answers
+pub mod Making
+pub mod Calls
+pub mod Turns
+pub mod Instantiation
+pub mod Extending
+pub mod Views
+pub mod Laws
+pub mod Examples
+pub mod Inside
