@@ -1,0 +1,46 @@
+use Rattle.std.proofs.Common.{◌≡◌, Option, Some, List, map, subst}
+use Rattle.rdx_term.specs.Tree.{Tree}
+use Rattle.rdx_term.specs.View.{tree_of}
+use Rattle.rdx_lang.specs.Checked.{language_in}
+use Rattle.rdx_lang.specs.Patterns.{Language}
+use Rattle.rdx_lang.specs.ProgramView.{program_of, relation_of, rule_of}
+use Rattle.rdx_lang.specs.Programs.{language_named}
+use Rattle.rdx_lang.specs.Programs as model
+use Rattle.rdx_lang.specs.declared.program.Program.{Program}
+use Rattle.rdx_lang.specs.declared.program.Rule.{Rule}
+use Rattle.rdx_eval.specs.Answers.{value, fault, stops, goes, lists}
+use Rattle.rdx_eval.specs.Calls.{Calls, calls_at, height}
+use Rattle.rdx_eval.specs.Views.{program_in}
+use Rattle.rdx_eval.proofs.HandedOn.{error_handed_on}
+use Rattle.rdx_reduce.specs.Relations.{StepsOver, AreSteps}
+use Rattle.rdx_reduce.specs.StepView.{steps_in}
+use Rattle.rdx_reduce.specs.Steps.{AllSteps}
+use Rattle.rdx_reduce.proofs.stepping.steps.Goals as goal
+
+pub returns-in_err-found-clause-answer : goal.returns-in_err-found-clause-answer
+returns-in_err-found-clause-answer g c =
+    let P : model.Program = program_of (program_in c.args.engine.now).now in
+    let L : Language = language_in c.in-Some.language.now in
+    let C : Calls = calls_at P height in
+    let t : Tree = tree_of c.args.t.now in
+    let rs : List model.Rule = map rule_of c.args.relation.now.rules.items in
+    let e : Some L ≡ language_named P c.args.relation.now.language =
+    subst (λ (p : Program). Some L ≡ language_named (program_of p) c.args.relation.now.language) c.program.ensures c.in-Some.ensures in
+    error_handed_on steps_in steps_in (AllSteps L C t 0 (map rule_of c.deref.result.now)) (AreSteps P (relation_of c.args.relation.now) t)
+    c.from_residual.result _ c.from_residual.ensures.1
+    (λ f h. subst (λ (o : Option Language). StepsOver o C t rs (fault f)) e
+    (stops (subst (λ (xs : List Rule). AllSteps L C t 0 (map rule_of xs) (fault f)) c.deref.ensures.value h)))
+    c.in_err-found.ensures.answer
+
+pub returns-clause-answer : goal.returns-clause-answer
+returns-clause-answer g c =
+    let P : model.Program = program_of (program_in c.args.engine.now).now in
+    let L : Language = language_in c.in-Some.language.now in
+    let C : Calls = calls_at P height in
+    let t : Tree = tree_of c.args.t.now in
+    let rs : List model.Rule = map rule_of c.args.relation.now.rules.items in
+    let e : Some L ≡ language_named P c.args.relation.now.language =
+    subst (λ (p : Program). Some L ≡ language_named (program_of p) c.args.relation.now.language) c.program.ensures c.in-Some.ensures in
+    let all : AllSteps L C t 0 rs (value (steps_in c.in_ok-found.found)) =
+    subst (λ (xs : List Rule). AllSteps L C t 0 (map rule_of xs) (value (steps_in c.in_ok-found.found))) c.deref.ensures.value c.in_ok-found.ensures.answer in
+    subst (λ (o : Option Language). StepsOver o C t rs (value (steps_in c.in_ok-listing.field-0))) e (goes all (lists c.in_ok-listing.ensures))

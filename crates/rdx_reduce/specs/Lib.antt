@@ -1,0 +1,6 @@
+pub mod Steps
+pub mod Relations
+pub mod StepView
+pub mod Laws
+pub mod Examples
+pub mod Model

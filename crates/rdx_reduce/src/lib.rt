@@ -1,0 +1,15 @@
+//! Reduction: the steps that a relation takes from a term.
+//!
+//! [`steps`] lists each step by each rule of a relation, ascending and each once, or gives the
+//! first fault on the way. What the steps are is said by `specs/Steps.antt`, over the rules of
+//! matching and the definitions of evaluation; each term has one such answer ([`laws`]).
+#![tactic(auto)]
+
+pub mod laws;
+mod order;
+mod sorting;
+mod step;
+mod stepping;
+
+pub use step::Step;
+pub use stepping::steps;
