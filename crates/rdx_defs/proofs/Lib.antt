@@ -1,0 +1,13 @@
+pub mod ItemTests
+pub mod TemplateEquations
+pub mod OneItem
+pub mod ItemLists
+pub mod PartItems
+pub mod Unrepeated
+pub mod Depths
+pub mod Shapes
+pub mod Reaching
+pub mod DrivenItems
+pub mod Fitting
+pub mod OneReading
+pub mod Examples

@@ -1,0 +1,31 @@
+-- A datum is one template at most, or it has one refusal.
+use Rattle.std.proofs.Common.{◌≡◌, Option, Some, None, refl, sym, ◌∙◌, ◌⊎◌, inl, inr}
+use Rattle.std.specs.Prelude.{IsSome}
+use Rattle.rdx_grammar.specs.Refusal.{refusal_of}
+use Rattle.rdx_defs.specs.Laws.{OneTemplate, OneTemplateRefusal, NeverBothTemplate, NeverNeitherTemplate}
+use Rattle.rdx_defs.specs.TemplateRefusal.{template_refusal}
+
+pub one_template : OneTemplate
+one_template bs d t u a b = a.1 ∙ sym b.1
+
+-- what is some value is one
+same_some : {A : Type 0} (o : Option A) (x y : A) → o ≡ Some x → o ≡ Some y → x ≡ y
+same_some o x y e f = cc
+
+pub one_template_refusal : OneTemplateRefusal
+one_template_refusal bs d r q e f = same_some (template_refusal bs d) (refusal_of r) (refusal_of q) e f
+
+-- nothing is both some value and none
+not_some : {A : Type 0} (o : Option A) (x : A) → o ≡ None → o ≡ Some x → ⊥
+not_some o x e f = absurd cc
+
+pub never_both_template : NeverBothTemplate
+never_both_template bs d t r a e = not_some (template_refusal bs d) (refusal_of r) a.0 e
+
+-- a refusal, or none
+none_or_some : {A : Type 0} (o : Option A) → (o ≡ None) ⊎ IsSome o
+none_or_some None = inl refl
+none_or_some (Some x) = inr refl
+
+pub never_neither_template : NeverNeitherTemplate
+never_neither_template bs d = none_or_some (template_refusal bs d)

@@ -1,0 +1,4 @@
+pub mod PartView
+pub mod ItemParts
+pub mod PartRefusal
+pub mod Reach

@@ -1,0 +1,10 @@
+pub mod Bound
+pub mod TemplateHeads
+pub mod TemplateReading
+pub mod TemplateOccurrences
+pub mod TemplateChecks
+pub mod TemplateRefusal
+pub mod Answers
+pub mod Laws
+pub mod Examples
+pub mod Inside
