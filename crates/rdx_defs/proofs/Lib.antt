@@ -10,4 +10,15 @@ pub mod Reaching
 pub mod DrivenItems
 pub mod Fitting
 pub mod OneReading
+pub mod OneRelation
+pub mod RelationPartsAt
+pub mod RepeatedNames
+pub mod NamesBound
+pub mod FirstClash
+pub mod Labels
+pub mod BareChecks
+pub mod ReadableParts
+pub mod RelationRefusals
+pub mod ValidRelations
 pub mod Examples
+pub mod RelationExamples

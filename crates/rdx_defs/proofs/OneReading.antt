@@ -9,14 +9,14 @@ pub one_template : OneTemplate
 one_template bs d t u a b = a.1 ∙ sym b.1
 
 -- what is some value is one
-same_some : {A : Type 0} (o : Option A) (x y : A) → o ≡ Some x → o ≡ Some y → x ≡ y
+pub same_some : {A : Type 0} (o : Option A) (x y : A) → o ≡ Some x → o ≡ Some y → x ≡ y
 same_some o x y e f = cc
 
 pub one_template_refusal : OneTemplateRefusal
 one_template_refusal bs d r q e f = same_some (template_refusal bs d) (refusal_of r) (refusal_of q) e f
 
 -- nothing is both some value and none
-not_some : {A : Type 0} (o : Option A) (x : A) → o ≡ None → o ≡ Some x → ⊥
+pub not_some : {A : Type 0} (o : Option A) (x : A) → o ≡ None → o ≡ Some x → ⊥
 not_some o x e f = absurd cc
 
 pub never_both_template : NeverBothTemplate

@@ -2,3 +2,8 @@ pub mod PartView
 pub mod ItemParts
 pub mod PartRefusal
 pub mod Reach
+pub mod RelationViews
+pub mod BareStands
+pub mod PartsHave
+pub mod ByNames
+pub mod PartRefusals

@@ -4,7 +4,14 @@ pub mod TemplateReading
 pub mod TemplateOccurrences
 pub mod TemplateChecks
 pub mod TemplateRefusal
+pub mod RelationForms
+pub mod RelationStands
+pub mod RelationChecks
+pub mod RelationReading
+pub mod RelationRefusal
 pub mod Answers
 pub mod Laws
+pub mod RelationLaws
 pub mod Examples
+pub mod RelationExamples
 pub mod Inside

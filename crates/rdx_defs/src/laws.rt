@@ -1,6 +1,8 @@
 //! Laws of the definitions: functions that do nothing, whose contracts are the laws.
 ghost use Rattle.rdx_defs.specs.Examples.{DepthRefused, Fills, KeywordFirst, KeywordRefused, Repeats, ShapeRefused, StandsForItself, UndrivenRefused};
 ghost use Rattle.rdx_defs.specs.Laws.{NeverBothTemplate, NeverNeitherTemplate, OneTemplate, OneTemplateRefusal};
+ghost use Rattle.rdx_defs.specs.RelationExamples.{ArrowRefused, BindsBehind, ClashRefused, ExtraRefused, NameRefused, ResultRefused};
+ghost use Rattle.rdx_defs.specs.RelationLaws.{NeverBothRelation, NeverNeitherRelation, OneRelation, OneRelationRefusal};
 
 /// Where given names are bound, a datum is one template at most, or has one refusal at most, and
 /// always one of both.
@@ -9,6 +11,15 @@ pub fn one_template()
     ensures refusal { OneTemplateRefusal }
     ensures never_both { NeverBothTemplate }
     ensures never_neither { NeverNeitherTemplate }
+{}
+
+/// With a given name, over given nonterminals, a datum is one relation at most, or has one refusal
+/// at most, and always one of both.
+pub fn one_relation()
+    ensures relation { OneRelation }
+    ensures refusal { OneRelationRefusal }
+    ensures never_both { NeverBothRelation }
+    ensures never_neither { NeverNeitherRelation }
 {}
 
 /// Worked examples: what some data are as templates, and where others are refused as ones.
@@ -21,4 +32,14 @@ pub fn worked_examples()
     ensures shape { ShapeRefused }
     ensures depth { DepthRefused }
     ensures undriven { UndrivenRefused }
+{}
+
+/// Worked examples: what a datum is as a relation, and where others are refused as ones.
+pub fn worked_relations()
+    ensures binds_behind { BindsBehind }
+    ensures name { NameRefused }
+    ensures arrow { ArrowRefused }
+    ensures extra { ExtraRefused }
+    ensures shallow { ResultRefused }
+    ensures clash { ClashRefused }
 {}

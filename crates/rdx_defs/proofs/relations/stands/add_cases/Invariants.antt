@@ -1,0 +1,7 @@
+use Rattle.std.proofs.Common.{◌≡◌, ◌++◌, drop}
+use Rattle.rdx_defs.specs.Inside.BareStands.{cases_stand}
+use Rattle.rdx_defs.specs.Inside.RelationViews.{stands_of}
+use Rattle.rdx_defs.proofs.relations.stands.add_cases.Given as goal
+
+abbrev pub invariant-loop-d : goal.invariant-loop-d
+invariant-loop-d l = stands_of l.out.items ++ cases_stand (drop l.d-index l.cases) ≡ stands_of l.fn.out.items ++ cases_stand l.cases

@@ -1,0 +1,30 @@
+-- What follows from the definitions of relations, stated for the contracts of the module of laws.
+use Rattle.std.specs.Prelude.{◌≡◌, ℕ, List, ◌⊎◌, None, IsSome, Ok, Err}
+use Rattle.rdx_sexp.specs.Sexp.{Sexp}
+use Rattle.rdx_lang.specs.ProgramView.{relation_of}
+use Rattle.rdx_lang.specs.declared.program.Relation.{Relation}
+use Rattle.rdx_grammar.specs.Refusal.{refusal_of}
+use Rattle.rdx_grammar.specs.declared.shape.fault.DefFault.TheVariants.{Refused}
+use Rattle.rdx_grammar.specs.declared.shape.fault.DefRefusal.{DefRefusal}
+use Rattle.rdx_defs.specs.Answers.{ReadsRelation}
+use Rattle.rdx_defs.specs.RelationForms.{relation_form}
+use Rattle.rdx_defs.specs.RelationRefusal.{relation_refusal}
+
+-- ---- with a given name, over given nonterminals
+
+-- a datum is one relation at most
+abbrev pub OneRelation : Type 0
+OneRelation = (ns : List (List ℕ)) (x : List ℕ) (d : Sexp) (r q : Relation) → ReadsRelation ns x d (Ok r) → ReadsRelation ns x d (Ok q) → relation_of r ≡ relation_of q
+
+-- a datum has one refusal as a relation at most
+abbrev pub OneRelationRefusal : Type 0
+OneRelationRefusal =
+    (ns : List (List ℕ)) (x : List ℕ) (d : Sexp) (r q : DefRefusal) → ReadsRelation ns x d (Err (Refused r)) → ReadsRelation ns x d (Err (Refused q)) → refusal_of r ≡ refusal_of q
+
+-- a datum that is a relation isn't refused as one
+abbrev pub NeverBothRelation : Type 0
+NeverBothRelation = (ns : List (List ℕ)) (x : List ℕ) (d : Sexp) (r : Relation) (q : DefRefusal) → ReadsRelation ns x d (Ok r) → ReadsRelation ns x d (Err (Refused q)) → ⊥
+
+-- each datum has the parts of a relation and passes the checks, or is refused as one
+abbrev pub NeverNeitherRelation : Type 0
+NeverNeitherRelation = (ns : List (List ℕ)) (d : Sexp) → ((relation_refusal ns d ≡ None) × IsSome (relation_form d)) ⊎ IsSome (relation_refusal ns d)
