@@ -76,7 +76,7 @@ const PAIRS: &str =
 
 const PAIRS_MATCHED: &str = "match 1\n  e_1 = 1, e_2 = (2 3)\n";
 
-const ANSWERED: [(&str, &str); 10] = [
+const ANSWERED: [(&str, &str); 12] = [
     (PAIRS, PAIRS_MATCHED),
     ("", ""),
     // What two derivations bind alike is listed once.
@@ -132,9 +132,30 @@ const ANSWERED: [(&str, &str); 10] = [
          (redex-match L E_1 (term (f (f hole))))",
         "match 1\n  E_1 = (f (f hole))\n",
     ),
+    ("(term (in-hole (1 hole) 2))", "value (1 2)\n"),
+    // Two rules lead to one term: one reduct, and two steps.
+    (
+        "(define-language L (e 1)) (define R (reduction-relation L (--> e 2 a) (--> e 2 \"b c\")))\n\
+         (apply-reduction-relation R (term 1))\n\
+         (apply-reduction-relation/tag-with-names R (term 1))",
+        "reducts 1\n  2\nsteps 2\n  a 2\n  \"b c\" 2\n",
+    ),
 ];
 
-const REFUSED: [(&str, &str); 19] = [
+// A fault is answered by its line, and so are the queries behind it.
+const UNMET: [(&str, &str); 2] = [
+    (
+        "(term (in-hole 1 2)) (term 1)",
+        "fault NotContext 0\nvalue 1\n",
+    ),
+    (
+        "(define-language L (e 1)) (define R (reduction-relation L (--> e (in-hole e e))))\n\
+         (apply-reduction-relation R (term 2)) (apply-reduction-relation R (term 1))",
+        "reducts 0\nfault NotContext 0\n",
+    ),
+];
+
+const REFUSED: [(&str, &str); 22] = [
     // These are no data.
     ("(term (1 2)", "refused F2 Unclosed at 1:1\n"),
     ("(term (1]", "refused F3 WrongClose at 1:9\n"),
@@ -192,12 +213,19 @@ const REFUSED: [(&str, &str); 19] = [
         "(define-language L (E hole (in-hole F E)) (F hole))",
         "refused S7 LeftRecursive at 1:1 E\n",
     ),
+    (
+        "(apply-reduction-relation R (term 1))",
+        "refused S8 UnknownName at 1:27 R\n",
+    ),
+    ("(term (1 ...))", "refused S9 EllipsisVariable at 1:8\n"),
+    ("(define x 1)", "refused S10 RacketEscape at 1:1\n"),
 ];
 
 #[test]
 fn files_have_their_transcripts(rt: HostRuntime) -> Result<(), Fail> {
     for (status, rows) in [
         (Status::Done, ANSWERED.as_slice()),
+        (Status::Unmet, UNMET.as_slice()),
         (Status::Refused, REFUSED.as_slice()),
     ] {
         for (file, text) in rows {

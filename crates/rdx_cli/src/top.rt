@@ -71,9 +71,6 @@ pub fn run<S: Source, K: Sink>(
         → ¬ Rose (S.faults source.old) (S.faults source.new)
         → ¬ Rose (K.faults sink.old) (K.faults sink.new)
         → IsFinished result ⊎ (result ≡ Status.NoMemory) }
-
-    // No form states anything so far.
-    ensures met { result ≢ Status.Unmet }
 {
     let Some(mode) = mode_of(words) else {
         return Status::Usage;

@@ -32,8 +32,7 @@ pub struct Transcript {
 
 /// What the row of the table asks for, of a file of these bytes.
 pub fn transcript_of(alloc: Global, mode: &Mode, bytes: &[u8]) -> Result<Transcript, NoMemory>
-    ensures text { IfOk result (λ t. IsTranscript mode.now bytes.now t.text.items t.verdict) }
-    ensures met { IfOk result (λ t. t.verdict ≢ Verdict.Unmet) }
+    ensures { IfOk result (λ t. IsTranscript mode.now bytes.now t.text.items t.verdict) }
 {
     match mode {
         Mode::Run => run_transcript(alloc, bytes),
@@ -42,8 +41,7 @@ pub fn transcript_of(alloc: Global, mode: &Mode, bytes: &[u8]) -> Result<Transcr
 
 // The answers to the queries of a file, or the line that says why it is refused.
 fn run_transcript(alloc: Global, bytes: &[u8]) -> Result<Transcript, NoMemory>
-    ensures text { IfOk result (λ t. RunWrites bytes.now t.text.items t.verdict) }
-    ensures met { IfOk result (λ t. t.verdict ≢ Verdict.Unmet) }
+    ensures { IfOk result (λ t. RunWrites bytes.now t.text.items t.verdict) }
 {
     let data = match contents_of(alloc, bytes)? {
         Contents::Data(data) => data,

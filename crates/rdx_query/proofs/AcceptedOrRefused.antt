@@ -1,26 +1,35 @@
 -- Each form of a file is accepted or refused, and so is the file.
-use Rattle.std.proofs.Common.{◌≡◌, ◌⊎◌, inl, inr, List, [], ◌∷◌, Option, Some, None, refl, ◌∙◌, ap}
+use Rattle.std.proofs.Common.{◌≡◌, ℕ, ◌⊎◌, inl, inr, List, [], ◌∷◌, Option, Some, None, refl, ◌∙◌, ap}
 use Rattle.std.specs.Prelude.{option_map}
 use Rattle.rdx_sexp.specs.Sexp.{Sexp}
 use Rattle.rdx_lang.specs.Edges.{IsFree}
 use Rattle.rdx_lang.specs.Laws.{HasFirstRecursive, FreeOrRecursive}
 use Rattle.rdx_lang.specs.Patterns.{Language}
+use Rattle.rdx_lang.specs.Programs.{Relation}
 use Rattle.rdx_grammar.specs.Forms.{GrammarForm, language_form, extension_form}
 use Rattle.rdx_grammar.specs.Languages.{empty_language, language_over}
+use Rattle.rdx_grammar.specs.Parts.{text_of}
 use Rattle.rdx_grammar.specs.Refusal.{Refusal, unnamed, or_else}
 use Rattle.rdx_grammar.specs.Unbuilt.{unbuilt_at}
 use Rattle.rdx_grammar.specs.Refused.{recursion_at}
-use Rattle.rdx_grammar.specs.declared.shape.fault.DefKind.TheVariants.{Shape}
-use Rattle.rdx_query.specs.Definitions.{Defined, language}
+use Rattle.rdx_grammar.specs.declared.shape.fault.DefKind.TheVariants.{Shape, RacketEscape}
+use Rattle.rdx_defs.specs.RelationForms.{RelationForm, relation_form}
+use Rattle.rdx_defs.specs.RelationReading.{relation_reading}
+use Rattle.rdx_defs.specs.RelationStands.{relation_stands}
+use Rattle.rdx_query.specs.Definitions.{Defined, language, relation}
 use Rattle.rdx_query.specs.File.{Defines, Asks, IsRefusedForm, by_check, by_recursion, Accepts, accepts_none, accepts_definition, accepts_query, Refuses, refuses_here, refuses_behind_definition, refuses_behind_query}
 use Rattle.rdx_query.specs.FormKinds.{DefinitionKind, QueryKind, FormKind, defines, asks, form_kind}
 use Rattle.rdx_query.specs.FormKinds as kind
 use Rattle.rdx_query.specs.Forms.{form_refusal, form_definition, refusal_by_kind, definition_by_kind, query_by_kind, definition_refusal, definition_of, question_refusal, asked_query}
+use Rattle.rdx_query.specs.HostForms.{template_in, host_reading, value_shape_at}
 use Rattle.rdx_query.specs.Known.{Known, nothing, with_definition}
-use Rattle.rdx_query.specs.LanguageForms.{base_name, named_base, language_refusal}
+use Rattle.rdx_query.specs.LanguageForms.{base_name, named_base, language_refusal, plain_language, extended_language}
 use Rattle.rdx_query.specs.Laws.{AreAccepted, AreRefused}
 use Rattle.rdx_query.specs.MatchForms.{QueryParts, query_parts, query_refusal, query_over}
-use Rattle.rdx_query.specs.Queries.{Query, matches, whether, splits}
+use Rattle.rdx_query.specs.Queries.{Query, matches, whether, splits, value, reducts, tagged}
+use Rattle.rdx_query.specs.RelationForms as forms
+use Rattle.rdx_query.specs.RelationForms.{DefineParts, define_parts, relation_names, define_refusal_over, define_refusal_by, defined_relation}
+use Rattle.rdx_query.specs.StepForms.{StepParts, step_parts, steps_refusal}
 
 -- there is a value
 record HasValue (A : Type 0) (o : Option A) : Type 0 where
@@ -43,29 +52,53 @@ language-parts : (K : Known) (base : Language) (l0 : Option Sexp) (d : Sexp) (g 
 language-parts K base l0 d None e = absurd (not_passed (unbuilt_at d) (unnamed Shape d) e)
 language-parts K base l0 d (Some g) e = record { value = g; is = refl }
 
--- so it defines a language
-record DefinesLanguage (K : Known) (d : Sexp) (k : DefinitionKind) : Type 0 where
-  pub value : Language
-  pub is : definition_of K d k ≡ Some (language value)
+-- a form that defines a relation has the parts of one, and so has its list
+list-parts : (K : Known) (d : Sexp) (q : DefineParts) (ns : List (List ℕ)) (o : Option RelationForm) → define_refusal_over K d q ns (relation_stands ns q.body o) ≡ None → HasValue RelationForm o
+list-parts K d q ns None e = by_rest q.rest e
+  where
+    by_rest : (ds : List Sexp) → define_refusal_over K d (record { name = q.name; body = q.body; rest = ds }) ns (relation_stands ns q.body None) ≡ None → HasValue RelationForm None
+    by_rest [] f = absurd (not_passed (unbuilt_at d) (unnamed Shape q.body) f)
+    by_rest (c ∷ ds) f = absurd (not_passed (unbuilt_at d) (unnamed Shape d) f)
+list-parts K d q ns (Some r) e = record { value = r; is = refl }
 
-definition-means : (K : Known) (d : Sexp) (k : DefinitionKind) → definition_refusal K d k ≡ None → DefinesLanguage K d k
+relation-parts : (K : Known) (d : Sexp) (o : Option DefineParts) → define_refusal_by K d o ≡ None → HasValue Relation (forms.relation_among K o)
+relation-parts K d None e = absurd (not_passed (unbuilt_at d) (unnamed RacketEscape d) e)
+relation-parts K d (Some q) e =
+    mapped (relation_reading (relation_names K q) (text_of q.name)) (relation_form q.body) (list-parts K d q (relation_names K q) (relation_form q.body) e)
+
+-- so it defines something
+definition-means : (K : Known) (d : Sexp) (k : DefinitionKind) → definition_refusal K d k ≡ None → HasValue Defined (definition_of K d k)
 definition-means K d kind.language e =
-    let m = mapped (language_over empty_language) (language_form d) (language-parts K empty_language None d (language_form d) e) in
-    record { value = m.value; is = ap (option_map language) m.is }
+    mapped language (plain_language d) (mapped (language_over empty_language) (language_form d) (language-parts K empty_language None d (language_form d) e))
 definition-means K d kind.extension e =
     let base = named_base K (base_name d) in
-    let m = mapped (language_over base) (extension_form d) (language-parts K base (base_name d) d (extension_form d) e) in
-    record { value = m.value; is = ap (option_map language) m.is }
+    mapped language (extended_language K d) (mapped (language_over base) (extension_form d) (language-parts K base (base_name d) d (extension_form d) e))
+definition-means K d kind.relation e = mapped relation (defined_relation K d) (relation-parts K d (define_parts d) e)
 
 -- a query has the parts of one
 query-parts : (K : Known) (d : Sexp) (q : Option QueryParts) → query_refusal K d q ≡ None → HasValue QueryParts q
 query-parts K d None e = absurd (not_passed (unbuilt_at d) (unnamed Shape d) e)
 query-parts K d (Some q) e = record { value = q; is = refl }
 
+-- so has a form that asks for steps
+step-parts : (K : Known) (d : Sexp) (q : Option StepParts) → steps_refusal K d q ≡ None → HasValue StepParts q
+step-parts K d None e = absurd (not_passed (unbuilt_at d) (unnamed Shape d) e)
+step-parts K d (Some q) e = record { value = q; is = refl }
+
+-- and a form that is a host expression
+template-part : (d : Sexp) (o : Option Sexp) (p : Option Refusal) → or_else (unbuilt_at d) (or_else (value_shape_at d o) p) ≡ None → HasValue Sexp o
+template-part d None p e = absurd (not_passed (unbuilt_at d) (unnamed Shape d) e)
+template-part d (Some t) p e = record { value = t; is = refl }
+
 question-means : (K : Known) (d : Sexp) (k : QueryKind) → question_refusal K d k ≡ None → HasValue Query (asked_query K d k)
 question-means K d kind.matches e = mapped (query_over K matches) (query_parts d) (query-parts K d (query_parts d) e)
 question-means K d kind.whether e = mapped (query_over K whether) (query_parts d) (query-parts K d (query_parts d) e)
 question-means K d kind.splits e = mapped (query_over K splits) (query_parts d) (query-parts K d (query_parts d) e)
+question-means K d kind.value e = mapped (λ t. value (host_reading (Some t))) (template_in d) (template-part d (template_in d) _ e)
+question-means K d kind.reducts e =
+    mapped (λ (q : StepParts). reducts (text_of q.relation) (host_reading (template_in q.host))) (step_parts d) (step-parts K d (step_parts d) e)
+question-means K d kind.tagged e =
+    mapped (λ (q : StepParts). tagged (text_of q.relation) (host_reading (template_in q.host))) (step_parts d) (step-parts K d (step_parts d) e)
 
 -- ---- forms
 
@@ -113,12 +146,17 @@ by_outcome K d ds (refused r a) f = inr (record { refusal = r; refused = refuses
 -- ---- what becomes of a form and of a file, where each language is free of left recursion or has a first recursive nonterminal
 
 module _ (decided : FreeOrRecursive) where
+  -- what a form defines is sound, or the form is refused
+  by_soundness : (K : Known) (d : Sexp) (x : Defined) → form_refusal K d ≡ None → form_definition K d ≡ Some x → Outcome K d
+  by_soundness K d (language L) p m = by_freedom K d L p m (decided L)
+  by_soundness K d (relation R) p m = defined (relation R) (record { passes = p; means = m; sound = tt })
+
   -- a form that passes its checks
   by_kind : (K : Known) (d : Sexp) (k : Option FormKind) → form_kind d ≡ k → refusal_by_kind K d k ≡ None → Outcome K d
   by_kind K d None f e = absurd cc
   by_kind K d (Some (defines k)) f e =
       let m = definition-means K d k e in
-      by_freedom K d m.value (ap (refusal_by_kind K d) f ∙ e) (ap (definition_by_kind K d) f ∙ m.is) (decided m.value)
+      by_soundness K d m.value (ap (refusal_by_kind K d) f ∙ e) (ap (definition_by_kind K d) f ∙ m.is)
   by_kind K d (Some (asks k)) f e =
       let m = question-means K d k e in
       asked m.value (record { passes = ap (refusal_by_kind K d) f ∙ e; means = ap (query_by_kind K d) f ∙ m.is })

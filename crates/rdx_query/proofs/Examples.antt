@@ -1,7 +1,7 @@
 -- The worked examples hold.
 use Rattle.std.proofs.Common.{◌≡◌, ◌⊎◌, ℕ, pos, List, [], ◌∷◌, ◌++◌, Some, None, inl, inr, refl, ap, sym, ◌∙◌, subst, codes, arith}
 use Rattle.std.specs.Str.{chars}
-use Rattle.std.specs.Prelude.{decimal, true}
+use Rattle.std.specs.Prelude.{decimal, true, false}
 use Rattle.std.proofs.lemmas.Fmt.{decimal_digit}
 use Rattle.rdx_base.specs.declared.place.Span.{Span}
 use Rattle.std.specs.declared.cmp.Ordering.{Ordering}
@@ -20,13 +20,23 @@ use Rattle.rdx_lang.specs.Rules.{Match, MatchItems, SplitItems, IsAlternative, m
 use Rattle.rdx_lang.specs.declared.pattern.Kind.TheVariants.{Any}
 use Rattle.rdx_lang.specs.declared.pattern.Ref.{Ref}
 use Rattle.rdx_lang.specs.declared.pattern.Ref.TheVariants.{Nt}
-use Rattle.rdx_query.specs.AnswerText.{matches_text, splits_text}
-use Rattle.rdx_query.specs.Answering.{no_answers, more_answers}
+use Rattle.rdx_lang.specs.Programs.{Relation, Rule}
+use Rattle.rdx_lang.specs.Templates as template
+use Rattle.rdx_lang.specs.Templates.{Host, term}
+use Rattle.rdx_lang.proofs.Examples.{listed as listing}
+use Rattle.rdx_eval.specs.Answers.{value, goes, lists, not_context}
+use Rattle.rdx_eval.specs.Calls.{Calls, calls_at, height}
+use Rattle.rdx_eval.specs.Making.{listed, filled, filled_no_context}
+use Rattle.rdx_reduce.specs.Relations.{AreSteps}
+use Rattle.rdx_reduce.specs.Steps.{Step, RuleSteps}
+use Rattle.rdx_query.specs.AnswerText.{matches_text, splits_text, value_line, reducts_text, steps_text, fault_line}
+use Rattle.rdx_query.specs.Answering.{HostValue, over_value, over_fault, no_answers, more_answers}
 use Rattle.rdx_query.specs.Definitions.{language}
-use Rattle.rdx_query.specs.Examples.{defines_L, marked_pair, AnswersInOrder, WholeAnswer, Inherited, OneSplit, OwnHole, OneHole, NoOwnHole, NestedSequences, OwnHoleInSequence, LengthInDecimal, FirstRefusedForm, EarlierLanguagesOnly, TakenName, HostExpression, FilledTerm, FewItems, LeftRecursion}
+use Rattle.rdx_query.specs.Examples.{defines_L, marked_pair, AnswersInOrder, WholeAnswer, Inherited, OneSplit, FilledTerm, FaultAnswered, OneReductTwoSteps, OwnHole, OneHole, NoOwnHole, NestedSequences, OwnHoleInSequence, LengthInDecimal, FirstRefusedForm, EarlierLanguagesOnly, TakenName, HostExpression, FewItems, LeftRecursion}
 use Rattle.rdx_query.specs.File.{Defines, by_check, by_recursion, accepts_none, accepts_definition, accepts_query, refuses_here, refuses_behind_definition}
-use Rattle.rdx_query.specs.Known.{nothing}
-use Rattle.rdx_query.specs.Queries.{matches, whether, splits}
+use Rattle.rdx_query.specs.Known.{Known, nothing}
+use Rattle.rdx_query.specs.Queries.{matches, whether, splits, value as itself, reducts, tagged}
+use Rattle.rdx_query.specs.StepAnswers.{reducts_in, AreReducts, named_steps, reducts_found, steps_found}
 
 -- ---- languages with one nonterminal e, whose alternatives are literals
 
@@ -301,20 +311,103 @@ own_hole_in_sequence =
 pub length_in_decimal : LengthInDecimal
 length_in_decimal = sym (λ i. codes "..._a" ++ codes " = " ++ two_digit i)
 
+-- ---- what host expressions make
+
+-- what L is
+abbrev known_L : Known
+known_L = record { languages = L ∷ []; relations = [] }
+
+-- a literal makes itself
+abbrev literal : ℕ → Host
+literal n = term (template.lit (tree.integer (pos n)))
+
+-- `(1 2)`
+abbrev pair_template : Host
+pair_template = term (template.seq (template.one (template.lit (tree.integer (pos 1))) (template.one (template.lit (tree.integer (pos 2))) template.nil)))
+
+pair_made : (K : Known) → HostValue K pair_template (value pair)
+pair_made K = goes (goes (goes refl refl) (goes (goes (goes refl refl) (goes refl refl)) refl)) (listed (record { shallow = omega arith; small = omega arith }))
+
+-- `(1 hole)`
+abbrev split_template : template.Template
+split_template = template.seq (template.one (template.lit (tree.integer (pos 1))) (template.one (template.lit tree.hole) template.nil))
+
+split_made : (K : Known) → HostValue K (term split_template) (value split_term)
+split_made K = goes (goes (goes refl refl) (goes (goes (goes refl refl) (goes refl refl)) refl)) (listed (record { shallow = omega arith; small = omega arith }))
+
+-- `(in-hole (1 hole) 2)`
+filled_made : (K : Known) → HostValue K (term (template.fill split_template (template.lit (tree.integer (pos 2))))) (value pair)
+filled_made K = goes (split_made K) (goes refl (filled refl (record { shallow = omega arith; small = omega arith })))
+
+-- `(in-hole 1 2)`
+abbrev unfilled : Host
+unfilled = term (template.fill (template.lit (tree.integer (pos 1))) (template.lit (tree.integer (pos 2))))
+
+-- ---- the steps of R
+
+-- `(--> 1 2 x)`
+abbrev rule_named : List ℕ → Rule
+rule_named x = record { name = Some x; pattern = lit (tree.integer (pos 1)); extras = []; result = template.lit (tree.integer (pos 2)) }
+
+-- what the form defines
+abbrev R : Relation
+R = record { name = codes "R"; language = codes "L"; domain = None; rules = rule_named (codes "a") ∷ rule_named (codes "b c") ∷ [] }
+
+-- what L and R are
+abbrev known_R : Known
+known_R = record { languages = L ∷ []; relations = R ∷ [] }
+
+-- the step by the rule at this place
+abbrev step : ℕ → Step
+step i = record { rule = i; reduct = tree.integer (pos 2) }
+
+abbrev both_steps : List Step
+both_steps = step 0 ∷ step 1 ∷ []
+
+-- each rule takes one
+one_taken : (C : Calls) (i : ℕ) (x : List ℕ) → RuleSteps L C (tree.integer (pos 1)) i (rule_named x) (value (step i ∷ []))
+one_taken C i x = goes (goes (lists second_listing) refl) (goes (goes (goes refl refl) refl) (goes refl refl))
+
+-- and these are all
+taken : AreSteps known_R R (tree.integer (pos 1)) (value both_steps)
+taken =
+    let C : Calls = calls_at known_R height in
+    goes (goes (one_taken C 0 (codes "a")) (goes (goes (one_taken C 1 (codes "b c")) (goes refl refl)) refl))
+    (lists (listing both_steps ((refl, tt), (tt, tt)) (here refl, (there (here refl), tt)) (λ s i. i)))
+
+-- both lead to one term
+same_reduct : (t : tree.Tree) → In t (reducts_in both_steps) → t ≡ tree.integer (pos 2)
+same_reduct t (here e) = e
+same_reduct t (there (here e)) = e
+same_reduct t (there (there i)) = elim i [ ]
+
+one_reduct : AreReducts both_steps (tree.integer (pos 2) ∷ [])
+one_reduct = one_alone (tree.integer (pos 2)) (here refl) same_reduct
+
+reducts_printed : codes "reducts 1\n  2\n" ≡ reducts_text (tree.integer (pos 2) ∷ [])
+reducts_printed = λ i. codes "reducts" ++ codes " " ++ one_digit i ++ codes "\n" ++ (codes "  " ++ two_digit i ++ codes "\n" ++ [])
+
+steps_printed : codes "steps 2\n  a 2\n  \"b c\" 2\n" ≡ steps_text (named_steps R.rules both_steps)
+unfolding chars
+steps_printed = λ i. codes "steps" ++ codes " " ++ two_digit i ++ codes "\n"
+    ++ (codes "  " ++ (codes "a" ++ codes " " ++ two_digit i) ++ codes "\n" ++ (codes "  " ++ (codes "\"b c\"" ++ codes " " ++ two_digit i) ++ codes "\n" ++ []))
+
 -- ---- the examples
 
 pub answers_in_order : AnswersInOrder
 unfolding chars
 answers_in_order s = record {
-  known = record { languages = L ∷ [] };
-  queries = matches (codes "L") pattern pair ∷ matches (codes "L") (lit (tree.integer (pos 1))) (tree.integer (pos 1)) ∷ [];
+  known = known_L;
+  queries = matches (codes "L") pattern pair_template ∷ matches (codes "L") (lit (tree.integer (pos 1))) (literal 1) ∷ [];
   accepted =
       accepts_definition (defines s) (accepts_query (record { passes = refl; means = refl }) (accepts_query (record { passes = refl; means = refl }) accepts_none));
   answers =
       more_answers (codes "match 1\n  any_x = 2, any_y = 1\n") (codes "match 1\n  -\n") true true
-      (record { found = both ∷ []; finds = record { language = L; known = refl; listing = first_listing }; printed = first_printed; is_met = refl })
+      (over_value pair (pair_made known_L)
+      (record { found = both ∷ []; finds = record { language = L; known = refl; listing = first_listing }; printed = first_printed; is_met = refl }))
       (more_answers (codes "match 1\n  -\n") [] true true
-      (record { found = [] ∷ []; finds = record { language = L; known = refl; listing = second_listing }; printed = second_printed; is_met = refl }) no_answers);
+      (over_value (tree.integer (pos 1)) refl
+      (record { found = [] ∷ []; finds = record { language = L; known = refl; listing = second_listing }; printed = second_printed; is_met = refl })) no_answers);
 }
 
 pub first_refused_form : FirstRefusedForm
@@ -326,43 +419,91 @@ earlier_languages_only s l = refuses_here (by_check refl)
 pub whole_answer : WholeAnswer
 unfolding chars
 whole_answer s = record {
-  known = record { languages = L ∷ [] };
-  queries = whether (codes "L") named_e (tree.integer (pos 1)) ∷ whether (codes "L") named_e (tree.integer (pos 2)) ∷ [];
+  known = known_L;
+  queries = whether (codes "L") named_e (literal 1) ∷ whether (codes "L") named_e (literal 2) ∷ [];
   accepted =
       accepts_definition (defines s) (accepts_query (record { passes = refl; means = refl }) (accepts_query (record { passes = refl; means = refl }) accepts_none));
   answers =
       more_answers (codes "matches #t\n") (codes "matches #f\n") true true
-      (record { found = binds (codes "e") 1 ∷ []; finds = record { language = L; known = refl; listing = e_listing (codes "L") }; printed = refl; is_met = refl })
+      (over_value (tree.integer (pos 1)) refl
+      (record { found = binds (codes "e") 1 ∷ []; finds = record { language = L; known = refl; listing = e_listing (codes "L") }; printed = refl; is_met = refl }))
       (more_answers (codes "matches #f\n") [] true true
-      (record { found = []; finds = record { language = L; known = refl; listing = none_listing }; printed = refl; is_met = refl }) no_answers);
+      (over_value (tree.integer (pos 2)) refl
+      (record { found = []; finds = record { language = L; known = refl; listing = none_listing }; printed = refl; is_met = refl })) no_answers);
 }
 
 pub inherited : Inherited
 unfolding chars
 inherited s = record {
-  known = record { languages = L ∷ M ∷ [] };
-  queries = whether (codes "M") named_e (tree.integer (pos 1)) ∷ [];
+  known = record { languages = L ∷ M ∷ []; relations = [] };
+  queries = whether (codes "M") named_e (literal 1) ∷ [];
   accepted =
       accepts_definition (defines s)
       (accepts_definition (record { passes = refl; means = refl; sound = free (codes "M") (1 ∷ []) }) (accepts_query (record { passes = refl; means = refl }) accepts_none));
   answers =
       more_answers (codes "matches #t\n") [] true true
-      (record { found = binds (codes "e") 1 ∷ []; finds = record { language = M; known = refl; listing = e_listing (codes "M") }; printed = refl; is_met = refl }) no_answers;
+      (over_value (tree.integer (pos 1)) refl
+      (record { found = binds (codes "e") 1 ∷ []; finds = record { language = M; known = refl; listing = e_listing (codes "M") }; printed = refl; is_met = refl })) no_answers;
 }
 
 pub one_split : OneSplit
 unfolding chars
 one_split s = record {
-  known = record { languages = L ∷ [] };
-  queries = splits (codes "L") split_pattern split_term ∷ [];
+  known = known_L;
+  queries = splits (codes "L") split_pattern (term split_template) ∷ [];
   accepted = accepts_definition (defines s) (accepts_query (record { passes = refl; means = refl }) accepts_none);
   answers =
       more_answers (codes "splits 1\n  (hole hole) at [0] is 1 with any = hole\n") [] true true
-      (record { found = split ∷ []; finds = record { language = L; known = refl; listing = split_listing }; printed = split_printed; is_met = refl }) no_answers;
+      (over_value split_term (split_made known_L)
+      (record { found = split ∷ []; finds = record { language = L; known = refl; listing = split_listing }; printed = split_printed; is_met = refl })) no_answers;
 }
 
+value_printed : codes "value (1 2)\n" ≡ value_line pair
+value_printed = λ i. codes "value " ++ (codes "(" ++ (one_digit i ++ (codes " " ++ two_digit i ++ [])) ++ codes ")") ++ codes "\n"
+
 pub filled_term : FilledTerm
-filled_term s q = refuses_here (by_check refl)
+unfolding chars
+filled_term s = record {
+  known = nothing;
+  queries = itself (term (template.fill split_template (template.lit (tree.integer (pos 2))))) ∷ [];
+  accepted = accepts_query (record { passes = refl; means = refl }) accepts_none;
+  answers = more_answers (codes "value (1 2)\n") [] true true (over_value pair (filled_made nothing) (record { printed = value_printed; is_met = refl })) no_answers;
+}
+
+fault_printed : codes "fault NotContext 0\n" ≡ fault_line (not_context 0)
+fault_printed = λ i. codes "fault " ++ (codes "NotContext " ++ zero_digit i) ++ codes "\n"
+
+one_printed : codes "value 1\n" ≡ value_line (tree.integer (pos 1))
+one_printed = λ i. codes "value " ++ one_digit i ++ codes "\n"
+
+pub fault_answered : FaultAnswered
+fault_answered s = record {
+  known = nothing;
+  queries = itself unfilled ∷ itself (literal 1) ∷ [];
+  accepted = accepts_query (record { passes = refl; means = refl }) (accepts_query (record { passes = refl; means = refl }) accepts_none);
+  answers =
+      more_answers (codes "fault NotContext 0\n") (codes "value 1\n") false true
+      (over_fault (not_context 0) (goes refl (goes refl (filled_no_context (refl, refl)))) fault_printed refl)
+      (more_answers (codes "value 1\n") [] true true (over_value (tree.integer (pos 1)) refl (record { printed = one_printed; is_met = refl })) no_answers);
+}
+
+pub one_reduct_two_steps : OneReductTwoSteps
+unfolding chars
+one_reduct_two_steps s = record {
+  known = known_R;
+  queries = reducts (codes "R") (literal 1) ∷ tagged (codes "R") (literal 1) ∷ [];
+  accepted =
+      accepts_definition (defines s)
+      (accepts_definition (record { passes = refl; means = refl; sound = tt })
+      (accepts_query (record { passes = refl; means = refl }) (accepts_query (record { passes = refl; means = refl }) accepts_none)));
+  answers =
+      more_answers (codes "reducts 1\n  2\n") (codes "steps 2\n  a 2\n  \"b c\" 2\n") true true
+      (over_value (tree.integer (pos 1)) refl
+      (record { relation = R; known = refl; answer = value both_steps; steps = taken; written = reducts_found (tree.integer (pos 2) ∷ []) one_reduct reducts_printed refl }))
+      (more_answers (codes "steps 2\n  a 2\n  \"b c\" 2\n") [] true true
+      (over_value (tree.integer (pos 1)) refl
+      (record { relation = R; known = refl; answer = value both_steps; steps = taken; written = steps_found steps_printed refl })) no_answers);
+}
 
 pub taken_name : TakenName
 taken_name s l = refuses_behind_definition (defines s) (refuses_here (by_check refl))

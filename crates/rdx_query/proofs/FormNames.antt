@@ -16,7 +16,8 @@ use Rattle.rdx_query.specs.FormKinds as kind
 use Rattle.rdx_query.specs.Forms.{form_refusal, refusal_by_kind, form_definition, definition_by_kind}
 use Rattle.rdx_query.specs.Inside.Defining.{language_by_check, language_by_recursion, DefinesOver, DefinesBy, IsNamed}
 use Rattle.rdx_query.specs.Inside.PartViews.{second_among}
-use Rattle.rdx_query.specs.Known.{Known, language_named, or_empty}
+use Rattle.rdx_lang.specs.Programs.{language_named}
+use Rattle.rdx_query.specs.Known.{Known, or_empty}
 use Rattle.rdx_query.specs.LanguageForms.{base_name, named_base, unknown_at, unknown_by, language_refusal}
 
 -- ---- the name of the language that is defined

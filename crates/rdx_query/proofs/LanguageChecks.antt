@@ -1,131 +1,151 @@
 -- Which check refuses a form that defines a language.
-use Rattle.std.proofs.Common.{◌≡◌, Bool, true, false, List, [], ◌∷◌, Option, Some, None, Result, Ok, Err, refl, sym, ◌∙◌, ap}
-use Rattle.std.specs.Prelude.{option_map, is_some, if◌then◌else◌}
+use Rattle.std.proofs.Common.{◌≡◌, ◌<◌, Bool, true, false, [], ◌∷◌, Option, Some, None, Result, Ok, Err, refl, sym, ◌∙◌, ap, subst, arith, if◌then◌else◌}
+use Rattle.std.specs.Prelude.{option_map}
 use Rattle.rdx_sexp.specs.Sexp.{Sexp}
 use Rattle.rdx_lang.specs.Patterns.{Language}
+use Rattle.rdx_lang.specs.Programs.{language_named}
 use Rattle.rdx_lang.specs.declared.checked.CheckedLang.{CheckedLang}
 use Rattle.rdx_grammar.specs.Answers.{ReadsForm}
-use Rattle.rdx_grammar.specs.Refusal.{refusal_of}
-use Rattle.rdx_grammar.specs.Checks.{shape_faults}
 use Rattle.rdx_grammar.specs.Forms.{GrammarForm}
 use Rattle.rdx_grammar.specs.Languages.{language_over}
-use Rattle.rdx_grammar.specs.Stands.{form_stands}
 use Rattle.rdx_grammar.specs.Parts.{text_of}
-use Rattle.rdx_grammar.specs.Refusal.{Refusal, unnamed, named, or_else, first, first_refusal}
+use Rattle.rdx_grammar.specs.Refusal.{Refusal, refusal_of, unnamed, named, or_else, first_refusal}
 use Rattle.rdx_grammar.specs.Refused.{by_check, by_recursion, shape_at, duplicate_at, bad_name_at, bad_pattern_at, depth_clash_at, names_over, refusal_over}
-use Rattle.rdx_grammar.specs.Unbuilt.{unbuilt_at}
-use Rattle.rdx_grammar.specs.Stands.{Stand}
-use Rattle.rdx_grammar.specs.Unbuilt.{has_word_to_come}
+use Rattle.rdx_grammar.specs.Stands.{form_stands}
+use Rattle.rdx_grammar.specs.Unbuilt.{has_word_to_come, unbuilt_at}
 use Rattle.rdx_grammar.specs.declared.shape.fault.DefFault.{DefFault}
 use Rattle.rdx_grammar.specs.declared.shape.fault.DefFault.TheVariants.{Refused, NoMemory}
-use Rattle.rdx_grammar.specs.declared.shape.fault.DefKind.TheVariants.{Unbuilt, Shape, Duplicate}
-use Rattle.rdx_query.specs.Inside.Defining.{is_early_kind, is_settled, IsRefusedLanguage, language_by_check, language_by_recursion, DefinesOver, IsNamed, taken_among, taken_name}
-use Rattle.rdx_query.specs.Known.{Known, language_named}
-use Rattle.rdx_query.specs.LanguageForms.{unknown_at, taken_at, taken_by, language_refusal}
+use Rattle.rdx_grammar.specs.declared.shape.fault.DefKind.TheVariants.{Unbuilt, Shape, UnknownLanguage, Duplicate, BadName, BadPattern, EllipsisDepth}
+use Rattle.rdx_grammar.specs.declared.shape.fault.DefRefusal.{DefRefusal}
+use Rattle.rdx_query.specs.Inside.Defining.{IsLanguageFault, language_by_check, language_by_recursion, DefinesOver, IsNamed, taken_at_item}
+use Rattle.rdx_query.specs.Inside.Earlier.{number, earlier, IsFirstFault, IsUnless}
+use Rattle.rdx_query.specs.Inside.PartViews.{second_item}
+use Rattle.rdx_query.specs.Known.{Known, is_taken}
+use Rattle.rdx_query.specs.LanguageForms.{unknown_at, unknown_by, taken_at, name_taken_at, language_refusal}
+use Rattle.rdx_query.proofs.CheckNumbers.{HasNumber, Checks, AreChecks, refused, merge, merged, or_none, unnamed-number, named-number, earlier_of-first}
 
--- ---- early refusals
+-- ---- numbers
 
--- if it is a refusal, it is one that comes before each look at the languages so far
-abbrev IsEarly : Option Refusal → Type 0
-IsEarly o = (q : Refusal) → o ≡ Some q → is_early_kind q.kind ≡ true
+-- of the check of unbuilt words
+unbuilt-number : (b : Bool) (d : Sexp) → HasNumber 0 (if b then Some (unnamed Unbuilt d) else None)
+unbuilt-number true d r e = unnamed-number Unbuilt (Some d) r e
+unbuilt-number false d r e = absurd cc
 
--- a refusal by an unbuilt word, where a test says so
-early_test : (b : Bool) (d : Sexp) → IsEarly (if b then Some (unnamed Unbuilt d) else None)
-early_test true d q e = let g : unnamed Unbuilt d ≡ q = cc in ap (λ (r : Refusal). is_early_kind r.kind) (sym g)
-early_test false d q e = absurd cc
+-- of that of a language's name
+unknown_by-number : (o : Option Language) (l : Sexp) → HasNumber 2 (unknown_by o l)
+unknown_by-number None l r e = named-number UnknownLanguage (Some l) r e
+unknown_by-number (Some L) l r e = absurd cc
 
--- so the check of unbuilt words is early
-unbuilt_early : (d : Sexp) → IsEarly (unbuilt_at d)
-unbuilt_early d = early_test (has_word_to_come d) d
+pub unknown-number : (K : Known) (o : Option Sexp) → HasNumber 2 (unknown_at K o)
+unknown-number K None r e = absurd cc
+unknown-number K (Some l) r e = unknown_by-number (language_named K (text_of l)) l r e
 
--- a refusal by the shape, at the first fault
-early_shape : (o : Option Sexp) → IsEarly (option_map (unnamed Shape) o)
-early_shape None q e = absurd cc
-early_shape (Some d) q e = let g : unnamed Shape d ≡ q = cc in ap (λ (r : Refusal). is_early_kind r.kind) (sym g)
+-- of that of a name that is taken
+taken_by-number : (b : Bool) (x : Sexp) → HasNumber 3 (if b then Some (named Duplicate x) else None)
+taken_by-number true x r e = named-number Duplicate (Some x) r e
+taken_by-number false x r e = absurd cc
 
--- so the check of shapes is early
-shape_early : (ss : List Stand) → IsEarly (shape_at ss)
-shape_early ss = early_shape (first (shape_faults ss))
+pub taken-number : (K : Known) (x : Sexp) → HasNumber 3 (name_taken_at K x)
+taken-number K x = taken_by-number (is_taken K (text_of x)) x
 
--- the checks of a form by itself, behind that of its shape
-abbrev later : Language → Option GrammarForm → List Stand → Option Refusal
-later base g ss =
+item-number : (K : Known) (o : Option Sexp) → HasNumber 3 (taken_at_item K o)
+item-number K None r e = absurd cc
+item-number K (Some x) r e = taken-number K x r e
+
+-- ---- the checks
+
+-- those of a form by itself, but for left recursion
+abbrev form_checks : Language → Sexp → Option GrammarForm → Checks
+form_checks base d g =
+    (0, unbuilt_at d)
+    ∷ (1, shape_at (form_stands d g))
+    ∷ (3, duplicate_at (form_stands d g))
+    ∷ (4, bad_name_at (form_stands d g))
+    ∷ (5, bad_pattern_at base (names_over base g) (form_stands d g))
+    ∷ (6, depth_clash_at (names_over base g) (form_stands d g))
+    ∷ []
+
+form-checks : (base : Language) (d : Sexp) (g : Option GrammarForm) → AreChecks 0 (form_checks base d g)
+form-checks base d g = (
+  omega arith,
+  (
+    unbuilt-number (has_word_to_come d) d,
+    (
+      omega arith,
+      (
+        unnamed-number Shape _,
+        (
+          omega arith,
+          (
+            named-number Duplicate _,
+            (
+              omega arith,
+              (
+                named-number BadName _,
+                (omega arith, (unnamed-number BadPattern _, (omega arith, (named-number EllipsisDepth _, tt)))),
+              ),
+            ),
+          ),
+        ),
+      ),
+    ),
+  ),
+)
+
+-- those of names
+abbrev name_checks : Known → Option Sexp → Option Sexp → Checks
+name_checks K l0 x = (2, unknown_at K l0) ∷ (3, taken_at_item K x) ∷ []
+
+name-checks : (K : Known) (l0 x : Option Sexp) → AreChecks 0 (name_checks K l0 x)
+name-checks K l0 x = (omega arith, (unknown-number K l0, (omega arith, (item-number K x, tt))))
+
+-- a form is refused by all of them
+chain : (K : Known) (base : Language) (l0 : Option Sexp) (d : Sexp) (g : Option GrammarForm) → IsNamed d g → language_refusal K base l0 d g ≡ refused (merge (name_checks K l0 (second_item d)) (form_checks base d g))
+chain K base l0 d None n = refl
+chain K base l0 d (Some g) n =
+    let ss = form_stands d (Some g) in
+    let last = or_else (duplicate_at ss) (or_else (bad_name_at ss) (or_else (bad_pattern_at base (names_over base (Some g)) ss) (or_else (depth_clash_at (names_over base (Some g)) ss) None))) in
+    λ i. or_else (unbuilt_at d) (or_else (shape_at ss) (or_else (unknown_at K l0) (or_else (taken_at_item K (sym (n g refl) i)) last)))
+
+-- ---- a form over a base that is known
+
+-- the refusal of its name, or of what else stands in it
+known-refusal : (K : Known) (base : Language) (l0 : Option Sexp) (d : Sexp) (g : Option GrammarForm) → IsNamed d g → unknown_at K l0 ≡ None → language_refusal K base l0 d g ≡ earlier (taken_at_item K (second_item d)) (refusal_over base d g)
+known-refusal K base l0 d g n u =
+    chain K base l0 d g n
+    ∙ merged 0 (name_checks K l0 (second_item d)) (form_checks base d g) (name-checks K l0 (second_item d)) (form-checks base d g)
+    ∙ (λ i. earlier (or_else (u i) (or_else (taken_at_item K (second_item d)) None)) (refusal_over base d g))
+    ∙ ap (λ (o : Option Refusal). earlier o (refusal_over base d g)) (or_none (taken_at_item K (second_item d)))
+
+-- ---- over one that is unknown
+
+-- the checks behind that of the base's name
+abbrev behind_name : Known → Language → Sexp → Option GrammarForm → Option Refusal
+behind_name K base d g =
     first_refusal
-    (duplicate_at ss ∷ bad_name_at ss ∷ bad_pattern_at base (names_over base g) ss ∷ depth_clash_at (names_over base g) ss ∷ [])
+    (taken_at K g ∷ duplicate_at (form_stands d g) ∷ bad_name_at (form_stands d g) ∷ bad_pattern_at base (names_over base g) (form_stands d g)
+    ∷ depth_clash_at (names_over base g) (form_stands d g) ∷ [])
 
--- ---- in a chain of checks
+-- the refusal of its base's name comes before those of the base, whatever that is
+unknown-refusal : (K : Known) (base other : Language) (l : Sexp) (d : Sexp) (g : Option GrammarForm) → language_named K (text_of l) ≡ None → language_refusal K base (Some l) d g ≡ earlier (Some (named UnknownLanguage l)) (refusal_over other d g)
+unknown-refusal K base other l d g u =
+    let names : AreChecks 0 ((2, Some (named UnknownLanguage l)) ∷ []) = (omega arith, (named-number UnknownLanguage (Some l), tt)) in
+    (λ i. or_else (unbuilt_at d) (or_else (shape_at (form_stands d g)) (or_else (unknown_by (u i) l) (behind_name K base d g))))
+    ∙ merged 0 ((2, Some (named UnknownLanguage l)) ∷ []) (form_checks other d g) names (form-checks other d g)
 
--- what passes or is refused late passes the early checks
-record ArePassed (u s : Option Refusal) : Type 0 where
-  pub unbuilt : u ≡ None
-  pub shape : s ≡ None
+-- ---- what is answered
 
--- what passes all checks passes the early ones
-chain_none : (u s o : Option Refusal) → or_else u (or_else s o) ≡ None → ArePassed u s
-chain_none None None o e = record { unbuilt = refl; shape = refl }
-chain_none None (Some x) o e = absurd cc
-chain_none (Some x) s o e = absurd cc
-
--- and so does what is refused by none of them
-chain_late : (u s o : Option Refusal) (r : Refusal) → IsEarly u → IsEarly s → is_early_kind r.kind ≡ false → or_else u (or_else s o) ≡ Some r → ArePassed u s
-chain_late None None o r f g k e = record { unbuilt = refl; shape = refl }
-chain_late None (Some x) o r f g k e = let h = g r e in absurd cc
-chain_late (Some x) s o r f g k e = let h = f r e in absurd cc
-
--- the form passes the checks that come before
-abbrev IsBuilt : Sexp → Option GrammarForm → Type 0
-IsBuilt d g = ArePassed (unbuilt_at d) (shape_at (form_stands d g))
-
--- an answer that is not settled passes them
-unsettled : (base : Language) (d : Sexp) (g : Option GrammarForm) (x : Result CheckedLang DefFault) → is_settled x ≡ false → ReadsForm base d g x → IsBuilt d g
-unsettled base d g (Ok c) e a = chain_none (unbuilt_at d) (shape_at (form_stands d g)) (later base g (form_stands d g)) a.passes
-unsettled base d g (Err NoMemory) e a = absurd cc
-unsettled base d g (Err (Refused r)) e (by_check f) =
-    chain_late (unbuilt_at d) (shape_at (form_stands d g)) (later base g (form_stands d g)) (refusal_of r) (unbuilt_early d) (shape_early (form_stands d g)) e f
-unsettled base d g (Err (Refused r)) e (by_recursion ps x f h k i) = chain_none (unbuilt_at d) (shape_at (form_stands d g)) (later base g (form_stands d g)) f
-
--- ---- the name is taken
-
--- where the name was found, the check refuses it
-taken_found : (K : Known) (l m : Sexp) (o : Option Language) → (if is_some o then Some l else None) ≡ Some m → taken_by o l ≡ Some (named Duplicate m)
-taken_found K l m None e = absurd cc
-taken_found K l m (Some L) e = let f : l ≡ m = cc in ap (λ (k : Sexp). Some (named Duplicate k)) f
-
--- where it was not found, the check lets it pass
-taken_not : (l : Sexp) (o : Option Language) → (let p : Option Sexp = if is_some o then Some l else None in p) ≡ None → taken_by o l ≡ None
-taken_not l None e = refl
-taken_not l (Some L) e = absurd cc
-
--- a form without the shape of one is refused before
-taken-some : (K : Known) (d : Sexp) (g : Option GrammarForm) (m : Sexp) → IsBuilt d g → IsNamed d g → taken_name K d ≡ Some m → taken_at K g ≡ Some (named Duplicate m)
-taken-some K d None m p n e = let f = p.shape in absurd cc
-taken-some K d (Some g) m p n e = taken_found K g.name m (language_named K (text_of g.name)) (ap (taken_among K) (sym (n g refl)) ∙ e)
-
--- the name is not taken
-taken-none : (K : Known) (d : Sexp) (g : Option GrammarForm) → IsNamed d g → taken_name K d ≡ None → taken_at K g ≡ None
-taken-none K d None n e = refl
-taken-none K d (Some g) n e = taken_not g.name (language_named K (text_of g.name)) (ap (taken_among K) (sym (n g refl)) ∙ e)
-
--- the form is refused by its name
-pub taken : (K : Known) (base : Language) (l0 : Option Sexp) (d : Sexp) (g : Option GrammarForm) (x : Result CheckedLang DefFault) (m : Sexp) (r : Refusal) → is_settled x ≡ false → ReadsForm base d g x → unknown_at K l0 ≡ None → IsNamed d g → taken_name K d ≡ Some m → r ≡ named Duplicate m → IsRefusedLanguage K base l0 d g r
-taken K base l0 d g x m r e a u n t f =
-    let p = unsettled base d g x e a in
-    let k = taken-some K d g m p n t in
-    let h : language_refusal K base l0 d g ≡ Some (named Duplicate m) = λ i.
-    or_else (p.unbuilt i) (or_else (p.shape i) (or_else (u i) (or_else (k i) (later base g (form_stands d g)))))
-    in language_by_check (h ∙ ap Some (sym f))
-
--- ---- it is not taken
-
--- where the base is known and the name is not taken, the checks are those of the form by itself
-same_refusal : (K : Known) (base : Language) (l0 : Option Sexp) (d : Sexp) (g : Option GrammarForm) → IsBuilt d g → unknown_at K l0 ≡ None → taken_at K g ≡ None → language_refusal K base l0 d g ≡ refusal_over base d g
-same_refusal K base l0 d g p u k =
-    let ss = form_stands d g in
-    let h : language_refusal K base l0 d g ≡ later base g ss = λ i.
-    or_else (p.unbuilt i) (or_else (p.shape i) (or_else (u i) (or_else (k i) (later base g ss))))
-    in
-    let m : refusal_over base d g ≡ later base g ss = λ i. or_else (p.unbuilt i) (or_else (p.shape i) (later base g ss)) in
-    h ∙ sym m
+-- a refusal of names is reported, or an earlier one of the form
+first-fault : (K : Known) (base other : Language) (l0 : Option Sexp) (d : Sexp) (g : Option GrammarForm) (r : DefRefusal) (x : Result CheckedLang DefFault) (e : DefFault) → number r.kind < 7 → ReadsForm other d g x
+    → language_refusal K base l0 d g ≡ earlier (Some (refusal_of r)) (refusal_over other d g) → IsFirstFault r x e → IsLanguageFault K base l0 d g e
+first-fault K base other l0 d g r x NoMemory h a f k = tt
+first-fault K base other l0 d g r (Ok c) (Refused q) h a f k = language_by_check (f ∙ ap (earlier (Some (refusal_of r))) a.passes ∙ k None refl)
+first-fault K base other l0 d g r (Err NoMemory) (Refused q) h a f k = language_by_check (f ∙ k (refusal_over other d g) tt)
+first-fault K base other l0 d g r (Err (Refused p)) (Refused q) h (by_check b) f k = language_by_check (f ∙ k (refusal_over other d g) b)
+first-fault K base other l0 d g r (Err (Refused p)) (Refused q) h (by_recursion ps y b c m i) f k =
+    let seven : number (refusal_of p).kind ≡ 7 = ap (λ (s : Refusal). number s.kind) i in
+    let none : earlier (Some (refusal_of r)) (Some (refusal_of p)) ≡ Some (refusal_of r) = ap Some (earlier_of-first (refusal_of r) (refusal_of p) (omega (arith, h, seven))) in
+    language_by_check (f ∙ ap (earlier (Some (refusal_of r))) b ∙ sym none ∙ k (Some (refusal_of p)) refl)
 
 -- where the checks are the same, so is what they say
 as_read : (K : Known) (base : Language) (l0 : Option Sexp) (d : Sexp) (g : Option GrammarForm) (x : Result CheckedLang DefFault) → language_refusal K base l0 d g ≡ refusal_over base d g → ReadsForm base d g x → DefinesOver K base l0 d g x
@@ -139,6 +159,21 @@ as_read K base l0 d g (Err (Refused r)) e (by_check f) = language_by_check (e �
 as_read K base l0 d g (Err (Refused r)) e (by_recursion ps x f h k i) =
     language_by_recursion (language_over base ps) x (e ∙ f) (ap (option_map (language_over base)) h) k i
 
--- the answer is what was read
-pub untaken : (K : Known) (base : Language) (l0 : Option Sexp) (d : Sexp) (g : Option GrammarForm) (x : Result CheckedLang DefFault) → is_settled x ≡ false → ReadsForm base d g x → unknown_at K l0 ≡ None → IsNamed d g → taken_name K d ≡ None → DefinesOver K base l0 d g x
-untaken K base l0 d g x e a u n t = as_read K base l0 d g x (same_refusal K base l0 d g (unsettled base d g x e a) u (taken-none K d g n t)) a
+-- the answer where the base is known, by what is said of the name
+pub known-answer : (K : Known) (base : Language) (l0 : Option Sexp) (d : Sexp) (g : Option GrammarForm) (t : Option DefRefusal) (x y : Result CheckedLang DefFault) → IsNamed d g → unknown_at K l0 ≡ None
+    → option_map refusal_of t ≡ taken_at_item K (second_item d) → ReadsForm base d g x → IsUnless t x y → DefinesOver K base l0 d g y
+known-answer K base l0 d g None x y n u t a k =
+    subst (DefinesOver K base l0 d g) (sym k) (as_read K base l0 d g x (known-refusal K base l0 d g n u ∙ ap (λ (o : Option Refusal). earlier o (refusal_over base d g)) (sym t)) a)
+known-answer K base l0 d g (Some r) x (Ok c) n u t a k = absurd k
+known-answer K base l0 d g (Some r) x (Err e) n u t a k =
+    let three : number (refusal_of r).kind ≡ 3 = item-number K (second_item d) (refusal_of r) (sym t) in
+    first-fault K base base l0 d g r x e (omega (arith, three)) a
+    (known-refusal K base l0 d g n u ∙ ap (λ (o : Option Refusal). earlier o (refusal_over base d g)) (sym t)) k
+
+-- the answer where it is unknown
+pub unknown-answer : (K : Known) (base other : Language) (l : Sexp) (d : Sexp) (g : Option GrammarForm) (r : DefRefusal) (x : Result CheckedLang DefFault) (e : DefFault) → language_named K (text_of l) ≡ None
+    → refusal_of r ≡ named UnknownLanguage l → ReadsForm other d g x → IsFirstFault r x e → DefinesOver K base (Some l) d g (Err e)
+unknown-answer K base other l d g r x e u m a k =
+    let two : number (refusal_of r).kind ≡ 2 = ap (λ (s : Refusal). number s.kind) m in
+    first-fault K base other (Some l) d g r x e (omega (arith, two)) a
+    (unknown-refusal K base other l d g u ∙ ap (λ (s : Refusal). earlier (Some s) (refusal_over other d g)) (sym m)) k

@@ -5,6 +5,7 @@ use Rattle.rdx_lang.proofs.Rest.{rest_at, rest_none}
 use Rattle.rdx_query.specs.Answering.{AreAnswers, no_answers, more_answers}
 use Rattle.rdx_query.specs.Inside.Appending.{AppendsAnswer}
 use Rattle.rdx_query.specs.Known.{Known}
+use Rattle.rdx_query.specs.Queries.{NamesKnown}
 use Rattle.rdx_query.specs.Views.{AllNamesKnown, query_of}
 use Rattle.rdx_query.specs.declared.file.Query.{Query}
 
@@ -22,6 +23,10 @@ and-assoc false b c = refl
 and-true : (a : Bool) → (a && true) ≡ a
 and-true true = refl
 and-true false = refl
+
+-- what the next query names is known
+pub upto_named : (K : Known) (all : List Query) (i : ℕ) (q : Query) (text : List ℕ) (met : Bool) → i < length all → q ≡ get_or all i q → Upto K all (drop i all) text met → NamesKnown K (query_of q)
+upto_named K all i q text met h e u = (subst (AllNamesKnown K) (rest_at query_of all i q h e) u.named).0
 
 -- one answer more
 pub upto_next : (K : Known) (all : List Query) (i : ℕ) (q : Query) (before after : List ℕ) (met m : Bool) → i < length all → q ≡ get_or all i q → AppendsAnswer K (query_of q) before after m → Upto K all (drop i all) before met → Upto K all (drop (i + 1) all) after (met && m)

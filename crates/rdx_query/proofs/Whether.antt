@@ -1,5 +1,5 @@
 -- Whether a pattern matches a term, where it is asked for as a closed one.
-use Rattle.std.proofs.Common.{◌≡◌, Bool, List, [], ◌∷◌, refl, sym, ◌∙◌}
+use Rattle.std.proofs.Common.{◌≡◌, Bool, List, [], ◌∷◌, refl, ◌∙◌}
 use Rattle.rdx_term.specs.Tree.{Tree}
 use Rattle.rdx_lang.proofs.RuleSteps.{closed_inside}
 use Rattle.rdx_lang.specs.Bindings.{Binding, no_names}

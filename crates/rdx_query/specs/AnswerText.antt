@@ -1,11 +1,13 @@
 -- The text of an answer: how many there are, and then a line for each.
-use Rattle.std.specs.Prelude.{ℕ, Bool, ◌&&◌, nat_lt, List, [], ◌∷◌, ◌++◌, map, length, codes, decimal, if◌then◌else◌}
+use Rattle.std.specs.Prelude.{ℕ, Bool, ◌&&◌, nat_lt, List, [], ◌∷◌, ◌++◌, Option, Some, None, map, length, codes, decimal, if◌then◌else◌}
 use Rattle.rdx_term.specs.Context.{is_context}
 use Rattle.rdx_term.specs.Path.{path}
 use Rattle.rdx_term.specs.Text.{tree_text}
 use Rattle.rdx_term.specs.Tree.{Tree, tree_holes}
 use Rattle.rdx_lang.specs.Bindings.{Value, one, many, len, Values, none, more, Pair, Binding}
 use Rattle.rdx_lang.specs.Decompositions.{Decomposition}
+use Rattle.rdx_eval.specs.Answers.{Fault, not_context, too_deep, too_large, lengths_differ}
+use Rattle.rdx_defs.specs.RelationChecks.{label_text}
 
 -- ---- paths
 
@@ -89,3 +91,37 @@ splits_text ds = counted_text (codes "splits") (map split_text ds)
 abbrev pub whether_text : List Binding → List ℕ
 whether_text [] = codes "matches #f\n"
 whether_text (b ∷ bs) = codes "matches #t\n"
+
+-- `value t`
+abbrev pub value_line : Tree → List ℕ
+value_line t = codes "value " ++ tree_text t ++ codes "\n"
+
+-- `reducts N`, and the N terms
+abbrev pub reducts_text : List Tree → List ℕ
+reducts_text ts = counted_text (codes "reducts") (map tree_text ts)
+
+-- the name of a rule: its text, as a string where that is not spelled like a symbol; `-` where it has none
+abbrev pub rule_name_text : Option (List ℕ) → List ℕ
+rule_name_text None = codes "-"
+rule_name_text (Some x) = label_text x
+
+-- `name reduct`, of a step by the rule of this name
+abbrev pub step_text : Option (List ℕ) × Tree → List ℕ
+step_text s = rule_name_text s.0 ++ codes " " ++ tree_text s.1
+
+-- `steps N`, and the N steps
+abbrev pub steps_text : List (Option (List ℕ) × Tree) → List ℕ
+steps_text ss = counted_text (codes "steps") (map step_text ss)
+
+-- ---- faults
+
+-- what a fault is called, with its numbers
+abbrev pub fault_name : Fault → List ℕ
+fault_name (not_context h) = codes "NotContext " ++ decimal h
+fault_name too_deep = codes "TooDeep"
+fault_name too_large = codes "TooLarge"
+fault_name (lengths_differ m n) = codes "Lengths " ++ decimal m ++ codes " and " ++ decimal n
+
+-- the line of a fault
+abbrev pub fault_line : Fault → List ℕ
+fault_line f = codes "fault " ++ fault_name f ++ codes "\n"

@@ -1,7 +1,7 @@
 -- Worked examples: short files, with the text that they write or their refusal. They are proved, as the clauses of `laws::worked_examples`.
-use Rattle.std.specs.Prelude.{◌≡◌, ℕ, true, pos, List, [], ◌∷◌, Option, Some, None, codes}
+use Rattle.std.specs.Prelude.{◌≡◌, ℕ, true, false, pos, List, [], ◌∷◌, Option, Some, None, codes}
 use Rattle.rdx_base.specs.declared.place.Span.{Span}
-use Rattle.rdx_sexp.specs.Sexp.{Sexp, symbol, integer, leaf, list, sexps}
+use Rattle.rdx_sexp.specs.Sexp.{Sexp, symbol, integer, text, leaf, list, sexps}
 use Rattle.rdx_term.specs.Tree as tree
 use Rattle.rdx_term.specs.Tree.{Tree}
 use Rattle.rdx_lang.specs.Bindings.{Value, one, many, len, values}
@@ -54,6 +54,25 @@ decomposes s l p t = query s (codes "redex-decompose") l p t
 abbrev pub asks_e : Span → List ℕ → ℕ → Sexp
 asks_e s x n = form s (word s (codes "redex-match?") ∷ word s x ∷ word s (codes "e") ∷ form s (word s (codes "term") ∷ number s n ∷ []) ∷ [])
 
+-- `(term t)`
+abbrev pub asks_term : Span → Sexp → Sexp
+asks_term s t = form s (word s (codes "term") ∷ t ∷ [])
+
+-- `(in-hole c t)`
+abbrev pub fills : Span → Sexp → Sexp → Sexp
+fills s c t = form s (word s (codes "in-hole") ∷ c ∷ t ∷ [])
+
+-- `(define R (reduction-relation L (--> 1 2 a) (--> 1 2 "b c")))`
+abbrev pub defines_R : Span → Sexp
+defines_R s =
+    let case : Sexp → Sexp = λ x. form s (word s (codes "-->") ∷ number s 1 ∷ number s 2 ∷ x ∷ []) in
+    form s (word s (codes "define") ∷ word s (codes "R")
+    ∷ form s (word s (codes "reduction-relation") ∷ word s (codes "L") ∷ case (word s (codes "a")) ∷ case (leaf (text (codes "b c")) s) ∷ []) ∷ [])
+
+-- `(head R (term 1))`
+abbrev pub applies_R : Span → List ℕ → Sexp
+applies_R s head = form s (word s head ∷ word s (codes "R") ∷ asks_term s (number s 1) ∷ [])
+
 -- ---- what files write
 
 -- Answers come in the file's order. The pairs of a binding come by the bytes of their names, whatever the order in the pattern, and a match
@@ -80,6 +99,23 @@ abbrev pub OneSplit : Type 0
 OneSplit = (s : Span) →
     Writes (defines_L s ∷ decomposes s (word s (codes "L")) (form s (word s (codes "hole") ∷ word s (codes "any") ∷ [])) (form s (number s 1 ∷ word s (codes "hole") ∷ [])) ∷ [])
     (codes "splits 1\n  (hole hole) at [0] is 1 with any = hole\n") true
+
+-- A host expression is a template, which is filled where it has to be: `(term (in-hole (1 hole) 2))`.
+abbrev pub FilledTerm : Type 0
+FilledTerm = (s : Span) →
+    Writes (asks_term s (fills s (form s (number s 1 ∷ word s (codes "hole") ∷ [])) (number s 2)) ∷ []) (codes "value (1 2)\n") true
+
+-- A fault is an answer, by which something stays unmet, and the queries behind it are answered: `(term (in-hole 1 2)) (term 1)`.
+abbrev pub FaultAnswered : Type 0
+FaultAnswered = (s : Span) →
+    Writes (asks_term s (fills s (number s 1) (number s 2)) ∷ asks_term s (number s 1) ∷ []) (codes "fault NotContext 0\nvalue 1\n") false
+
+-- Where two rules lead to one term, that is one reduct and two steps: `(define-language L (e 1)) (define R (reduction-relation L (--> 1 2 a)
+-- (--> 1 2 "b c"))) (apply-reduction-relation R (term 1)) (apply-reduction-relation/tag-with-names R (term 1))`.
+abbrev pub OneReductTwoSteps : Type 0
+OneReductTwoSteps = (s : Span) →
+    Writes (defines_L s ∷ defines_R s ∷ applies_R s (codes "apply-reduction-relation") ∷ applies_R s (codes "apply-reduction-relation/tag-with-names") ∷ [])
+    (codes "reducts 1\n  2\nsteps 2\n  a 2\n  \"b c\" 2\n") true
 
 -- ---- how values are printed
 
@@ -139,14 +175,6 @@ TakenName = (s l : Span) → Refuses nothing (defines_L s ∷ defines s (word l 
 abbrev pub HostExpression : Type 0
 HostExpression = (s : Span) →
     let query : Sexp = form s (word s (codes "redex-match") ∷ word s (codes "L") ∷ number s 1 ∷ number s 1 ∷ []) in
-    Refuses nothing (query ∷ []) (unnamed Unbuilt query)
-
--- What only templates give a meaning is not built yet, however deep it stands in the term, and the whole query is refused: `(redex-match L 1
--- (term ((in-hole 1 1))))`.
-abbrev pub FilledTerm : Type 0
-FilledTerm = (s q : Span) →
-    let filled : Sexp = form s (form s (word s (codes "in-hole") ∷ number s 1 ∷ number s 1 ∷ []) ∷ []) in
-    let query : Sexp = form q (word s (codes "redex-match") ∷ word s (codes "L") ∷ number s 1 ∷ form s (word s (codes "term") ∷ filled ∷ []) ∷ []) in
     Refuses nothing (query ∷ []) (unnamed Unbuilt query)
 
 -- A query has four items: `(redex-match L 1)`.

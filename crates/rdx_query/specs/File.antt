@@ -22,7 +22,7 @@ pub record Asks (K : Known) (d : Sexp) (q : Query) : Type 0 where
   pub passes : form_refusal K d ≡ None
   pub means : form_query K d ≡ Some q
 
--- the form is refused, by a check of S0 to S5, or by S7, since its language is left-recursive
+-- the form is refused, by a check that looks at its data, or by S7, since its language is left-recursive
 pub data IsRefusedForm (K : Known) (d : Sexp) (r : Refusal) : Type 0 where
   by_check : form_refusal K d ≡ Some r → IsRefusedForm K d r
   by_recursion : (L : Language) (x : Ref) → form_refusal K d ≡ None → form_definition K d ≡ Some (language L) → IsFirstRecursive L x → r ≡ recursion_at d x → IsRefusedForm K d r

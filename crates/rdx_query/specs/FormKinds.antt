@@ -3,16 +3,21 @@ use Rattle.std.specs.Prelude.{ℕ, List, [], ◌∷◌, Option, Some, None, byte
 use Rattle.rdx_sexp.specs.Sexp.{symbol, Sexp, leaf}
 use Rattle.rdx_grammar.specs.Parts.{parts}
 
--- what a form defines: a language by itself, or one that extends another
+-- what a form defines: a language by itself, one that extends another, or a relation
 pub data DefinitionKind : Type 0 where
   language : DefinitionKind
   extension : DefinitionKind
+  relation : DefinitionKind
 
--- what a form asks: the bindings by which a pattern matches a term, whether there are some, or what the pattern splits the term into
+-- what a form asks: the bindings by which a pattern matches a term, whether there are some, or what the pattern splits the term into; a term
+-- itself; the terms to which a relation leads from it, or the steps with the names of their rules
 pub data QueryKind : Type 0 where
   matches : QueryKind
   whether : QueryKind
   splits : QueryKind
+  value : QueryKind
+  reducts : QueryKind
+  tagged : QueryKind
 
 -- what a form does
 pub data FormKind : Type 0 where
@@ -27,6 +32,10 @@ heads =
     ∷ (codes "redex-match", asks matches)
     ∷ (codes "redex-match?", asks whether)
     ∷ (codes "redex-decompose", asks splits)
+    ∷ (codes "define", defines relation)
+    ∷ (codes "term", asks value)
+    ∷ (codes "apply-reduction-relation", asks reducts)
+    ∷ (codes "apply-reduction-relation/tag-with-names", asks tagged)
     ∷ []
 
 -- what a form with a head of this text does, by such a table

@@ -4,13 +4,16 @@ use Rattle.std.specs.Prelude.{Option, Some, None, option_map}
 use Rattle.rdx_sexp.specs.Sexp.{Sexp}
 use Rattle.rdx_grammar.specs.Refusal.{Refusal, unnamed}
 use Rattle.rdx_grammar.specs.declared.shape.fault.DefKind.TheVariants.{Unbuilt}
-use Rattle.rdx_query.specs.Definitions.{Defined, language}
+use Rattle.rdx_query.specs.Definitions.{Defined, language, relation}
 use Rattle.rdx_query.specs.FormKinds as kind
 use Rattle.rdx_query.specs.FormKinds.{DefinitionKind, QueryKind, FormKind, defines, asks, form_kind}
 use Rattle.rdx_query.specs.Known.{Known}
+use Rattle.rdx_query.specs.HostForms.{value_refusal, value_query}
 use Rattle.rdx_query.specs.LanguageForms.{plain_refusal, plain_language, extension_refusal, extended_language}
 use Rattle.rdx_query.specs.MatchForms.{query_parts, query_refusal, match_query}
-use Rattle.rdx_query.specs.Queries.{Query, matches, whether, splits}
+use Rattle.rdx_query.specs.Queries.{Query, matches, whether, splits, reducts, tagged}
+use Rattle.rdx_query.specs.RelationForms.{define_refusal, defined_relation}
+use Rattle.rdx_query.specs.StepForms.{step_parts, steps_refusal, steps_query}
 
 -- ---- definitions: a case for each kind
 
@@ -18,11 +21,13 @@ use Rattle.rdx_query.specs.Queries.{Query, matches, whether, splits}
 abbrev pub definition_refusal : Known → Sexp → DefinitionKind → Option Refusal
 definition_refusal K d kind.language = plain_refusal K d
 definition_refusal K d kind.extension = extension_refusal K d
+definition_refusal K d kind.relation = define_refusal K d
 
 -- what it defines, if it has the parts
 abbrev pub definition_of : Known → Sexp → DefinitionKind → Option Defined
 definition_of K d kind.language = option_map language (plain_language d)
 definition_of K d kind.extension = option_map language (extended_language K d)
+definition_of K d kind.relation = option_map relation (defined_relation K d)
 
 -- ---- questions: a case for each kind
 
@@ -31,12 +36,18 @@ abbrev pub question_refusal : Known → Sexp → QueryKind → Option Refusal
 question_refusal K d kind.matches = query_refusal K d (query_parts d)
 question_refusal K d kind.whether = query_refusal K d (query_parts d)
 question_refusal K d kind.splits = query_refusal K d (query_parts d)
+question_refusal K d kind.value = value_refusal d
+question_refusal K d kind.reducts = steps_refusal K d (step_parts d)
+question_refusal K d kind.tagged = steps_refusal K d (step_parts d)
 
 -- the query that it asks, if it has the parts
 abbrev pub asked_query : Known → Sexp → QueryKind → Option Query
 asked_query K d kind.matches = match_query K matches d
 asked_query K d kind.whether = match_query K whether d
 asked_query K d kind.splits = match_query K splits d
+asked_query K d kind.value = value_query d
+asked_query K d kind.reducts = steps_query reducts d
+asked_query K d kind.tagged = steps_query tagged d
 
 -- ---- forms
 

@@ -1,7 +1,7 @@
 -- What only clauses inside the crate cite.
 pub mod KindViews
 pub mod PartViews
-pub mod Sizes
+pub mod Earlier
 pub mod Defining
 pub mod Asking
 pub mod Steps

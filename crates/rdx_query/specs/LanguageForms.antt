@@ -1,5 +1,5 @@
 -- Forms that define languages: when they are refused, and what they define else.
-use Rattle.std.specs.Prelude.{List, [], ◌∷◌, Option, Some, None, option_map}
+use Rattle.std.specs.Prelude.{List, [], ◌∷◌, Option, Some, None, option_map, if◌then◌else◌}
 use Rattle.rdx_sexp.specs.Sexp.{Sexp}
 use Rattle.rdx_lang.specs.Patterns.{Language}
 use Rattle.rdx_grammar.specs.Forms.{GrammarForm, language_form, extension_form}
@@ -10,7 +10,8 @@ use Rattle.rdx_grammar.specs.Refusal.{Refusal, named, first_refusal}
 use Rattle.rdx_grammar.specs.Unbuilt.{unbuilt_at}
 use Rattle.rdx_grammar.specs.Refused.{shape_at, duplicate_at, bad_name_at, bad_pattern_at, depth_clash_at, names_over}
 use Rattle.rdx_grammar.specs.declared.shape.fault.DefKind.TheVariants.{UnknownLanguage, Duplicate}
-use Rattle.rdx_query.specs.Known.{Known, language_named, or_empty}
+use Rattle.rdx_lang.specs.Programs.{language_named}
+use Rattle.rdx_query.specs.Known.{Known, is_taken, or_empty}
 
 -- ---- the language that an extension names
 
@@ -40,15 +41,14 @@ abbrev pub unknown_at : Known → Option Sexp → Option Refusal
 unknown_at K None = None
 unknown_at K (Some l) = unknown_by (language_named K (text_of l)) l
 
--- the name l, where a language was found by it
-abbrev pub taken_by : Option Language → Sexp → Option Refusal
-taken_by None l = None
-taken_by (Some L) l = Some (named Duplicate l)
+-- S3: the name that a form defines is that of an earlier one
+abbrev pub name_taken_at : Known → Sexp → Option Refusal
+name_taken_at K x = if is_taken K (text_of x) then Some (named Duplicate x) else None
 
--- S3: the name of the form is that of an earlier one
+-- S3: the name of the form is
 abbrev pub taken_at : Known → Option GrammarForm → Option Refusal
 taken_at K None = None
-taken_at K (Some g) = taken_by (language_named K (text_of g.name)) g.name
+taken_at K (Some g) = name_taken_at K g.name
 
 -- ---- all checks but that of left recursion
 

@@ -1,5 +1,5 @@
 -- What follows from the definitions, stated for the contracts of the module of laws.
-use Rattle.std.specs.Prelude.{◌≡◌, ◌⊎◌, ℕ, Bool, IsTrue, List}
+use Rattle.std.specs.Prelude.{◌≡◌, ◌⊎◌, ℕ, Bool, List}
 use Rattle.rdx_sexp.specs.Sexp.{Sexp}
 use Rattle.rdx_grammar.specs.Refusal.{Refusal}
 use Rattle.rdx_query.specs.Answering.{Writes}
@@ -14,10 +14,6 @@ OneMeaning = (ds : List Sexp) (K J : Known) (qs rs : List Query) → Accepts not
 -- data write one text at most, and all that they state is met or not
 abbrev pub OneText : Type 0
 OneText = (ds : List Sexp) (t u : List ℕ) (m n : Bool) → Writes ds t m → Writes ds u n → (t ≡ u) × (m ≡ n)
-
--- no kind of query states anything so far, so all that data state is met
-abbrev pub AlwaysMet : Type 0
-AlwaysMet = (ds : List Sexp) (text : List ℕ) (met : Bool) → Writes ds text met → IsTrue met
 
 -- data have one refusal at most
 abbrev pub OneRefusal : Type 0

@@ -3,11 +3,15 @@ pub mod Known
 pub mod FormKinds
 pub mod LanguageForms
 pub mod Queries
+pub mod HostForms
 pub mod MatchForms
+pub mod StepForms
+pub mod RelationForms
 pub mod Forms
 pub mod File
 pub mod AnswerText
 pub mod MatchAnswers
+pub mod StepAnswers
 pub mod Answering
 pub mod Views
 pub mod Laws

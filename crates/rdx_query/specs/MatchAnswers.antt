@@ -6,7 +6,8 @@ use Rattle.rdx_lang.specs.Decompositions.{Decomposition}
 use Rattle.rdx_lang.specs.Listing.{Matches, Splits}
 use Rattle.rdx_lang.specs.Patterns.{Pattern, Language}
 use Rattle.rdx_query.specs.AnswerText.{matches_text, whether_text, splits_text}
-use Rattle.rdx_query.specs.Known.{Known, language_named}
+use Rattle.rdx_lang.specs.Programs.{language_named}
+use Rattle.rdx_query.specs.Known.{Known}
 
 -- found is the listing of the bindings by which p matches t, in the language of this name
 pub record Finds (K : Known) (name : List ℕ) (p : Pattern) (t : Tree) (found : List Binding) : Type 0 where

@@ -1,18 +1,31 @@
 -- What a form can ask.
-use Rattle.std.specs.Prelude.{ℕ, List, IsSome}
-use Rattle.rdx_term.specs.Tree.{Tree}
+use Rattle.std.specs.Prelude.{◌≡◌, ℕ, List, Some, IsSome}
 use Rattle.rdx_lang.specs.Patterns.{Pattern}
-use Rattle.rdx_query.specs.Known.{Known, language_named}
+use Rattle.rdx_lang.specs.Programs.{Relation, language_named, relation_named}
+use Rattle.rdx_lang.specs.Templates.{Host}
+use Rattle.rdx_query.specs.Known.{Known}
 
--- a query, over the language of this name: the bindings by which the pattern matches the term, whether there are some, or what the pattern
--- splits the term into
+-- a query, over what a host expression makes: in the language of a name, the bindings by which a pattern matches it, whether there are some, or
+-- what the pattern splits it into; itself; or, by the relation of a name, the terms that it leads to, or the steps with the names of their rules
 pub data Query : Type 0 where
-  matches : List ℕ → Pattern → Tree → Query
-  whether : List ℕ → Pattern → Tree → Query
-  splits : List ℕ → Pattern → Tree → Query
+  matches : List ℕ → Pattern → Host → Query
+  whether : List ℕ → Pattern → Host → Query
+  splits : List ℕ → Pattern → Host → Query
+  value : Host → Query
+  reducts : List ℕ → Host → Query
+  tagged : List ℕ → Host → Query
+
+-- a relation of this name is known, and its language is
+pub record KnowsRelation (K : Known) (x : List ℕ) : Type 0 where
+  pub relation : Relation
+  pub named : relation_named K x ≡ Some relation
+  pub language : IsSome (language_named K relation.language)
 
 -- what the query names is known
 abbrev pub NamesKnown : Known → Query → Type 0
-NamesKnown K (matches name p t) = IsSome (language_named K name)
-NamesKnown K (whether name p t) = IsSome (language_named K name)
-NamesKnown K (splits name p t) = IsSome (language_named K name)
+NamesKnown K (matches name p h) = IsSome (language_named K name)
+NamesKnown K (whether name p h) = IsSome (language_named K name)
+NamesKnown K (splits name p h) = IsSome (language_named K name)
+NamesKnown K (value h) = Unit {0}
+NamesKnown K (reducts name h) = KnowsRelation K name
+NamesKnown K (tagged name h) = KnowsRelation K name

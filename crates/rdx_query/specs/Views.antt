@@ -1,8 +1,10 @@
 -- What the values of the code stand for.
 use Rattle.std.specs.Prelude.{List, [], ◌∷◌, map}
 use Rattle.rdx_sexp.specs.Sexp.{Sexp}
-use Rattle.rdx_term.specs.View.{tree_of}
-use Rattle.rdx_lang.specs.Checked.{language_in, pattern_in}
+use Rattle.rdx_lang.specs.Checked.{pattern_in}
+use Rattle.rdx_lang.specs.ProgramView.{program_of}
+use Rattle.rdx_lang.specs.TemplateView.{host_of}
+use Rattle.rdx_lang.specs.declared.program.Program.{Program}
 use Rattle.rdx_grammar.specs.Refusal.{refusal_of}
 use Rattle.rdx_grammar.specs.declared.shape.fault.DefFault.{DefFault}
 use Rattle.rdx_grammar.specs.declared.shape.fault.DefFault.TheVariants.{Refused, NoMemory}
@@ -10,19 +12,21 @@ use Rattle.rdx_query.specs.File.{Refuses}
 use Rattle.rdx_query.specs.Known.{Known, nothing}
 use Rattle.rdx_query.specs.Queries as model
 use Rattle.rdx_query.specs.declared.file.CheckedFile.{CheckedFile}
-use Rattle.rdx_query.specs.declared.file.Program.{Program}
 use Rattle.rdx_query.specs.declared.file.Query.{Query}
-use Rattle.rdx_query.specs.declared.file.Query.TheVariants.{Match, Whether, Decompose}
+use Rattle.rdx_query.specs.declared.file.Query.TheVariants.{Match, Whether, Decompose, Value, Reducts, Tagged}
 
 -- what a program defines
 abbrev pub known_of : Program → Known
-known_of p = record { languages = map language_in p.languages.items }
+known_of p = program_of p
 
 -- what a query of the code asks
 abbrev pub query_of : Query → model.Query
-query_of (Match name p t) = model.matches name (pattern_in p) (tree_of t)
-query_of (Whether name p t) = model.whether name (pattern_in p) (tree_of t)
-query_of (Decompose name p t) = model.splits name (pattern_in p) (tree_of t)
+query_of (Match name p h) = model.matches name (pattern_in p) (host_of h)
+query_of (Whether name p h) = model.whether name (pattern_in p) (host_of h)
+query_of (Decompose name p h) = model.splits name (pattern_in p) (host_of h)
+query_of (Value h) = model.value (host_of h)
+query_of (Reducts name h) = model.reducts name (host_of h)
+query_of (Tagged name h) = model.tagged name (host_of h)
 
 -- what a file defines
 abbrev pub known_in : CheckedFile → Known

@@ -7,27 +7,26 @@ ghost use Rattle.rdx_query.specs.Views.{AllNamesKnown, IsFileFault, known_in, qu
 
 use crate::forms::read_form;
 use rdx_grammar::DefFault;
-use rdx_lang::{CheckedLang, CheckedPat};
+use rdx_lang::{CheckedPat, HostExpr, Program};
 use rdx_sexp::Datum;
-use rdx_term::{Name, Term};
+use rdx_term::Name;
 use std::alloc::Global;
-
-/// What a file defines.
-#[derive(Drop)]
-pub struct Program {
-    /// The languages, in the file's order.
-    pub languages: Vec<CheckedLang>,
-}
 
 /// What a file asks.
 #[derive(Drop)]
 pub enum Query {
-    /// The bindings by which the pattern matches the term, in the language of this name.
-    Match(Name, CheckedPat, Term),
+    /// The bindings by which the pattern matches a term, in the language of this name.
+    Match(Name, CheckedPat, HostExpr),
     /// Whether there are some.
-    Whether(Name, CheckedPat, Term),
+    Whether(Name, CheckedPat, HostExpr),
     /// What the pattern splits the term into.
-    Decompose(Name, CheckedPat, Term),
+    Decompose(Name, CheckedPat, HostExpr),
+    /// The term itself.
+    Value(HostExpr),
+    /// The terms to which the relation of this name leads from the term.
+    Reducts(Name, HostExpr),
+    /// The steps that it takes from the term, each with the name of its rule.
+    Tagged(Name, HostExpr),
 }
 
 /// A file that was accepted.
@@ -47,6 +46,7 @@ pub fn check_file(alloc: Global, forms: &[Datum]) -> Result<CheckedFile, DefFaul
 {
     let mut program = Program {
         languages: Vec::new(alloc),
+        relations: Vec::new(alloc),
     };
     let mut queries = Vec::new(alloc);
     for form in forms {

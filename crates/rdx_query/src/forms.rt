@@ -1,36 +1,85 @@
 // One form of a file.
 ghost use Rattle.std.specs.Prelude.{◌≡◌, Some, map};
+ghost use Rattle.rdx_grammar.specs.Readable.{IsReadable};
 ghost use Rattle.rdx_query.specs.FormKinds as forms;
-ghost use Rattle.rdx_query.specs.Inside.Defining.{DefinesBy};
-ghost use Rattle.rdx_query.specs.Inside.KindViews.{definition_kind_of};
-ghost use Rattle.rdx_query.specs.Inside.Sizes.{IsFormSize};
-ghost use Rattle.rdx_query.specs.Inside.Steps.{StepsBy};
+ghost use Rattle.rdx_query.specs.Inside.KindViews.{definition_kind_of, query_kind_of};
+ghost use Rattle.rdx_query.specs.Inside.Steps.{AddsBy, AsksQuery, StepsBy};
 ghost use Rattle.rdx_query.specs.Views.{known_of, query_of};
 
-use crate::kind::{DefinitionKind, FormKind, form_kind};
+use crate::Query;
+use crate::host_forms::read_value;
+use crate::kind::{DefinitionKind, FormKind, QueryKind, form_kind};
 use crate::language_forms::{define_extension, define_language};
-use crate::match_forms::match_query;
-use crate::{Program, Query};
+use crate::match_forms::{Asked, read_query};
+use crate::relation_forms::define_relation;
+use crate::step_forms::{Stepping, read_steps};
 use rdx_grammar::refusal::unnamed;
 use rdx_grammar::{DefFault, DefKind};
-use rdx_lang::CheckedLang;
+use rdx_lang::Program;
 use rdx_sexp::Datum;
 use std::alloc::Global;
 
-// The language that a form of this kind defines.
-fn definition(
+// Adds what a form of this kind defines.
+fn define(
     alloc: Global,
-    program: &Program,
+    program: &mut Program,
     kind: DefinitionKind,
     form: &Datum,
-) -> Result<CheckedLang, DefFault>
-    requires size { IsFormSize form.now }
+) -> Result<(), DefFault>
+    requires readable { IsReadable form.now }
     requires kind { forms.form_kind form.now ≡ Some (forms.defines (definition_kind_of kind)) }
-    ensures { DefinesBy (known_of program.now) form.now result }
+    ensures { AddsBy (known_of program.old) form.now result (known_of program.new) }
 {
     match kind {
-        DefinitionKind::Language => define_language(alloc, program, form),
-        DefinitionKind::Extension => define_extension(alloc, program, form),
+        DefinitionKind::Language => {
+            let language = define_language(alloc, program, form)?;
+            Ok(program.languages.push(language)?)
+        }
+        DefinitionKind::Extension => {
+            let language = define_extension(alloc, program, form)?;
+            Ok(program.languages.push(language)?)
+        }
+        DefinitionKind::Relation => {
+            let relation = define_relation(alloc, program, form)?;
+            Ok(program.relations.push(relation)?)
+        }
+    }
+}
+
+// The query that a form of this kind asks.
+fn question(
+    alloc: Global,
+    program: &mut Program,
+    kind: QueryKind,
+    form: &Datum,
+) -> Result<Query, DefFault>
+    requires readable { IsReadable form.now }
+    requires kind { forms.form_kind form.now ≡ Some (forms.asks (query_kind_of kind)) }
+    ensures asks { AsksQuery (known_of program.old) form.now result }
+    ensures same { known_of program.new ≡ known_of program.old }
+{
+    match kind {
+        QueryKind::Match => {
+            let Asked { name, pat, host } = read_query(alloc, program, form)?;
+            Ok(Query::Match(name, pat, host))
+        }
+        QueryKind::Whether => {
+            let Asked { name, pat, host } = read_query(alloc, program, form)?;
+            Ok(Query::Whether(name, pat, host))
+        }
+        QueryKind::Decompose => {
+            let Asked { name, pat, host } = read_query(alloc, program, form)?;
+            Ok(Query::Decompose(name, pat, host))
+        }
+        QueryKind::Value => Ok(Query::Value(read_value(alloc, form)?)),
+        QueryKind::Reducts => {
+            let Stepping { relation, host } = read_steps(alloc, program, form)?;
+            Ok(Query::Reducts(relation, host))
+        }
+        QueryKind::Tagged => {
+            let Stepping { relation, host } = read_steps(alloc, program, form)?;
+            Ok(Query::Tagged(relation, host))
+        }
     }
 }
 
@@ -41,17 +90,14 @@ pub(crate) fn read_form(
     queries: &mut Vec<Query>,
     form: &Datum,
 ) -> Result<(), DefFault>
-    requires { IsFormSize form.now }
+    requires { IsReadable form.now }
     ensures { StepsBy (known_of program.old) (map query_of queries.old.items) form.now result
         (known_of program.new) (map query_of queries.new.items) }
 {
     match form_kind(form) {
-        Some(FormKind::Defines(kind)) => {
-            let language = definition(alloc, program, kind, form)?;
-            Ok(program.languages.push(language)?)
-        }
+        Some(FormKind::Defines(kind)) => define(alloc, program, kind, form),
         Some(FormKind::Asks(kind)) => {
-            let query = match_query(alloc, program, kind, form)?;
+            let query = question(alloc, program, kind, form)?;
             Ok(queries.push(query)?)
         }
         None => Err(DefFault::Refused(unnamed(DefKind::Unbuilt, form))),

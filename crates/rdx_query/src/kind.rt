@@ -13,6 +13,8 @@ pub enum DefinitionKind {
     Language,
     /// A language that extends another: `define-extended-language`.
     Extension,
+    /// A relation: `define`.
+    Relation,
 }
 
 /// What a form asks.
@@ -24,6 +26,12 @@ pub enum QueryKind {
     Whether,
     /// What the pattern splits a term into: `redex-decompose`.
     Decompose,
+    /// A term itself: `term`.
+    Value,
+    /// The terms to which a relation leads from a term: `apply-reduction-relation`.
+    Reducts,
+    /// The steps, with the names of their rules: `apply-reduction-relation/tag-with-names`.
+    Tagged,
 }
 
 /// What a form does.
@@ -45,6 +53,10 @@ fn kind_by_text(head: &str) -> Option<FormKind>
         "redex-match" => Some(FormKind::Asks(QueryKind::Match)),
         "redex-match?" => Some(FormKind::Asks(QueryKind::Whether)),
         "redex-decompose" => Some(FormKind::Asks(QueryKind::Decompose)),
+        "define" => Some(FormKind::Defines(DefinitionKind::Relation)),
+        "term" => Some(FormKind::Asks(QueryKind::Value)),
+        "apply-reduction-relation" => Some(FormKind::Asks(QueryKind::Reducts)),
+        "apply-reduction-relation/tag-with-names" => Some(FormKind::Asks(QueryKind::Tagged)),
         _ => None,
     }
 }

@@ -1,12 +1,13 @@
 // What the forms before a form define, looked up by name.
-ghost use Rattle.std.specs.Prelude.{◌≡◌, ◌<◌, length, get_or, map, Some, None, is_some, IfSome, IfNone};
+ghost use Rattle.std.specs.Prelude.{◌≡◌, ◌<◌, length, get_or, map, option_map, Some, None, is_some, IfSome, IfNone};
 ghost use Rattle.rdx_lang.specs.Checked.{language_in};
 ghost use Rattle.rdx_lang.specs.declared.checked.CheckedLang.{CheckedLang};
-ghost use Rattle.rdx_query.specs.Known.{language_among, language_named};
+ghost use Rattle.rdx_lang.specs.ProgramView.{relation_of};
+ghost use Rattle.rdx_lang.specs.Programs.{language_among, language_named, relation_among, relation_named};
+ghost use Rattle.rdx_query.specs.Known.{is_taken};
 ghost use Rattle.rdx_query.specs.Views.{known_of};
 
-use crate::Program;
-use rdx_lang::CheckedLang;
+use rdx_lang::{CheckedLang, Program, Relation};
 
 // The place among these of the language of this name.
 fn place_among(languages: &[CheckedLang], name: &str) -> Option<usize>
@@ -33,4 +34,32 @@ pub(crate) fn place_named(program: &Program, name: &str) -> Option<usize>
     ensures none { IfNone result (language_named (known_of program.now) name.now ≡ None) }
 {
     place_among(&program.languages, name)
+}
+
+// The relation among these of this name.
+fn relation_among<'a>(relations: &'a [Relation], name: &str) -> Option<&'a Relation>
+    ensures { option_map (λ r. relation_of r.now) result
+        ≡ relation_among (map relation_of relations.now) name.now }
+{
+    for relation in relations {
+        if relation.name.text() == name {
+            return Some(relation);
+        }
+    }
+    None
+}
+
+/// The relation of this name.
+pub(crate) fn relation_named<'a>(program: &'a Program, name: &str) -> Option<&'a Relation>
+    ensures { option_map (λ r. relation_of r.now) result
+        ≡ relation_named (known_of program.now) name.now }
+{
+    relation_among(&program.relations, name)
+}
+
+/// Whether a language or a relation has this name.
+pub(crate) fn is_taken(program: &Program, name: &str) -> bool
+    ensures { result ≡ is_taken (known_of program.now) name.now }
+{
+    place_named(program, name).is_some() || relation_named(program, name).is_some()
 }

@@ -1,125 +1,68 @@
 // Forms that define languages.
-ghost use Rattle.std.specs.Prelude.{◌≡◌, List, Option, Some, None, IfOk, map, option_map};
+ghost use Rattle.std.specs.Prelude.{◌≡◌, [], Some, IfOk, option_map};
 ghost use Rattle.rdx_lang.specs.Checked.{language_in};
-ghost use Rattle.rdx_lang.specs.Patterns as model;
-ghost use Rattle.rdx_grammar.specs.Answers.{ReadsForm};
-ghost use Rattle.rdx_grammar.specs.Forms.{GrammarForm, extension_form};
-ghost use Rattle.rdx_grammar.specs.Parts.{text_of};
+ghost use Rattle.rdx_grammar.specs.Nonterminals.{names_of};
 ghost use Rattle.rdx_grammar.specs.Readable.{IsReadable};
-ghost use Rattle.rdx_sexp.specs.Sexp.{Sexp};
+ghost use Rattle.rdx_grammar.specs.Refusal.{refusal_of};
 ghost use Rattle.rdx_query.specs.FormKinds as forms;
-ghost use Rattle.rdx_query.specs.Inside.Defining as answers;
-ghost use Rattle.rdx_query.specs.Inside.Defining.{DefinesOver, DefinesBy, IsNamed};
-ghost use Rattle.rdx_query.specs.Known.{Known, language_named};
-ghost use Rattle.rdx_query.specs.LanguageForms.{base_name, unknown_at};
+ghost use Rattle.rdx_query.specs.Inside.Defining.{DefinesBy, taken_at_item};
+ghost use Rattle.rdx_query.specs.Inside.PartViews.{second_item};
+ghost use Rattle.rdx_query.specs.LanguageForms.{base_name};
 ghost use Rattle.rdx_query.specs.Views.{known_of};
 
-use crate::Program;
-use crate::known::place_named;
+use crate::earlier::{first_fault, unless};
+use crate::known::{is_taken, place_named};
 use crate::parts::{base_name, second_item};
 use crate::refusals::misshaped;
 use rdx_grammar::refusal::named;
 use rdx_grammar::shape::text;
-use rdx_grammar::{DefFault, DefKind, extend, read_language};
-use rdx_lang::{CheckedLang, Language, Ranks};
+use rdx_grammar::{DefFault, DefKind, DefRefusal, extend, read_language};
+use rdx_lang::{CheckedLang, Language, Program, Ranks};
 use rdx_sexp::Datum;
 use rdx_term::{Name, NoMemory};
 use std::alloc::Global;
 use std::rc::RcStr;
 
-// Whether a refusal of this kind comes before each look at the languages so far.
-fn is_early_kind(kind: DefKind) -> bool
-    ensures { result ≡ answers.is_early_kind kind }
-{
-    match kind {
-        DefKind::Unbuilt | DefKind::Shape => true,
-        DefKind::UnknownLanguage
-        | DefKind::Duplicate
-        | DefKind::BadName
-        | DefKind::BadPattern
-        | DefKind::EllipsisDepth
-        | DefKind::LeftRecursive
-        | DefKind::UnknownName
-        | DefKind::EllipsisVariable
-        | DefKind::RacketEscape => false,
+/// Some name, for what needs one that nobody reads.
+pub(crate) fn some_name(alloc: Global) -> Result<Name, NoMemory> {
+    match Name::new(RcStr::from_str(alloc, "none")?) {
+        Some(name) => Ok(name),
+        None => unreachable!(),
     }
 }
 
-// Whether this is the answer to a form, whatever the languages so far.
-fn is_settled(read: &Result<CheckedLang, DefFault>) -> bool
-    ensures { result ≡ answers.is_settled read.now }
+/// A language without nonterminals.
+pub(crate) fn empty_language(alloc: Global) -> Result<CheckedLang, NoMemory>
+    ensures { IfOk result (λ l. names_of (language_in l) ≡ []) }
 {
-    match read {
-        Ok(_) => false,
-        Err(DefFault::Refused(refusal)) => is_early_kind(refusal.kind),
-        Err(DefFault::NoMemory) => true,
-    }
+    let language = Language {
+        name: some_name(alloc)?,
+        nts: Vec::new(alloc),
+    };
+    Ok(CheckedLang::new(
+        language,
+        Ranks {
+            of: Vec::new(alloc),
+        },
+    ))
 }
 
-// The name of the form, where an earlier form has it.
-fn taken_name<'a>(program: &Program, form: &'a Datum) -> Option<&'a Datum>
-    ensures { option_map (λ d. d.now) result ≡ answers.taken_name (known_of program.now) form.now }
-{
-    let name = second_item(form)?;
-    if place_named(program, text(name)).is_some() {
-        Some(name)
-    } else {
-        None
-    }
-}
-
-// What was read of a form, unless its name is taken, which is S3.
-fn unless_taken(
+// The refusal of a form whose name an earlier form has, S3.
+fn refuse_taken(
     alloc: Global,
     program: &Program,
     form: &Datum,
-    read: Result<CheckedLang, DefFault>,
-) -> Result<CheckedLang, DefFault>
-    ensures { (base : model.Language) (l0 : Option Sexp) (g : Option GrammarForm)
-        → unknown_at (known_of program.now) l0 ≡ None → IsNamed form.now g
-        → ReadsForm base form.now g read → DefinesOver (known_of program.now) base l0 form.now g result }
+) -> Result<Option<DefRefusal>, NoMemory>
+    ensures { IfOk result (λ r. option_map refusal_of r
+        ≡ taken_at_item (known_of program.now) (second_item form.now)) }
 {
-    if is_settled(&read) {
-        return read;
-    }
-    match taken_name(program, form) {
-        Some(name) => Err(DefFault::Refused(named(alloc, DefKind::Duplicate, name)?)),
-        None => read,
-    }
-}
-
-// What was read of an extension, unless that was the extension of an unknown language of this name, which is S2.
-fn unless_unknown(
-    alloc: Global,
-    name: &Datum,
-    read: Result<CheckedLang, DefFault>,
-) -> Result<CheckedLang, DefFault>
-    ensures { (K : Known) (base other : model.Language) (d : Sexp) (g : Option GrammarForm)
-        → language_named K (text_of name.now) ≡ None
-        → ReadsForm base d g read → DefinesOver K other (Some name.now) d g result }
-{
-    if is_settled(&read) {
-        return read;
-    }
-    Err(DefFault::Refused(named(alloc, DefKind::UnknownLanguage, name)?))
-}
-
-// A language without nonterminals.
-fn empty_language(alloc: Global) -> Result<CheckedLang, NoMemory> {
-    match Name::new(RcStr::from_str(alloc, "none")?) {
-        Some(name) => {
-            let language = Language {
-                name,
-                nts: Vec::new(alloc),
-            };
-            Ok(CheckedLang::new(
-                language,
-                Ranks {
-                    of: Vec::new(alloc),
-                },
-            ))
-        }
-        None => unreachable!(),
+    let Some(name) = second_item(form) else {
+        return Ok(None);
+    };
+    if is_taken(program, text(name)) {
+        Ok(Some(named(alloc, DefKind::Duplicate, name)?))
+    } else {
+        Ok(None)
     }
 }
 
@@ -136,13 +79,15 @@ fn extension(
     ensures { DefinesBy (known_of program.now) form.now result }
 {
     match place_named(program, text(name)) {
-        Some(place) => unless_taken(
-            alloc,
-            program,
-            form,
-            extend(alloc, &program.languages[place], form),
-        ),
-        None => unless_unknown(alloc, name, extend(alloc, &empty_language(alloc)?, form)),
+        Some(place) => {
+            let taken = refuse_taken(alloc, program, form)?;
+            unless(taken, extend(alloc, &program.languages[place], form))
+        }
+        None => {
+            let unknown = named(alloc, DefKind::UnknownLanguage, name)?;
+            let read = extend(alloc, &empty_language(alloc)?, form);
+            Err(first_fault(unknown, read))
+        }
     }
 }
 
@@ -172,5 +117,6 @@ pub(crate) fn define_language(
     requires language { forms.form_kind form.now ≡ Some (forms.defines forms.language) }
     ensures { DefinesBy (known_of program.now) form.now result }
 {
-    unless_taken(alloc, program, form, read_language(alloc, form))
+    let taken = refuse_taken(alloc, program, form)?;
+    unless(taken, read_language(alloc, form))
 }

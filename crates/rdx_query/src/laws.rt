@@ -1,8 +1,8 @@
 //! Laws of the definitions: functions that do nothing, whose contracts are the laws.
-ghost use Rattle.rdx_query.specs.Laws.{OneMeaning, OneText, AlwaysMet, OneRefusal, NeverBothAcceptedAndRefused, NeverBothTextAndRefusal, NeverNeither, SomeTextOrRefusal};
+ghost use Rattle.rdx_query.specs.Laws.{OneMeaning, OneText, OneRefusal, NeverBothAcceptedAndRefused, NeverBothTextAndRefusal, NeverNeither, SomeTextOrRefusal};
 ghost use Rattle.rdx_query.specs.Examples as example;
 
-/// The data of a file define one list of languages and ask one list of queries at most.
+/// The data of a file define one program and ask one list of queries at most.
 pub fn one_meaning()
     ensures { OneMeaning }
 {}
@@ -12,12 +12,9 @@ pub fn one_text()
     ensures { OneText }
 {
     rdx_lang::laws::one_listing();
+    rdx_eval::laws::one_term();
+    rdx_reduce::laws::one_stepping();
 }
-
-/// Whatever a file writes, all is met that it states.
-pub fn always_met()
-    ensures { AlwaysMet }
-{}
 
 /// The data of a file have one refusal at most.
 pub fn one_refusal()
@@ -47,6 +44,8 @@ pub fn some_text_or_refusal()
 {
     rdx_lang::laws::free_or_recursive();
     rdx_lang::laws::some_listing();
+    rdx_eval::laws::one_term();
+    rdx_reduce::laws::one_stepping();
 }
 
 /// The examples of `specs/Examples.antt` hold.
@@ -55,6 +54,9 @@ pub fn worked_examples()
     ensures whole_answer { example.WholeAnswer }
     ensures inherited { example.Inherited }
     ensures one_split { example.OneSplit }
+    ensures filled_term { example.FilledTerm }
+    ensures fault_answered { example.FaultAnswered }
+    ensures one_reduct_two_steps { example.OneReductTwoSteps }
     ensures own_hole { example.OwnHole }
     ensures one_hole { example.OneHole }
     ensures no_own_hole { example.NoOwnHole }
@@ -65,7 +67,6 @@ pub fn worked_examples()
     ensures earlier_languages_only { example.EarlierLanguagesOnly }
     ensures taken_name { example.TakenName }
     ensures host_expression { example.HostExpression }
-    ensures filled_term { example.FilledTerm }
     ensures few_items { example.FewItems }
     ensures left_recursion { example.LeftRecursion }
 {}

@@ -6,9 +6,10 @@
 #![tactic(auto)]
 
 mod answers;
+mod earlier;
 mod file;
-mod firsts;
 mod forms;
+mod host_forms;
 mod kind;
 mod known;
 mod language_forms;
@@ -17,11 +18,12 @@ mod match_answers;
 mod match_forms;
 mod parts;
 mod refusals;
-mod templates;
-mod terms;
+mod relation_forms;
+mod step_answers;
+mod step_forms;
 #[cfg(test)]
 mod tests;
 mod texts;
 
 pub use answers::{Answered, answer};
-pub use file::{CheckedFile, Program, Query, check_file};
+pub use file::{CheckedFile, Query, check_file};

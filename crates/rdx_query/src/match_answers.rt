@@ -1,18 +1,19 @@
 // The answers to queries that match a pattern against a term or split the term by it.
-ghost use Rattle.std.specs.Prelude.{◌≡◌, Some, IfOk, IfSome, IsSome};
+ghost use Rattle.std.specs.Prelude.{◌≡◌, Some, true, IfOk, IfSome, IsSome, OnOk};
+ghost use Rattle.rdx_eval.specs.Views.{program_in};
 ghost use Rattle.rdx_lang.specs.Checked.{language_in, pattern_in};
 ghost use Rattle.rdx_lang.specs.Patterns.{closed};
-ghost use Rattle.rdx_query.specs.Inside.Appending.{AppendsAnswer};
+ghost use Rattle.rdx_query.specs.Inside.Appending.{Appends};
 ghost use Rattle.rdx_query.specs.Inside.Whether.{TellsWhether};
-ghost use Rattle.rdx_query.specs.Known.{language_named};
-ghost use Rattle.rdx_query.specs.Queries.{NamesKnown};
-ghost use Rattle.rdx_query.specs.Views.{known_of, query_of};
+ghost use Rattle.rdx_lang.specs.Programs.{language_named};
+ghost use Rattle.rdx_query.specs.MatchAnswers.{IsMatchesAnswer, IsWhetherAnswer, IsSplitsAnswer};
+ghost use Rattle.rdx_query.specs.Views.{known_of};
 ghost use Rattle.rdx_term.specs.View.{tree_of};
 
 use crate::known::place_named;
 use crate::texts::{write_matches, write_splits, write_whether};
-use crate::{Program, Query};
-use rdx_lang::{CheckedLang, CheckedPat, Matcher, Pat};
+use rdx_eval::Engine;
+use rdx_lang::{CheckedLang, CheckedPat, Pat, Program};
 use rdx_table::Table;
 use rdx_term::{Name, NoMemory, Term};
 use std::alloc::Global;
@@ -30,27 +31,29 @@ fn language<'a>(program: &'a Program, name: &Name) -> &'a CheckedLang
 
 // Whether the pattern matches the term.
 fn has_matches(
-    matcher: &mut Table,
+    engine: &mut Engine<Table>,
     language: &CheckedLang,
     pat: &CheckedPat,
     t: &Term,
 ) -> Result<bool, NoMemory>
-    ensures { IfOk result (TellsWhether (language_in language.now) (pattern_in pat.now) (tree_of t.now)) }
+    ensures told { IfOk result (TellsWhether (language_in language.now) (pattern_in pat.now) (tree_of t.now)) }
+    ensures same { program_in engine.new ≡ program_in engine.old }
 {
-    let found = matcher.matches(language, pat, t)?;
+    let found = engine.matches(language, pat, t)?;
     Ok(!found.is_empty())
 }
 
 // The same of a closed pattern, which is of use for this alone.
 fn closed_has_matches(
-    matcher: &mut Table,
+    engine: &mut Engine<Table>,
     language: &CheckedLang,
     pat: CheckedPat,
     t: &Term,
 ) -> Result<bool, NoMemory>
-    ensures { IfOk result (TellsWhether (language_in language.now) (pattern_in pat) (tree_of t.now)) }
+    ensures told { IfOk result (TellsWhether (language_in language.now) (pattern_in pat) (tree_of t.now)) }
+    ensures same { program_in engine.new ≡ program_in engine.old }
 {
-    has_matches(matcher, language, &pat, t)
+    has_matches(engine, language, &pat, t)
 }
 
 // The pattern, closed; it is well formed where the pattern is.
@@ -70,46 +73,75 @@ fn closed_of(
 // or a no, so that no binding is listed.
 fn is_matched(
     alloc: Global,
-    matcher: &mut Table,
+    engine: &mut Engine<Table>,
     language: &CheckedLang,
     pat: &CheckedPat,
     t: &Term,
 ) -> Result<bool, NoMemory>
-    ensures { IfOk result (TellsWhether (language_in language.now) (pattern_in pat.now) (tree_of t.now)) }
+    ensures told { IfOk result (TellsWhether (language_in language.now) (pattern_in pat.now) (tree_of t.now)) }
+    ensures same { program_in engine.new ≡ program_in engine.old }
 {
     rdx_lang::laws::some_listing();
     rdx_lang::laws::ranks_fall();
     match closed_of(alloc, language, pat)? {
-        Some(closed) => closed_has_matches(matcher, language, closed, t),
-        None => has_matches(matcher, language, pat, t),
+        Some(closed) => closed_has_matches(engine, language, closed, t),
+        None => has_matches(engine, language, pat, t),
     }
 }
 
-/// Appends the answer to a query, and says that all is met.
-pub(crate) fn write_answer(
+/// Appends the answer to `redex-match` over this term.
+pub(crate) fn answer_matches(
     alloc: Global,
-    matcher: &mut Table,
-    program: &Program,
-    query: &Query,
+    engine: &mut Engine<Table>,
+    name: &Name,
+    pat: &CheckedPat,
+    t: &Term,
     out: &mut Vec<u8>,
-) -> Result<bool, NoMemory>
-    requires { NamesKnown (known_of program.now) (query_of query.now) }
-    ensures { IfOk result (λ met. AppendsAnswer (known_of program.now) (query_of query.now)
-        out.old.items out.new.items met) }
+) -> Result<(), NoMemory>
+    requires { IsSome (language_named (known_of (program_in engine.old).now) name.now) }
+    ensures answer { OnOk result (Appends (IsMatchesAnswer (known_of (program_in engine.old).now)
+        name.now (pattern_in pat.now) (tree_of t.now)) out.old.items out.new.items true) }
+    ensures same { program_in engine.new ≡ program_in engine.old }
 {
-    match query {
-        Query::Match(name, pat, term) => {
-            let found = matcher.matches(language(program, name), pat, term)?;
-            write_matches(alloc, &found, out)?;
-        }
-        Query::Whether(name, pat, term) => {
-            let are_some = is_matched(alloc, matcher, language(program, name), pat, term)?;
-            write_whether(are_some, out)?;
-        }
-        Query::Decompose(name, pat, term) => {
-            let found = matcher.splits(language(program, name), pat, term)?;
-            write_splits(alloc, &found, out)?;
-        }
-    }
-    Ok(true)
+    let language = language(engine.program(), name);
+    let found = engine.matches(language, pat, t)?;
+    write_matches(alloc, &found, out)
+}
+
+/// Appends the answer to `redex-match?` over this term.
+pub(crate) fn answer_whether(
+    alloc: Global,
+    engine: &mut Engine<Table>,
+    name: &Name,
+    pat: &CheckedPat,
+    t: &Term,
+    out: &mut Vec<u8>,
+) -> Result<(), NoMemory>
+    requires { IsSome (language_named (known_of (program_in engine.old).now) name.now) }
+    ensures answer { OnOk result (Appends (IsWhetherAnswer (known_of (program_in engine.old).now)
+        name.now (pattern_in pat.now) (tree_of t.now)) out.old.items out.new.items true) }
+    ensures same { program_in engine.new ≡ program_in engine.old }
+{
+    let language = language(engine.program(), name);
+    let are_some = is_matched(alloc, engine, language, pat, t)?;
+    write_whether(are_some, out)
+}
+
+/// Appends the answer to `redex-decompose` over this term.
+pub(crate) fn answer_splits(
+    alloc: Global,
+    engine: &mut Engine<Table>,
+    name: &Name,
+    pat: &CheckedPat,
+    t: &Term,
+    out: &mut Vec<u8>,
+) -> Result<(), NoMemory>
+    requires { IsSome (language_named (known_of (program_in engine.old).now) name.now) }
+    ensures answer { OnOk result (Appends (IsSplitsAnswer (known_of (program_in engine.old).now)
+        name.now (pattern_in pat.now) (tree_of t.now)) out.old.items out.new.items true) }
+    ensures same { program_in engine.new ≡ program_in engine.old }
+{
+    let language = language(engine.program(), name);
+    let found = engine.splits(language, pat, t)?;
+    write_splits(alloc, &found, out)
 }

@@ -1,11 +1,14 @@
 // The parts of data and of forms.
-ghost use Rattle.std.specs.Prelude.{◌≡◌, option_map};
-ghost use Rattle.rdx_grammar.specs.Parts as parts;
-ghost use Rattle.rdx_query.specs.Inside.PartViews.{parts_of, second_item};
+ghost use Rattle.std.specs.Prelude.{◌≡◌, [], option_map};
+ghost use Rattle.rdx_grammar.specs.Parts.{parts};
+ghost use Rattle.rdx_query.specs.HostForms.{template_in};
+ghost use Rattle.rdx_query.specs.Inside.PartViews.{defining_by, defining_of, defining_with, parts_of, second_item, language_item, steps_of};
 ghost use Rattle.rdx_query.specs.LanguageForms.{base_name};
-ghost use Rattle.rdx_query.specs.MatchForms.{query_parts, template_in};
+ghost use Rattle.rdx_query.specs.MatchForms.{query_parts};
+ghost use Rattle.rdx_query.specs.RelationForms.{begins_relation, define_named, define_parts};
+ghost use Rattle.rdx_query.specs.StepForms.{step_parts};
 
-use rdx_grammar::shape::{is_word, items};
+use rdx_grammar::shape::{is_symbol, is_word, items};
 use rdx_sexp::Datum;
 
 /// The name of a language, a pattern, and the host expression that gives the term.
@@ -16,6 +19,21 @@ pub(crate) struct QueryParts<'a> {
     pub(crate) host: &'a Datum,
 }
 
+/// The name of a relation, and the host expression that gives the term.
+#[derive(Clone, Copy)]
+pub(crate) struct StepParts<'a> {
+    pub(crate) relation: &'a Datum,
+    pub(crate) host: &'a Datum,
+}
+
+/// The name of a relation, the list that says what it is, and whether something stands behind that.
+#[derive(Clone, Copy)]
+pub(crate) struct DefineParts<'a> {
+    pub(crate) name: &'a Datum,
+    pub(crate) body: &'a Datum,
+    pub(crate) has_more: bool,
+}
+
 /// The second item, which is the name where a form defines a language.
 pub(crate) fn second_item(d: &Datum) -> Option<&Datum>
     ensures { option_map (λ d. d.now) result ≡ second_item d.now }
@@ -23,6 +41,18 @@ pub(crate) fn second_item(d: &Datum) -> Option<&Datum>
     match items(d)? {
         [_, name, ..] => Some(name),
         _ => None,
+    }
+}
+
+/// The same where it may name a language: the one in a list that says what a relation is.
+pub(crate) fn language_item(d: &Datum) -> Option<&Datum>
+    ensures { option_map (λ d. d.now) result ≡ language_item d.now }
+{
+    let name = second_item(d)?;
+    if is_symbol(name) && !is_word(name, "hole") {
+        Some(name)
+    } else {
+        None
     }
 }
 
@@ -36,7 +66,7 @@ pub(crate) fn base_name(d: &Datum) -> Option<&Datum>
     }
 }
 
-/// The term of `(term t)`.
+/// The template of `(term t)`.
 pub(crate) fn template(d: &Datum) -> Option<&Datum>
     ensures { option_map (λ d. d.now) result ≡ template_in d.now }
 {
@@ -62,6 +92,54 @@ pub(crate) fn query_parts(d: &Datum) -> Option<QueryParts<'_>>
             pattern,
             host,
         }),
+        _ => None,
+    }
+}
+
+/// The parts of a form that asks for steps.
+pub(crate) fn step_parts(d: &Datum) -> Option<StepParts<'_>>
+    ensures { option_map steps_of result ≡ step_parts d.now }
+{
+    match items(d)? {
+        [_, relation, host] => Some(StepParts { relation, host }),
+        _ => None,
+    }
+}
+
+// Whether a list begins with `reduction-relation`.
+fn begins_relation(d: &Datum) -> bool
+    ensures { result ≡ begins_relation (parts d.now) }
+{
+    match items(d) {
+        Some([head, ..]) => is_word(head, "reduction-relation"),
+        Some([]) | None => false,
+    }
+}
+
+// A name with such a list.
+fn define_named<'a>(name: &'a Datum, body: &'a Datum, has_more: bool) -> Option<DefineParts<'a>>
+    ensures { option_map defining_of result
+        ≡ option_map (defining_with has_more)
+        (define_named name.now body.now []) }
+{
+    if is_symbol(name) && begins_relation(body) {
+        Some(DefineParts {
+            name,
+            body,
+            has_more,
+        })
+    } else {
+        None
+    }
+}
+
+/// The parts of a form that defines a relation.
+pub(crate) fn define_parts(d: &Datum) -> Option<DefineParts<'_>>
+    ensures { option_map defining_of result ≡ option_map defining_by (define_parts d.now) }
+{
+    match items(d)? {
+        [_, name, body] => define_named(name, body, false),
+        [_, name, body, _, ..] => define_named(name, body, true),
         _ => None,
     }
 }

@@ -1,12 +1,14 @@
 // The file without forms, both matchers side by side, and calls of the crates below that no file
 // makes so far.
 use crate::known::place_named;
-use crate::{Program, Query, answer, check_file};
-use rdx_lang::{Binding, CheckedPat, Matcher, Value};
+use crate::{Query, answer, check_file};
+use rdx_eval::Engine;
+use rdx_lang::{Binding, CheckedPat, HostExpr, Value};
 use rdx_match::Plain;
 use rdx_sexp::{datum_text, read_all};
 use rdx_table::Table;
 use rdx_term::{Name, NoMemory, Term};
+use std::alloc::Global;
 use std::process::Abort;
 use std::rc::RcStr;
 use std::test::Fail;
@@ -65,23 +67,28 @@ const QUERIES: &[u8] = b"(define-language A (e (+ e e) n) (n number) (E hole (+ 
 (redex-match H (in-hole C hole) (term (hole hole)))
 (redex-match H ((in-hole C hole) (in-hole C 1)) (term ((hole hole) (hole 1))))";
 
-// Whether both matchers list the same of the pattern and the term, twice.
+// Whether both matchers list the same of the pattern and what the host expression makes, twice.
 fn agree(
-    plain: &mut Plain,
-    table: &mut Table,
-    program: &Program,
+    alloc: Global,
+    plain: &mut Engine<Plain>,
+    table: &mut Engine<Table>,
     name: &Name,
     pat: &CheckedPat,
-    t: &Term,
+    host: &HostExpr,
 ) -> Result<bool, NoMemory> {
+    let program = plain.program();
     let Some(place) = place_named(program, name.text()) else {
         return Ok(false);
     };
     let language = &program.languages[place];
+    let HostExpr::Term(template) = host;
+    let Ok(t) = table.instantiate(template, &Binding::new(Vec::new(alloc))) else {
+        return Ok(false);
+    };
     let mut same = true;
     for _ in 0..2 {
-        same &= plain.matches(language, pat, t)? == table.matches(language, pat, t)?;
-        same &= plain.splits(language, pat, t)? == table.splits(language, pat, t)?;
+        same &= plain.matches(language, pat, &t)? == table.matches(language, pat, &t)?;
+        same &= plain.splits(language, pat, &t)? == table.splits(language, pat, &t)?;
     }
     Ok(same)
 }
@@ -91,16 +98,19 @@ fn both_matchers_agree(rt: HostRuntime) -> Result<(), Fail> {
     let alloc = rt.alloc();
     let data = read_all(alloc, QUERIES)?;
     let file = check_file(alloc, &data).expect(&rt, "a file that is accepted");
-    let mut plain = Plain::new(alloc);
-    let mut table = Table::new(alloc)?;
+    let mut plain = Engine::new(alloc, &file.program, Plain::new(alloc));
+    let mut table = Engine::new(alloc, &file.program, Table::new(alloc)?);
     assert_eq!(rt; file.queries.len(), 10);
     for query in &file.queries {
         match query {
-            Query::Match(name, pat, t)
-            | Query::Whether(name, pat, t)
-            | Query::Decompose(name, pat, t) => {
-                let same = agree(&mut plain, &mut table, &file.program, name, pat, t)?;
+            Query::Match(name, pat, host)
+            | Query::Whether(name, pat, host)
+            | Query::Decompose(name, pat, host) => {
+                let same = agree(alloc, &mut plain, &mut table, name, pat, host)?;
                 assert!(rt; same);
+            }
+            Query::Value(_) | Query::Reducts(_, _) | Query::Tagged(_, _) => {
+                assert!(rt; false, "no pattern");
             }
         }
     }

@@ -1,20 +1,32 @@
 // The texts of answers.
-ghost use Rattle.std.specs.Prelude.{◌≡◌, ◌++◌, OnOk, IsTrue, List, decimal, map};
+ghost use Rattle.std.specs.Prelude.{◌≡◌, ◌++◌, IfOk, OnOk, IsTrue, List, decimal, map, option_map};
+ghost use Rattle.std.specs.Rc.{rc_str_bytes};
 ghost use Rattle.rdx_term.specs.Context.{is_context};
+ghost use Rattle.rdx_term.specs.Spelling.{is_symbol_spelling};
+ghost use Rattle.rdx_term.specs.Text.{tree_text};
 ghost use Rattle.rdx_term.specs.View.{tree_of};
 ghost use Rattle.rdx_lang.specs.Bindings as bindings;
 ghost use Rattle.rdx_lang.specs.Bindings.{one, values};
 ghost use Rattle.rdx_lang.specs.BindingView.{value_of, pair_of};
+ghost use Rattle.rdx_lang.specs.ProgramView.{rule_of};
 ghost use Rattle.rdx_lang.specs.Shown.{binding_of, bindings_of, decomposition_of, decompositions_of};
+ghost use Rattle.rdx_eval.specs.Views.{fault_of};
+ghost use Rattle.rdx_defs.specs.RelationChecks.{label_text};
+ghost use Rattle.rdx_reduce.specs.StepView.{step_of};
 ghost use Rattle.rdx_query.specs.AnswerText as text;
 ghost use Rattle.rdx_query.specs.Inside.Contexts.{HaveContexts};
 ghost use Rattle.rdx_query.specs.Inside.Whether as whether;
+ghost use Rattle.rdx_query.specs.StepAnswers as steps;
 
 use itoa::Buffer;
+use rdx_eval::Fault;
 use rdx_fill::path_of;
-use rdx_lang::{Binding, Split, Value};
+use rdx_lang::{Binding, Rule, Split, Value};
+use rdx_reduce::Step;
+use rdx_term::printing::{print_bytes, print_string};
 use rdx_term::{Name, NoMemory, Term, text_of};
 use std::alloc::Global;
+use std::rc::RcStr;
 
 // A number in decimal.
 fn write_number(number: usize, out: &mut Vec<u8>) -> Result<(), NoMemory>
@@ -212,5 +224,148 @@ pub(crate) fn write_whether(are_some: bool, out: &mut Vec<u8>) -> Result<(), NoM
         b"matches #f\n"
     };
     out.extend_from_slice(line)?;
+    Ok(())
+}
+
+/// The term itself.
+pub(crate) fn write_value_line(term: &Term, out: &mut Vec<u8>) -> Result<(), NoMemory>
+    ensures { OnOk result (out.new.items ≡ out.old.items ++ text.value_line (tree_of term.now)) }
+{
+    out.extend_from_slice(b"value ")?;
+    text_of(term, out)?;
+    out.push(b'\n')?;
+    Ok(())
+}
+
+// A line for each term.
+fn write_term_lines(found: &[Term], out: &mut Vec<u8>) -> Result<(), NoMemory>
+    ensures { OnOk result (out.new.items ≡ out.old.items
+        ++ text.lines_text (map tree_text (map tree_of found.now))) }
+{
+    for term in found {
+        out.extend_from_slice(b"  ")?;
+        text_of(term, out)?;
+        out.push(b'\n')?;
+    }
+    Ok(())
+}
+
+/// How many terms there are, and then each.
+pub(crate) fn write_reducts(found: &[Term], out: &mut Vec<u8>) -> Result<(), NoMemory>
+    ensures { OnOk result
+        (out.new.items ≡ out.old.items ++ text.reducts_text (map tree_of found.now)) }
+{
+    out.extend_from_slice(b"reducts ")?;
+    write_number(found.len(), out)?;
+    out.push(b'\n')?;
+    write_term_lines(found, out)
+}
+
+// Whether a text is spelled like a symbol: a name is, and so is `hole`.
+fn is_like_symbol(text: &RcStr) -> Result<bool, NoMemory>
+    ensures { IfOk result (λ b. b ≡ is_symbol_spelling (rc_str_bytes text.now)) }
+{
+    if text.as_str() == "hole" {
+        return Ok(true);
+    }
+    let name = Name::new(text.clone()?);
+    Ok(name.is_some())
+}
+
+// The name of a rule, as a string where it is not spelled like a symbol.
+fn write_label(name: &RcStr, out: &mut Vec<u8>) -> Result<(), NoMemory>
+    ensures { OnOk result
+        (out.new.items ≡ out.old.items ++ label_text (rc_str_bytes name.now)) }
+{
+    let text = name.as_str().as_bytes();
+    if is_like_symbol(name)? {
+        print_bytes(text, out)
+    } else {
+        print_string(text, out)
+    }
+}
+
+// The name of a rule, or `-` where it has none.
+fn write_rule_name(name: Option<&RcStr>, out: &mut Vec<u8>) -> Result<(), NoMemory>
+    ensures { OnOk result (out.new.items ≡ out.old.items
+        ++ text.rule_name_text (option_map (λ n. rc_str_bytes n.now) name.entry)) }
+{
+    match name {
+        Some(name) => write_label(name, out),
+        None => print_bytes(b"-", out),
+    }
+}
+
+// The name of the rule at this place, if there is a rule there and it has one.
+fn name_at(rules: &[Rule], place: usize) -> Option<&RcStr>
+    ensures { option_map (λ n. rc_str_bytes n.now) result
+        ≡ steps.name_at (map rule_of rules.now) place }
+{
+    rules.get(place)?.name.as_ref()
+}
+
+// `name reduct`.
+fn write_step(rules: &[Rule], step: &Step, out: &mut Vec<u8>) -> Result<(), NoMemory>
+    ensures { OnOk result (out.new.items ≡ out.old.items
+        ++ text.step_text (steps.name_at (map rule_of rules.now) step.now.rule, tree_of step.now.reduct)) }
+{
+    write_rule_name(name_at(rules, step.rule), out)?;
+    out.push(b' ')?;
+    text_of(&step.reduct, out)
+}
+
+// A line for each step.
+fn write_step_lines(rules: &[Rule], found: &[Step], out: &mut Vec<u8>) -> Result<(), NoMemory>
+    ensures { OnOk result (out.new.items ≡ out.old.items ++ text.lines_text
+        (map text.step_text (steps.named_steps (map rule_of rules.now) (map step_of found.now)))) }
+{
+    for step in found {
+        out.extend_from_slice(b"  ")?;
+        write_step(rules, step, out)?;
+        out.push(b'\n')?;
+    }
+    Ok(())
+}
+
+/// How many steps there are, and then each, with the name of its rule.
+pub(crate) fn write_steps(rules: &[Rule], found: &[Step], out: &mut Vec<u8>) -> Result<(), NoMemory>
+    ensures { OnOk result (out.new.items ≡ out.old.items ++ text.steps_text
+        (steps.named_steps (map rule_of rules.now) (map step_of found.now))) }
+{
+    out.extend_from_slice(b"steps ")?;
+    write_number(found.len(), out)?;
+    out.push(b'\n')?;
+    write_step_lines(rules, found, out)
+}
+
+// What a fault is called, with its numbers.
+fn write_fault_name(fault: &Fault, out: &mut Vec<u8>) -> Result<(), NoMemory>
+    ensures { OnOk result
+        (out.new.items ≡ out.old.items ++ text.fault_name (fault_of fault.now)) }
+{
+    match fault {
+        Fault::NotContext(holes) => {
+            out.extend_from_slice(b"NotContext ")?;
+            write_number(*holes as usize, out)
+        }
+        Fault::TooDeep => print_bytes(b"TooDeep", out),
+        Fault::TooLarge => print_bytes(b"TooLarge", out),
+        Fault::Lengths(first, other) => {
+            out.extend_from_slice(b"Lengths ")?;
+            write_number(*first, out)?;
+            out.extend_from_slice(b" and ")?;
+            write_number(*other, out)
+        }
+    }
+}
+
+/// The line of a fault.
+pub(crate) fn write_fault(fault: &Fault, out: &mut Vec<u8>) -> Result<(), NoMemory>
+    ensures { OnOk result
+        (out.new.items ≡ out.old.items ++ text.fault_line (fault_of fault.now)) }
+{
+    out.extend_from_slice(b"fault ")?;
+    write_fault_name(fault, out)?;
+    out.push(b'\n')?;
     Ok(())
 }

@@ -1,11 +1,47 @@
 -- One answer behind another.
-use Rattle.std.specs.Prelude.{◌≡◌, ℕ, Bool, List, ◌++◌}
-use Rattle.rdx_query.specs.Answering.{IsAnswer}
+use Rattle.std.specs.Prelude.{◌≡◌, ℕ, Bool, true, false, List, ◌++◌, Result, Ok, Err}
+use Rattle.rdx_term.specs.Tree.{Tree}
+use Rattle.rdx_lang.specs.Templates.{Host}
+use Rattle.rdx_eval.specs.Views.{fault_of}
+use Rattle.rdx_eval.specs.declared.fault.EvalFault.{EvalFault}
+use Rattle.rdx_eval.specs.declared.fault.EvalFault.TheVariants.{Named, NoMemory}
+use Rattle.rdx_query.specs.AnswerText.{fault_line}
+use Rattle.rdx_query.specs.Answering.{IsAnswer, IsValueAnswer}
 use Rattle.rdx_query.specs.Known.{Known}
-use Rattle.rdx_query.specs.Queries.{Query}
+use Rattle.rdx_query.specs.MatchAnswers.{IsMatchesAnswer, IsWhetherAnswer, IsSplitsAnswer}
+use Rattle.rdx_query.specs.Queries.{Query, matches, whether, splits, value, reducts, tagged}
+use Rattle.rdx_query.specs.StepAnswers.{IsReductsAnswer, IsTaggedAnswer}
 
--- after holds what before held, and then the answer to the query, and met is whether what it states is met
-pub record AppendsAnswer (K : Known) (q : Query) (before after : List ℕ) (met : Bool) : Type 0 where
+-- after holds what before held, and then a text that W has, and met is whether what is stated is met
+pub record Appends (W : List ℕ → Bool → Type 0) (before after : List ℕ) (met : Bool) : Type 0 where
   pub text : List ℕ
-  pub answer : IsAnswer K q text met
+  pub answer : W text met
   pub gained : after ≡ before ++ text
+
+-- the same of the answer to a query
+abbrev pub AppendsAnswer : Known → Query → List ℕ → List ℕ → Bool → Type 0
+AppendsAnswer K q = Appends (IsAnswer K q)
+
+-- a text that W has is appended, and all is met; or nothing is, since there is a fault, of which W has the line, and something stays unmet
+abbrev pub Tries : {A : Type 0} → (List ℕ → Bool → Type 0) → List ℕ → List ℕ → Result A EvalFault → Type 0
+Tries W before after (Ok u) = Appends W before after true
+Tries W before after (Err (Named f)) = (after ≡ before) × W (fault_line (fault_of f)) false
+Tries W before after (Err NoMemory) = Unit {0}
+
+-- the host expression of a query
+abbrev pub host_in : Query → Host
+host_in (matches name p h) = h
+host_in (whether name p h) = h
+host_in (splits name p h) = h
+host_in (value h) = h
+host_in (reducts name h) = h
+host_in (tagged name h) = h
+
+-- the answer to a query, where its host expression makes the term t
+abbrev pub IsAnswerOver : Known → Query → Tree → List ℕ → Bool → Type 0
+IsAnswerOver K (matches name p h) t = IsMatchesAnswer K name p t
+IsAnswerOver K (whether name p h) t = IsWhetherAnswer K name p t
+IsAnswerOver K (splits name p h) t = IsSplitsAnswer K name p t
+IsAnswerOver K (value h) t = IsValueAnswer t
+IsAnswerOver K (reducts name h) t = IsReductsAnswer K name t
+IsAnswerOver K (tagged name h) t = IsTaggedAnswer K name t

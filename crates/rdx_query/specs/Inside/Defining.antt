@@ -1,52 +1,32 @@
--- What is answered to a form that defines a language.
-use Rattle.std.specs.Prelude.{◌≡◌, Bool, true, false, Option, Some, None, option_map, is_some, Result, Ok, Err, if◌then◌else◌}
+-- What is answered to a form that defines a language or a relation.
+use Rattle.std.specs.Prelude.{◌≡◌, [], ◌∷◌, Option, Some, None, option_map, Result, Ok, Err}
 use Rattle.rdx_sexp.specs.Sexp.{Sexp}
 use Rattle.rdx_lang.specs.Checked.{language_in}
 use Rattle.rdx_lang.specs.Edges.{IsFree, IsFirstRecursive}
 use Rattle.rdx_lang.specs.Patterns.{Language}
+use Rattle.rdx_lang.specs.Programs as model
+use Rattle.rdx_lang.specs.ProgramView.{relation_of}
 use Rattle.rdx_lang.specs.declared.checked.CheckedLang.{CheckedLang}
 use Rattle.rdx_lang.specs.declared.pattern.Ref.{Ref}
-use Rattle.rdx_grammar.specs.Refusal.{refusal_of}
+use Rattle.rdx_lang.specs.declared.program.Relation.{Relation}
+use Rattle.rdx_defs.specs.RelationForms.{relation_form}
+use Rattle.rdx_defs.specs.RelationReading.{relation_reading}
+use Rattle.rdx_defs.specs.RelationRefusal.{relation_refusal}
+use Rattle.rdx_grammar.specs.Nonterminals.{names_of}
 use Rattle.rdx_grammar.specs.Forms.{GrammarForm}
 use Rattle.rdx_grammar.specs.Languages.{language_over}
 use Rattle.rdx_grammar.specs.Parts.{text_of}
-use Rattle.rdx_grammar.specs.Refusal.{Refusal}
+use Rattle.rdx_grammar.specs.Refusal.{Refusal, refusal_of, first_refusal}
 use Rattle.rdx_grammar.specs.Refused.{recursion_at}
 use Rattle.rdx_grammar.specs.declared.shape.fault.DefFault.{DefFault}
 use Rattle.rdx_grammar.specs.declared.shape.fault.DefFault.TheVariants.{Refused, NoMemory}
-use Rattle.rdx_grammar.specs.declared.shape.fault.DefKind.{DefKind}
-use Rattle.rdx_grammar.specs.declared.shape.fault.DefKind.TheVariants.{Unbuilt, Shape, UnknownLanguage, Duplicate, BadName, BadPattern, EllipsisDepth, LeftRecursive, UnknownName, EllipsisVariable, RacketEscape}
-use Rattle.rdx_query.specs.Definitions.{language}
+use Rattle.rdx_query.specs.Definitions.{language, relation}
 use Rattle.rdx_query.specs.File.{Defines, IsRefusedForm}
-use Rattle.rdx_query.specs.Known.{Known, language_named}
-use Rattle.rdx_query.specs.LanguageForms.{language_refusal}
-use Rattle.rdx_query.specs.Inside.PartViews.{second_item}
-
--- ---- by the checks that come before those of the languages so far
-
--- a refusal of this kind comes before each look at the languages so far
-abbrev pub is_early_kind : DefKind → Bool
-is_early_kind Unbuilt = true
-is_early_kind Shape = true
-is_early_kind UnknownLanguage = false
-is_early_kind Duplicate = false
-is_early_kind BadName = false
-is_early_kind BadPattern = false
-is_early_kind EllipsisDepth = false
-is_early_kind LeftRecursive = false
-is_early_kind UnknownName = false
-is_early_kind EllipsisVariable = false
-is_early_kind RacketEscape = false
-
--- a fault that is such a refusal, or want of memory
-abbrev pub is_early_fault : DefFault → Bool
-is_early_fault (Refused r) = is_early_kind r.kind
-is_early_fault NoMemory = true
-
--- whatever the languages so far, this is the answer to the form
-abbrev pub is_settled : Result CheckedLang DefFault → Bool
-is_settled (Ok c) = false
-is_settled (Err e) = is_early_fault e
+use Rattle.rdx_query.specs.Known.{Known}
+use Rattle.rdx_query.specs.LanguageForms.{language_refusal, named_base, unknown_at, name_taken_at}
+use Rattle.rdx_query.specs.RelationForms.{bad_name_at}
+use Rattle.rdx_query.specs.Inside.Earlier.{earlier, IsFaultAt}
+use Rattle.rdx_query.specs.Inside.PartViews.{second_item, language_item}
 
 -- ---- by all checks
 
@@ -83,17 +63,36 @@ abbrev pub DefinesBy : Known → Sexp → Result CheckedLang DefFault → Type 0
 DefinesBy K d (Ok c) = Defines K d (language (language_in c))
 DefinesBy K d (Err e) = IsFormFault K d e
 
+-- the answer to a form that defines a relation
+abbrev pub RelatesBy : Known → Sexp → Result Relation DefFault → Type 0
+RelatesBy K d (Ok r) = Defines K d (relation (relation_of r))
+RelatesBy K d (Err e) = IsFormFault K d e
+
+-- ---- relations, where nothing stands behind the parts
+
+-- the refusal of a form with such parts by all checks but the first ones
+abbrev pub parts_refusal : Known → Sexp → Sexp → Option Refusal
+parts_refusal K x body =
+    earlier
+    (first_refusal (unknown_at K (language_item body) ∷ name_taken_at K x ∷ bad_name_at x ∷ []))
+    (relation_refusal (names_of (named_base K (language_item body))) body)
+
+-- the relation that it defines, if the list has its parts
+abbrev pub parts_relation : Known → Sexp → Sexp → Option model.Relation
+parts_relation K x body = option_map (relation_reading (names_of (named_base K (language_item body))) (text_of x)) (relation_form body)
+
+-- the answer to such a form
+abbrev pub RelatesOver : Known → Sexp → Sexp → Result Relation DefFault → Type 0
+RelatesOver K x body (Ok r) = (parts_refusal K x body ≡ None) × (parts_relation K x body ≡ Some (relation_of r))
+RelatesOver K x body (Err e) = IsFaultAt (parts_refusal K x body) e
+
 -- ---- the name
 
 -- where these are the parts of a form, its second item is the name
 abbrev pub IsNamed : Sexp → Option GrammarForm → Type 0
 IsNamed d g = (h : GrammarForm) → g ≡ Some h → second_item d ≡ Some h.name
 
--- the name, where a language has it
-abbrev pub taken_among : Known → Option Sexp → Option Sexp
-taken_among K None = None
-taken_among K (Some l) = if is_some (language_named K (text_of l)) then Some l else None
-
--- the name of the form, where an earlier form has it
-abbrev pub taken_name : Known → Sexp → Option Sexp
-taken_name K d = taken_among K (second_item d)
+-- S3: an earlier form has the name, where one stands
+abbrev pub taken_at_item : Known → Option Sexp → Option Refusal
+taken_at_item K None = None
+taken_at_item K (Some x) = name_taken_at K x

@@ -1,22 +1,26 @@
 -- What the kinds of the code stand for.
 use Rattle.rdx_query.specs.FormKinds as model
 use Rattle.rdx_query.specs.declared.kind.DefinitionKind.{DefinitionKind}
-use Rattle.rdx_query.specs.declared.kind.DefinitionKind.TheVariants.{Language, Extension}
+use Rattle.rdx_query.specs.declared.kind.DefinitionKind.TheVariants.{Language, Extension, Relation}
 use Rattle.rdx_query.specs.declared.kind.FormKind.{FormKind}
 use Rattle.rdx_query.specs.declared.kind.FormKind.TheVariants.{Defines, Asks}
 use Rattle.rdx_query.specs.declared.kind.QueryKind.{QueryKind}
-use Rattle.rdx_query.specs.declared.kind.QueryKind.TheVariants.{Match, Whether, Decompose}
+use Rattle.rdx_query.specs.declared.kind.QueryKind.TheVariants.{Match, Whether, Decompose, Value, Reducts, Tagged}
 
 -- what a form defines
 abbrev pub definition_kind_of : DefinitionKind → model.DefinitionKind
 definition_kind_of Language = model.language
 definition_kind_of Extension = model.extension
+definition_kind_of Relation = model.relation
 
 -- what a form asks
 abbrev pub query_kind_of : QueryKind → model.QueryKind
 query_kind_of Match = model.matches
 query_kind_of Whether = model.whether
 query_kind_of Decompose = model.splits
+query_kind_of Value = model.value
+query_kind_of Reducts = model.reducts
+query_kind_of Tagged = model.tagged
 
 -- what a form does
 abbrev pub kind_of : FormKind → model.FormKind

@@ -1,13 +1,45 @@
 -- The parts that values of the code stand for.
-use Rattle.std.specs.Prelude.{List, ◌∷◌, Option, Some, None}
+use Rattle.std.specs.Prelude.{Bool, true, false, List, [], ◌∷◌, Option, Some, None, if◌then◌else◌}
 use Rattle.rdx_grammar.specs.Parts.{parts}
+use Rattle.rdx_defs.specs.RelationForms.{may_name}
 use Rattle.rdx_sexp.specs.Sexp.{Sexp}
-use Rattle.rdx_query.specs.MatchForms as model
+use Rattle.rdx_query.specs.MatchForms as matching
+use Rattle.rdx_query.specs.RelationForms as defining
+use Rattle.rdx_query.specs.StepForms as stepping
+use Rattle.rdx_query.specs.declared.parts.DefineParts.{DefineParts}
 use Rattle.rdx_query.specs.declared.parts.QueryParts.{QueryParts}
+use Rattle.rdx_query.specs.declared.parts.StepParts.{StepParts}
 
 -- the parts of a query that parts of the code stand for
-abbrev pub parts_of : QueryParts → model.QueryParts
+abbrev pub parts_of : QueryParts → matching.QueryParts
 parts_of q = record { language = q.language.now; pattern = q.pattern.now; host = q.host.now }
+
+-- those of a form that asks for steps
+abbrev pub steps_of : StepParts → stepping.StepParts
+steps_of q = record { relation = q.relation.now; host = q.host.now }
+
+-- what the code knows of the parts of a form that defines a relation
+pub record Defining : Type 0 where
+  pub name : Sexp
+  pub body : Sexp
+  pub more : Bool
+
+-- there is something
+abbrev pub is_more : List Sexp → Bool
+is_more [] = false
+is_more (d ∷ ds) = true
+
+-- of its parts
+abbrev pub defining_by : defining.DefineParts → Defining
+defining_by q = record { name = q.name; body = q.body; more = is_more q.rest }
+
+-- of its parts, where it is told whether something stands behind
+abbrev pub defining_with : Bool → defining.DefineParts → Defining
+defining_with b q = record { name = q.name; body = q.body; more = b }
+
+-- of parts of the code
+abbrev pub defining_of : DefineParts → Defining
+defining_of q = record { name = q.name.now; body = q.body.now; more = q.has_more }
 
 -- the second of the items
 abbrev pub second_among : Option (List Sexp) → Option Sexp
@@ -17,3 +49,12 @@ second_among o = None
 -- the second item, which is the name where a form defines a language
 abbrev pub second_item : Sexp → Option Sexp
 second_item d = second_among (parts d)
+
+-- an item, where it may name a language
+abbrev pub may_name_item : Option Sexp → Option Sexp
+may_name_item None = None
+may_name_item (Some l) = if may_name l then Some l else None
+
+-- the second item, where it may name a language: the one in a list that says what a relation is
+abbrev pub language_item : Sexp → Option Sexp
+language_item d = may_name_item (second_item d)

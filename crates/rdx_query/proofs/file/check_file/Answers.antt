@@ -1,11 +1,11 @@
 use Rattle.std.proofs.Common.{map, arith}
 use Rattle.std.proofs.lemmas.Result.{err_from_is_err_and}
 use Rattle.rdx_query.specs.Views.{known_of, query_of}
-use Rattle.rdx_query.proofs.FileRead.{so_far-next, so_far-fault, so_far-end, form-size}
+use Rattle.rdx_query.proofs.FileRead.{so_far-next, so_far-fault, so_far-end, form-readable}
 use Rattle.rdx_query.proofs.file.check_file.Goals as goal
 
 pub read_form-requires : goal.read_form-requires
-read_form-requires c = form-size c.args.forms.now c.loop-form.form-index c.form-item.result c.requires c.loop-form-test.true c.form-item.is
+read_form-requires c = form-readable c.args.forms.now c.loop-form.form-index c.form-item.result c.requires c.loop-form-test.true c.form-item.is
 
 pub returns-in_err-read_form-clause-refused : goal.returns-in_err-read_form-clause-refused
 returns-in_err-read_form-clause-refused c =

@@ -1,6 +1,6 @@
 use Rattle.std.proofs.Common.{◌≡◌, drop, map}
 use Rattle.rdx_lang.specs.Checked.{language_in}
-use Rattle.rdx_query.specs.Known.{language_among}
+use Rattle.rdx_lang.specs.Programs.{language_among}
 use Rattle.rdx_query.proofs.known.place_among.Given as goal
 
 abbrev pub invariant-loop-place : goal.invariant-loop-place

@@ -2,4 +2,6 @@ use Rattle.rdx_query.proofs.OneText.{writes-one}
 use Rattle.rdx_query.proofs.laws.one_text.Goals as goal
 
 pub returns : goal.returns
-returns c ds t u m n a b = let s = writes-one c.one_listing.ensures.matches c.one_listing.ensures.splits ds t u m n a b in (s.text, s.met)
+returns c ds t u m n a b =
+    let s = writes-one c.one_listing.ensures.matches c.one_listing.ensures.splits c.one_term.ensures.one c.one_stepping.ensures.one ds t u m n a b in
+    (s.text, s.met)

@@ -1,4 +1,4 @@
-use Rattle.rdx_query.proofs.Examples.{answers_in_order, whole_answer, inherited, one_split, own_hole, one_hole, no_own_hole, nested_sequences, own_hole_in_sequence, length_in_decimal, first_refused_form, earlier_languages_only, taken_name, host_expression, filled_term, few_items, left_recursion}
+use Rattle.rdx_query.proofs.Examples.{answers_in_order, whole_answer, inherited, one_split, filled_term, fault_answered, one_reduct_two_steps, own_hole, one_hole, no_own_hole, nested_sequences, own_hole_in_sequence, length_in_decimal, first_refused_form, earlier_languages_only, taken_name, host_expression, few_items, left_recursion}
 use Rattle.rdx_query.proofs.laws.worked_examples.Goals as goal
 
 pub returns-clause-answers_in_order : goal.returns-clause-answers_in_order
@@ -51,3 +51,9 @@ returns-clause-few_items c = few_items
 
 pub returns-clause-left_recursion : goal.returns-clause-left_recursion
 returns-clause-left_recursion c = left_recursion
+
+pub returns-clause-fault_answered : goal.returns-clause-fault_answered
+returns-clause-fault_answered c = fault_answered
+
+pub returns-clause-one_reduct_two_steps : goal.returns-clause-one_reduct_two_steps
+returns-clause-one_reduct_two_steps c = one_reduct_two_steps

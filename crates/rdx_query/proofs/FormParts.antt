@@ -1,0 +1,145 @@
+-- The parts of a form can be read where the form can, and are built where it is.
+use Rattle.std.proofs.Common.{◌≡◌, ◌<◌, Bool, true, false, List, [], ◌∷◌, Option, Some, None, refl, subst, arith}
+use Rattle.std.specs.Prelude.{◌||◌, codes, if◌then◌else◌}
+use Rattle.rdx_sexp.specs.Sexp.{Sexp, Sexps, leaf, list, nil, cons}
+use Rattle.rdx_sexp.specs.Size.{sexps_depth, AreSpelled}
+use Rattle.rdx_grammar.specs.Parts.{listed, parts, is_symbol, is_word}
+use Rattle.rdx_grammar.specs.Readable.{IsReadable}
+use Rattle.rdx_grammar.specs.Refusal.{unnamed}
+use Rattle.rdx_grammar.specs.Unbuilt.{has_word_to_come, have_word_to_come, unbuilt_at}
+use Rattle.rdx_grammar.specs.declared.shape.fault.DefKind.TheVariants.{Unbuilt}
+use Rattle.rdx_query.specs.HostForms.{template_among, template_in}
+use Rattle.rdx_query.specs.MatchForms.{QueryParts, query_among, query_parts}
+use Rattle.rdx_query.specs.RelationForms.{DefineParts, begins_relation, define_among, define_parts}
+use Rattle.rdx_query.specs.StepForms.{StepParts, steps_among, step_parts}
+
+-- ---- what can be read
+
+-- all of these can be read
+abbrev pub AllReadable : List Sexp → Type 0
+AllReadable [] = Unit {0}
+AllReadable (d ∷ ds) = IsReadable d × AllReadable ds
+
+-- data that nest less deep can
+data-readable : (ds : Sexps) → sexps_depth ds < 4294967296 → AreSpelled ds → AllReadable (listed ds)
+data-readable nil h s = tt
+data-readable (cons d ds) h s = (record { nested = omega (arith, h); spelled = s.0 }, data-readable ds (omega (arith, h)) s.1)
+
+-- the parts of what can be read can
+pub parts-readable : (d : Sexp) (ds : List Sexp) → parts d ≡ Some ds → IsReadable d → AllReadable ds
+parts-readable (leaf a s) ds e z = absurd cc
+parts-readable (list es s) ds e z = let f : listed es ≡ ds = cc in subst AllReadable f (data-readable es (omega (arith, z.nested)) z.spelled)
+
+-- ---- what is built
+
+-- in all of these stands no word to come
+abbrev pub AllBuilt : List Sexp → Type 0
+AllBuilt [] = Unit {0}
+AllBuilt (d ∷ ds) = (has_word_to_come d ≡ false) × AllBuilt ds
+
+-- both are false
+neither : (a b : Bool) → (a || b) ≡ false → (a ≡ false) × (b ≡ false)
+neither true b e = absurd cc
+neither false b e = (refl, e)
+
+-- data in which none stands
+data-built : (ds : Sexps) → have_word_to_come ds ≡ false → AllBuilt (listed ds)
+data-built nil e = tt
+data-built (cons d ds) e = let b = neither (has_word_to_come d) (have_word_to_come ds) e in (b.0, data-built ds b.1)
+
+-- none stands in the parts of what is built
+pub parts-built : (d : Sexp) (ds : List Sexp) → parts d ≡ Some ds → has_word_to_come d ≡ false → AllBuilt ds
+parts-built (leaf a s) ds e b = absurd cc
+parts-built (list es s) ds e b = let f : listed es ≡ ds = cc in subst AllBuilt f (data-built es b)
+
+-- what is built is not refused as unbuilt
+pub unbuilt_at-built : (d : Sexp) → has_word_to_come d ≡ false → unbuilt_at d ≡ None
+unbuilt_at-built d e = λ i. if e i then Some (unnamed Unbuilt d) else None
+
+-- ---- the parts of forms are their items
+
+-- the datum, where a test lets it pass
+passed : (b : Bool) (t u : Sexp) → (if b then Some t else None) ≡ Some u → t ≡ u
+passed true t u e = cc
+passed false t u e = absurd cc
+
+-- the two items of a host expression
+pub record HostItems (o : Option (List Sexp)) (t : Sexp) : Type 0 where
+  pub head : Sexp
+  pub are : o ≡ Some (head ∷ t ∷ [])
+
+host-items : (o : Option (List Sexp)) (t : Sexp) → template_among o ≡ Some t → HostItems o t
+host-items None t e = absurd cc
+host-items (Some []) t e = absurd cc
+host-items (Some (h ∷ [])) t e = absurd cc
+host-items (Some (h ∷ u ∷ [])) t e = subst (HostItems (Some (h ∷ u ∷ []))) (passed (is_word (codes "term") h) u t e) (record { head = h; are = refl })
+host-items (Some (h ∷ u ∷ x ∷ xs)) t e = absurd cc
+
+-- its template can be read
+pub template-readable : (d t : Sexp) → template_in d ≡ Some t → IsReadable d → IsReadable t
+template-readable d t e z = let h = host-items (parts d) t e in (parts-readable d (h.head ∷ t ∷ []) h.are z).1.0
+
+-- and is built
+pub template-built : (d t : Sexp) → template_in d ≡ Some t → has_word_to_come d ≡ false → has_word_to_come t ≡ false
+template-built d t e b = let h = host-items (parts d) t e in (parts-built d (h.head ∷ t ∷ []) h.are b).1.0
+
+-- the four items of a query
+pub record QueryItems (o : Option (List Sexp)) (q : QueryParts) : Type 0 where
+  pub head : Sexp
+  pub are : o ≡ Some (head ∷ q.language ∷ q.pattern ∷ q.host ∷ [])
+
+items_of-query : (o : Option (List Sexp)) (q : QueryParts) → query_among o ≡ Some q → QueryItems o q
+items_of-query None q e = absurd cc
+items_of-query (Some []) q e = absurd cc
+items_of-query (Some (h ∷ [])) q e = absurd cc
+items_of-query (Some (h ∷ l ∷ [])) q e = absurd cc
+items_of-query (Some (h ∷ l ∷ p ∷ [])) q e = absurd cc
+items_of-query (Some (h ∷ l ∷ p ∷ t ∷ [])) q e =
+    let r : QueryParts = record { language = l; pattern = p; host = t } in
+    let f : r ≡ q = cc in
+    subst (QueryItems (Some (h ∷ l ∷ p ∷ t ∷ []))) f (record { head = h; are = refl })
+items_of-query (Some (h ∷ l ∷ p ∷ t ∷ x ∷ xs)) q e = absurd cc
+
+pub query-items : (d : Sexp) (q : QueryParts) → query_parts d ≡ Some q → QueryItems (parts d) q
+query-items d q e = items_of-query (parts d) q e
+
+-- the three items of a form that asks for steps
+pub record StepItems (o : Option (List Sexp)) (q : StepParts) : Type 0 where
+  pub head : Sexp
+  pub are : o ≡ Some (head ∷ q.relation ∷ q.host ∷ [])
+
+items_of-steps : (o : Option (List Sexp)) (q : StepParts) → steps_among o ≡ Some q → StepItems o q
+items_of-steps None q e = absurd cc
+items_of-steps (Some []) q e = absurd cc
+items_of-steps (Some (h ∷ [])) q e = absurd cc
+items_of-steps (Some (h ∷ l ∷ [])) q e = absurd cc
+items_of-steps (Some (h ∷ l ∷ t ∷ [])) q e =
+    let r : StepParts = record { relation = l; host = t } in
+    let f : r ≡ q = cc in
+    subst (StepItems (Some (h ∷ l ∷ t ∷ []))) f (record { head = h; are = refl })
+items_of-steps (Some (h ∷ l ∷ t ∷ x ∷ xs)) q e = absurd cc
+
+pub step-items : (d : Sexp) (q : StepParts) → step_parts d ≡ Some q → StepItems (parts d) q
+step-items d q e = items_of-steps (parts d) q e
+
+-- the items of a form that defines a relation
+pub record DefineItems (o : Option (List Sexp)) (q : DefineParts) : Type 0 where
+  pub head : Sexp
+  pub are : o ≡ Some (head ∷ q.name ∷ q.body ∷ q.rest)
+
+by_tests : (b c : Bool) (o : Option (List Sexp)) (p q : DefineParts) → DefineItems o p → (if b then (if c then Some p else None) else None) ≡ Some q → DefineItems o q
+by_tests true true o p q k e = let f : p ≡ q = cc in subst (DefineItems o) f k
+by_tests true false o p q k e = absurd cc
+by_tests false c o p q k e = absurd cc
+
+items_of-define : (o : Option (List Sexp)) (q : DefineParts) → define_among o ≡ Some q → DefineItems o q
+items_of-define None q e = absurd cc
+items_of-define (Some []) q e = absurd cc
+items_of-define (Some (h ∷ [])) q e = absurd cc
+items_of-define (Some (h ∷ x ∷ [])) q e = absurd cc
+items_of-define (Some (h ∷ x ∷ body ∷ ds)) q e =
+    by_tests (is_symbol x) (begins_relation (parts body)) (Some (h ∷ x ∷ body ∷ ds)) (record { name = x; body = body; rest = ds }) q
+    (record { head = h; are = refl }) e
+
+pub define-items : (d : Sexp) (q : DefineParts) → define_parts d ≡ Some q → DefineItems (parts d) q
+define-items d q e = items_of-define (parts d) q e

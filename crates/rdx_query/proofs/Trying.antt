@@ -1,0 +1,48 @@
+-- Answers that are tried.
+use Rattle.std.proofs.Common.{◌≡◌, ℕ, Bool, false, List, refl, sym, subst}
+use Rattle.std.specs.Prelude.{Result, Ok, Err, IsErrAnd}
+use Rattle.rdx_term.specs.Tree.{Tree}
+use Rattle.rdx_eval.specs.Answers.{Answer, value, fault, Fault}
+use Rattle.rdx_eval.specs.Views.{Says}
+use Rattle.rdx_eval.specs.declared.fault.EvalFault.{EvalFault}
+use Rattle.rdx_eval.specs.declared.fault.EvalFault.TheVariants.{Named, NoMemory}
+use Rattle.rdx_query.specs.AnswerText.{fault_line}
+use Rattle.rdx_query.specs.Answering.{IsAnswer, HostValue, Over, over_value}
+use Rattle.rdx_query.specs.Inside.Appending.{Tries, host_in, IsAnswerOver}
+use Rattle.rdx_query.specs.Known.{Known}
+use Rattle.rdx_query.specs.Queries.{Query, matches, whether, splits, value as itself, reducts, tagged}
+
+-- an error, where nothing was appended
+tried_error : {A B : Type 0} (C : Type 0) (view : A → B) (R : Answer B → Type 0) (W : List ℕ → Bool → Type 0) (out : List ℕ) (e : EvalFault)
+    → ((f : Fault) → R (fault f) → W (fault_line f) false) → Says view R (Err e) → Tries {A = C} W out out (Err e)
+tried_error C view R W out (Named f) k h = (refl, k _ h)
+tried_error C view R W out NoMemory k h = tt
+
+-- the same by `?`
+pub error_tried : {A B C : Type 0} (view : A → B) (R : Answer B → Type 0) (W : List ℕ → Bool → Type 0) (out : List ℕ)
+    (r : Result C EvalFault) (e : EvalFault) → IsErrAnd r (λ d. d ≡ e) → ((f : Fault) → R (fault f) → W (fault_line f) false)
+    → Says view R (Err e) → Tries W out out r
+error_tried view R W out (Ok x) e d k h = absurd d
+error_tried {C} view R W out (Err f) e d k h = subst (λ (q : EvalFault). Tries {A = C} W out out (Err q)) (sym d) (tried_error C view R W out e k h)
+
+-- what W has, V has
+tried_as : {A : Type 0} (V W : List ℕ → Bool → Type 0) (before after : List ℕ) (r : Result A EvalFault)
+    → ((text : List ℕ) (met : Bool) → W text met → V text met) → Tries W before after r → Tries V before after r
+tried_as V W before after (Ok x) k a = record { text = a.text; answer = k a.text _ a.answer; gained = a.gained }
+tried_as V W before after (Err (Named f)) k a = (a.0, k _ _ a.1)
+tried_as V W before after (Err NoMemory) k a = tt
+
+-- the answer over what the host expression makes is the answer to the query
+pub answer_over : (K : Known) (q : Query) (text : List ℕ) (met : Bool) → Over K (host_in q) (IsAnswerOver K q) text met → IsAnswer K q text met
+answer_over K (matches name p h) text met a = a
+answer_over K (whether name p h) text met a = a
+answer_over K (splits name p h) text met a = a
+answer_over K (itself h) text met a = a
+answer_over K (reducts name h) text met a = a
+answer_over K (tagged name h) text met a = a
+
+-- the host expression makes a term
+pub tried_over : {A : Type 0} (K : Known) (q : Query) (t : Tree) (before after : List ℕ) (r : Result A EvalFault)
+    → HostValue K (host_in q) (value t) → Tries (IsAnswerOver K q t) before after r → Tries (IsAnswer K q) before after r
+tried_over K q t before after r h a =
+    tried_as (IsAnswer K q) (IsAnswerOver K q t) before after r (λ text met b. answer_over K q text met (over_value t h b)) a

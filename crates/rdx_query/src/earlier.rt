@@ -1,0 +1,61 @@
+// Which of two refusals is reported: the one by the check with the lesser number.
+ghost use Rattle.std.specs.Prelude.{◌≡◌};
+ghost use Rattle.rdx_grammar.specs.Refusal.{refusal_of};
+ghost use Rattle.rdx_query.specs.Inside.Earlier as model;
+ghost use Rattle.rdx_query.specs.Inside.Earlier.{IsFirstFault, IsUnless};
+
+use rdx_grammar::{DefFault, DefKind, DefRefusal};
+
+// The number of a check.
+fn number(kind: DefKind) -> u32
+    ensures { result ≡ model.number kind }
+{
+    match kind {
+        DefKind::Unbuilt => 0,
+        DefKind::Shape => 1,
+        DefKind::UnknownLanguage => 2,
+        DefKind::Duplicate => 3,
+        DefKind::BadName => 4,
+        DefKind::BadPattern => 5,
+        DefKind::EllipsisDepth => 6,
+        DefKind::LeftRecursive => 7,
+        DefKind::UnknownName => 8,
+        DefKind::EllipsisVariable => 9,
+        DefKind::RacketEscape => 10,
+    }
+}
+
+// Of two refusals the one by the check with the lesser number; the first, where both are by one.
+fn earlier(one: DefRefusal, other: DefRefusal) -> DefRefusal
+    ensures { refusal_of result ≡ model.earlier_of (refusal_of one) (refusal_of other) }
+{
+    if number(other.kind) < number(one.kind) {
+        other
+    } else {
+        one
+    }
+}
+
+/// The fault of two, the first of which is a refusal.
+pub(crate) fn first_fault<T: Drop>(one: DefRefusal, other: Result<T, DefFault>) -> DefFault
+    ensures { IsFirstFault one other result }
+{
+    match other {
+        Ok(_) => DefFault::Refused(one),
+        Err(DefFault::Refused(refusal)) => DefFault::Refused(earlier(one, refusal)),
+        Err(DefFault::NoMemory) => DefFault::NoMemory,
+    }
+}
+
+/// What was read, where there is no refusal before; else the fault that is reported.
+pub(crate) fn unless<T: Drop>(
+    own: Option<DefRefusal>,
+    read: Result<T, DefFault>,
+) -> Result<T, DefFault>
+    ensures { IsUnless own read result }
+{
+    match own {
+        Some(refusal) => Err(first_fault(refusal, read)),
+        None => read,
+    }
+}

@@ -1,0 +1,168 @@
+// Forms that define a relation.
+ghost use Rattle.std.specs.Prelude.{◌≡◌, [], ◌∷◌, Some, true, false, IfOk, option_map};
+ghost use Rattle.rdx_defs.specs.Answers.{ReadsRelation};
+ghost use Rattle.rdx_grammar.specs.Names as names;
+ghost use Rattle.rdx_grammar.specs.Nonterminals.{names_of};
+ghost use Rattle.rdx_grammar.specs.Parts.{is_symbol, text_of};
+ghost use Rattle.rdx_grammar.specs.Readable.{IsReadable};
+ghost use Rattle.rdx_grammar.specs.Refusal.{first_refusal, refusal_of};
+ghost use Rattle.rdx_sexp.specs.Size.{IsSpelledSexp};
+ghost use Rattle.rdx_query.specs.FormKinds as forms;
+ghost use Rattle.rdx_query.specs.Inside.Defining.{RelatesBy, RelatesOver};
+ghost use Rattle.rdx_query.specs.LanguageForms.{name_taken_at, named_base, unknown_at};
+ghost use Rattle.rdx_query.specs.RelationForms.{bad_name_at};
+ghost use Rattle.rdx_query.specs.Views.{known_of};
+
+use crate::earlier::unless;
+use crate::known::{is_taken, place_named};
+use crate::language_forms::{empty_language, some_name};
+use crate::parts::{DefineParts, define_parts, language_item};
+use rdx_defs::read_relation;
+use rdx_grammar::names::begins_with_dots;
+use rdx_grammar::refusal::{named, unnamed};
+use rdx_grammar::shape::text;
+use rdx_grammar::unbuilt::has_word_to_come;
+use rdx_grammar::{DefFault, DefKind, DefRefusal};
+use rdx_lang::{Program, Relation};
+use rdx_sexp::Datum;
+use rdx_term::{Name, NoMemory};
+use std::alloc::Global;
+use std::rc::RcStr;
+
+// Whether a relation may not have this name.
+fn is_bad_name(name: &str) -> bool
+    ensures { result ≡ names.is_bad_name name.now }
+{
+    name == "hole" || name == "_" || begins_with_dots(name)
+}
+
+// The name of a symbol, or some name where no relation may have it.
+fn name_of(alloc: Global, d: &Datum) -> Result<Name, NoMemory>
+    requires spelled { IsSpelledSexp d.now }
+    requires symbol { is_symbol d.now ≡ true }
+    ensures { IfOk result (λ name. names.is_bad_name (text_of d.now) ≡ false → name ≡ text_of d.now) }
+{
+    match Name::new(RcStr::from_str(alloc, text(d))?) {
+        Some(name) => Ok(name),
+        None => some_name(alloc),
+    }
+}
+
+// The refusal of a name that is that of no language, S2.
+fn refuse_language(
+    alloc: Global,
+    program: &Program,
+    name: Option<&Datum>,
+) -> Result<Option<DefRefusal>, NoMemory>
+    ensures { IfOk result (λ r. option_map refusal_of r
+        ≡ unknown_at (known_of program.now) (option_map (λ d. d.now) name.entry)) }
+{
+    let Some(name) = name else {
+        return Ok(None);
+    };
+    if place_named(program, text(name)).is_some() {
+        return Ok(None);
+    }
+    Ok(Some(named(alloc, DefKind::UnknownLanguage, name)?))
+}
+
+// The refusal of the name of a relation: an earlier form has it, S3, or it may not be one, S4.
+fn refuse_name(
+    alloc: Global,
+    program: &Program,
+    name: &Datum,
+) -> Result<Option<DefRefusal>, NoMemory>
+    ensures { IfOk result (λ r. option_map refusal_of r ≡ first_refusal
+        (name_taken_at (known_of program.now) name.now ∷ bad_name_at name.now ∷ [])) }
+{
+    if is_taken(program, text(name)) {
+        return Ok(Some(named(alloc, DefKind::Duplicate, name)?));
+    }
+    if is_bad_name(text(name)) {
+        return Ok(Some(named(alloc, DefKind::BadName, name)?));
+    }
+    Ok(None)
+}
+
+// The refusal of the names in a form, of the language's first.
+fn refuse_names(
+    alloc: Global,
+    program: &Program,
+    language: Option<&Datum>,
+    name: &Datum,
+) -> Result<Option<DefRefusal>, NoMemory>
+    ensures { IfOk result (λ r. option_map refusal_of r ≡ first_refusal
+        (unknown_at (known_of program.now) (option_map (λ d. d.now) language.entry)
+        ∷ name_taken_at (known_of program.now) name.now ∷ bad_name_at name.now ∷ [])) }
+{
+    match refuse_language(alloc, program, language)? {
+        Some(refusal) => Ok(Some(refusal)),
+        None => refuse_name(alloc, program, name),
+    }
+}
+
+// The relation of a list over the language of this name; over an empty one, where that is unknown.
+fn read_over(
+    alloc: Global,
+    program: &mut Program,
+    language: Option<&Datum>,
+    name: &Name,
+    body: &Datum,
+) -> Result<Relation, DefFault>
+    requires { IsReadable body.now }
+    ensures reads { ReadsRelation
+        (names_of (named_base (known_of program.old) (option_map (λ d. d.now) language.entry)))
+        name.now body.now result }
+    ensures same { known_of program.new ≡ known_of program.old }
+{
+    let place = match language {
+        Some(language) => place_named(program, text(language)),
+        None => None,
+    };
+    match place {
+        Some(place) => read_relation(alloc, &mut program.languages[place], name, body),
+        None => read_relation(alloc, &mut empty_language(alloc)?, name, body),
+    }
+}
+
+// The relation that a form with these parts defines, where nothing stands behind them.
+fn define_parted(
+    alloc: Global,
+    program: &mut Program,
+    parts: DefineParts,
+) -> Result<Relation, DefFault>
+    requires spelled { IsSpelledSexp parts.name.now }
+    requires symbol { is_symbol parts.name.now ≡ true }
+    requires body { IsReadable parts.body.now }
+    ensures relates { RelatesOver (known_of program.old) parts.entry.name.now parts.entry.body.now result }
+    ensures same { known_of program.new ≡ known_of program.old }
+{
+    let language = language_item(parts.body);
+    let refusal = refuse_names(alloc, program, language, parts.name)?;
+    let name = name_of(alloc, parts.name)?;
+    let read = read_over(alloc, program, language, &name, parts.body);
+    unless(refusal, read)
+}
+
+/// The relation of a `define` form, behind forms that define this program.
+pub(crate) fn define_relation(
+    alloc: Global,
+    program: &mut Program,
+    form: &Datum,
+) -> Result<Relation, DefFault>
+    requires readable { IsReadable form.now }
+    requires relation { forms.form_kind form.now ≡ Some (forms.defines forms.relation) }
+    ensures relates { RelatesBy (known_of program.old) form.now result }
+    ensures same { known_of program.new ≡ known_of program.old }
+{
+    if has_word_to_come(form) {
+        return Err(DefFault::Refused(unnamed(DefKind::Unbuilt, form)));
+    }
+    let Some(parts) = define_parts(form) else {
+        return Err(DefFault::Refused(unnamed(DefKind::RacketEscape, form)));
+    };
+    if parts.has_more {
+        return Err(DefFault::Refused(unnamed(DefKind::Shape, form)));
+    }
+    define_parted(alloc, program, parts)
+}

@@ -1,0 +1,91 @@
+// The answers to queries that ask for the steps of a relation.
+ghost use Rattle.std.specs.Prelude.{◌≡◌, Some, IfOk, IsSome, map};
+ghost use Rattle.rdx_eval.specs.Views.{program_in, terms_in};
+ghost use Rattle.rdx_lang.specs.ProgramView.{relation_of};
+ghost use Rattle.rdx_lang.specs.Programs.{relation_named as named};
+ghost use Rattle.rdx_query.specs.Inside.Appending.{Tries};
+ghost use Rattle.rdx_query.specs.Queries.{KnowsRelation};
+ghost use Rattle.rdx_query.specs.StepAnswers.{AreReducts, IsReductsAnswer, IsTaggedAnswer};
+ghost use Rattle.rdx_query.specs.Views.{known_of};
+ghost use Rattle.rdx_reduce.specs.StepView.{steps_in};
+ghost use Rattle.rdx_term.specs.View.{tree_of};
+
+use crate::known::relation_named;
+use crate::texts::{write_reducts, write_steps};
+use rdx_eval::{Engine, EvalFault};
+use rdx_lang::{Program, Relation};
+use rdx_reduce::{Step, steps};
+use rdx_table::Table;
+use rdx_term::{Name, NoMemory, Term};
+use std::alloc::Global;
+use std::collections::BTreeSet;
+
+// The relation of this name.
+fn relation<'a>(program: &'a Program, name: &Name) -> &'a Relation
+    requires { IsSome (named (known_of program.now) name.now) }
+    ensures { named (known_of program.now) name.now ≡ Some (relation_of result.now) }
+{
+    match relation_named(program, name.text()) {
+        Some(relation) => relation,
+        None => unreachable!(),
+    }
+}
+
+// The members of a set, ascending.
+fn terms_of(alloc: Global, set: BTreeSet<Term>) -> Result<Vec<Term>, NoMemory>
+    ensures { IfOk result (λ keys. keys.items ≡ set.keys) }
+{
+    let keys = set.into_iter().collect(alloc)?;
+    Ok(keys)
+}
+
+// The terms to which the steps lead, ascending and each once.
+fn reducts_of(alloc: Global, found: Vec<Step>) -> Result<Vec<Term>, NoMemory>
+    ensures { IfOk result (λ terms. AreReducts (steps_in found) (terms_in terms)) }
+{
+    let mut rest = found;
+    let mut set = BTreeSet::new(alloc);
+    while let Some(step) = rest.pop() {
+        set.insert(step.reduct)?;
+    }
+    terms_of(alloc, set)
+}
+
+/// Appends the terms to which the relation of this name leads from this term, or gives the fault on
+/// the way.
+pub(crate) fn answer_reducts(
+    alloc: Global,
+    engine: &mut Engine<Table>,
+    name: &Name,
+    t: &Term,
+    out: &mut Vec<u8>,
+) -> Result<(), EvalFault>
+    requires { KnowsRelation (known_of (program_in engine.old).now) name.now }
+    ensures answer { Tries (IsReductsAnswer (known_of (program_in engine.old).now) name.now
+        (tree_of t.now)) out.old.items out.new.items result }
+    ensures same { program_in engine.new ≡ program_in engine.old }
+{
+    let relation = relation(engine.program(), name);
+    let found = steps(alloc, engine, relation, t)?;
+    let reducts = reducts_of(alloc, found)?;
+    Ok(write_reducts(&reducts, out)?)
+}
+
+/// Appends the steps of the relation of this name from this term, each with the name of its rule, or
+/// gives the fault on the way.
+pub(crate) fn answer_steps(
+    alloc: Global,
+    engine: &mut Engine<Table>,
+    name: &Name,
+    t: &Term,
+    out: &mut Vec<u8>,
+) -> Result<(), EvalFault>
+    requires { KnowsRelation (known_of (program_in engine.old).now) name.now }
+    ensures answer { Tries (IsTaggedAnswer (known_of (program_in engine.old).now) name.now
+        (tree_of t.now)) out.old.items out.new.items result }
+    ensures same { program_in engine.new ≡ program_in engine.old }
+{
+    let relation = relation(engine.program(), name);
+    let found = steps(alloc, engine, relation, t)?;
+    Ok(write_steps(&relation.rules, &found, out)?)
+}
