@@ -3,10 +3,12 @@ use Rattle.std.specs.Prelude.{List, map, option_map}
 use Rattle.std.specs.Rc.{rc_str_bytes}
 use Rattle.rdx_lang.specs.Checked.{language_in, pattern_in}
 use Rattle.rdx_lang.specs.Programs as model
-use Rattle.rdx_lang.specs.Programs.{such_as}
-use Rattle.rdx_lang.specs.TemplateView.{template_of}
+use Rattle.rdx_lang.specs.Programs.{such_as, provided}
+use Rattle.rdx_lang.specs.TemplateView.{template_of, host_of}
+use Rattle.rdx_lang.specs.declared.program.Clause.{Clause}
 use Rattle.rdx_lang.specs.declared.program.Extra.{Extra}
-use Rattle.rdx_lang.specs.declared.program.Extra.TheVariants.{Where}
+use Rattle.rdx_lang.specs.declared.program.Extra.TheVariants.{Where, Side}
+use Rattle.rdx_lang.specs.declared.program.Metafunction.{Metafunction}
 use Rattle.rdx_lang.specs.declared.program.Program.{Program}
 use Rattle.rdx_lang.specs.declared.program.Relation.{Relation}
 use Rattle.rdx_lang.specs.declared.program.Rule.{Rule}
@@ -14,10 +16,28 @@ use Rattle.rdx_lang.specs.declared.program.Rule.{Rule}
 -- the extra that an extra of the code stands for
 abbrev pub extra_of : Extra → model.Extra
 extra_of (Where p t) = such_as (pattern_in p) (template_of t)
+extra_of (Side h) = provided (host_of h)
 
 -- extras in their order
 abbrev pub extras_of : List Extra → List model.Extra
 extras_of es = map extra_of es
+
+-- the clause that a clause of the code stands for
+abbrev pub clause_of : Clause → model.Clause
+clause_of c = record { arguments = pattern_in c.args; extras = extras_of c.extras.items; result = template_of c.result }
+
+-- clauses in their order
+abbrev pub clauses_of : List Clause → List model.Clause
+clauses_of cs = map clause_of cs
+
+-- the metafunction that a metafunction of the code stands for
+abbrev pub metafunction_of : Metafunction → model.Metafunction
+metafunction_of f = record {
+  name = f.name;
+  language = f.language;
+  contract = option_map (λ c. (pattern_in c.0, pattern_in c.1)) f.contract;
+  clauses = clauses_of f.clauses.items;
+}
 
 -- the rule that a rule of the code stands for
 abbrev pub rule_of : Rule → model.Rule
@@ -39,4 +59,8 @@ relation_of r = record {
 
 -- the program that a program of the code stands for
 abbrev pub program_of : Program → model.Program
-program_of p = record { languages = map language_in p.languages.items; relations = map relation_of p.relations.items }
+program_of p = record {
+  languages = map language_in p.languages.items;
+  metafunctions = map metafunction_of p.metafunctions.items;
+  relations = map relation_of p.relations.items;
+}

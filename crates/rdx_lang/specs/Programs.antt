@@ -1,11 +1,28 @@
--- What a file defines, as plain data: languages, and reduction relations (after the Redex reference manual, "Reduction Relations").
+-- What a file defines, as plain data: languages, metafunctions, and reduction relations (after the Redex reference manual, "Other Relations"
+-- and "Reduction Relations").
 use Rattle.std.specs.Prelude.{ℕ, List, [], ◌∷◌, Option, Some, None, bytes_eq, if◌then◌else◌}
 use Rattle.rdx_lang.specs.Patterns.{Pattern, Language}
-use Rattle.rdx_lang.specs.Templates.{Template}
+use Rattle.rdx_lang.specs.Templates.{Template, Host}
 
--- what a binding has to meet: what the template makes matches the pattern, whose names are bound from there on
+-- what a binding has to meet: what the template makes matches the pattern, whose names are bound from there on; or the host expression does
+-- not make false
 pub data Extra : Type 0 where
   such_as : Pattern → Template → Extra
+  provided : Host → Extra
+
+-- a clause of a metafunction: which lists of arguments it takes, what each binding has to meet, one after the other, and what makes the value
+pub record Clause : Type 0 where
+  pub arguments : Pattern
+  pub extras : List Extra
+  pub result : Template
+
+-- a metafunction: its name, that of its language, its contract, where it has one, of the list of arguments and of the value, and its clauses
+-- in their order
+pub record Metafunction : Type 0 where
+  pub name : List ℕ
+  pub language : List ℕ
+  pub contract : Option (Pattern × Pattern)
+  pub clauses : List Clause
 
 -- a rule: its name, which terms it takes a step from, what each binding has to meet, one after the other, and what the step leads to
 pub record Rule : Type 0 where
@@ -24,6 +41,7 @@ pub record Relation : Type 0 where
 -- what a file defines, in its order
 pub record Program : Type 0 where
   pub languages : List Language
+  pub metafunctions : List Metafunction
   pub relations : List Relation
 
 -- the first of these languages that has this name
@@ -34,6 +52,15 @@ language_among (L ∷ Ls) x = if bytes_eq L.name x then Some L else language_amo
 -- the language of a program that has this name
 abbrev pub language_named : Program → List ℕ → Option Language
 language_named P x = language_among P.languages x
+
+-- the first of these metafunctions that has this name
+abbrev pub metafunction_among : List Metafunction → List ℕ → Option Metafunction
+metafunction_among [] x = None
+metafunction_among (M ∷ Ms) x = if bytes_eq M.name x then Some M else metafunction_among Ms x
+
+-- the metafunction of a program that has this name
+abbrev pub metafunction_named : Program → List ℕ → Option Metafunction
+metafunction_named P x = metafunction_among P.metafunctions x
 
 -- the first of these relations that has this name
 abbrev pub relation_among : List Relation → List ℕ → Option Relation

@@ -1,10 +1,11 @@
--- The order of binding in a rule: its pattern first, and then its extras, one after the other; each template sees the names of what stands
--- before it, and the result sees all of them.
+-- The order of binding in a clause or a rule: its pattern first, and then its extras, one after the other; each template sees the names of
+-- what stands before it, and the result sees all of them.
 use Rattle.std.specs.Prelude.{ℕ, Bool, not, ◌&&◌, List, [], ◌∷◌, ◌++◌, bytes_eq, nat_eq}
 use Rattle.std.specs.List.{list_any}
 use Rattle.rdx_lang.specs.Depths.{Use, uses}
 use Rattle.rdx_lang.specs.Fitting.{Bound}
-use Rattle.rdx_lang.specs.Programs.{Extra, such_as, Rule}
+use Rattle.rdx_lang.specs.Patterns.{Pattern}
+use Rattle.rdx_lang.specs.Programs.{Extra, such_as, provided}
 
 -- the use binds x, at depth d; a length name is bound, but at no depth
 abbrev pub binds : Use → List ℕ → ℕ → Bool
@@ -17,12 +18,13 @@ bound_by us x d = list_any (λ u. binds u x d) us
 -- the uses in an extra
 abbrev pub extra_uses : Extra → List Use
 extra_uses (such_as p t) = uses 0 p
+extra_uses (provided h) = []
 
 -- those in extras, in their order
 abbrev pub extras_uses : List Extra → List Use
 extras_uses [] = []
 extras_uses (e ∷ es) = extra_uses e ++ extras_uses es
 
--- those in a rule, in the order of binding
-abbrev pub rule_uses : Rule → List Use
-rule_uses r = uses 0 r.pattern ++ extras_uses r.extras
+-- those in a pattern and its extras, in the order of binding
+abbrev pub case_uses : Pattern → List Extra → List Use
+case_uses p es = uses 0 p ++ extras_uses es

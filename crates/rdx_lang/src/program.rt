@@ -1,6 +1,6 @@
 // Programs, as the code has them.
 
-use crate::{CheckedLang, CheckedPat, Template};
+use crate::{CheckedLang, CheckedPat, HostExpr, Template};
 use rdx_term::Name;
 use std::rc::RcStr;
 
@@ -9,6 +9,32 @@ use std::rc::RcStr;
 pub enum Extra {
     /// `where`: what the template makes matches the pattern, whose names are bound from there on.
     Where(CheckedPat, Template),
+    /// `side-condition`: the host expression does not make false.
+    Side(HostExpr),
+}
+
+/// A clause of a metafunction.
+#[derive(Drop)]
+pub struct Clause {
+    /// Which lists of arguments it takes.
+    pub args: CheckedPat,
+    /// What makes the value.
+    pub result: Template,
+    /// What each binding has to meet, one after the other.
+    pub extras: Vec<Extra>,
+}
+
+/// A metafunction.
+#[derive(Drop)]
+pub struct Metafunction {
+    /// What the metafunction goes by.
+    pub name: Name,
+    /// The language of its patterns.
+    pub language: Name,
+    /// Its contract, where it has one: of the list of arguments, and of the value.
+    pub contract: Option<(CheckedPat, CheckedPat)>,
+    /// Its clauses, in their order.
+    pub clauses: Vec<Clause>,
 }
 
 /// A rule of a relation.
@@ -42,6 +68,8 @@ pub struct Relation {
 pub struct Program {
     /// The languages, in the file's order.
     pub languages: Vec<CheckedLang>,
+    /// The metafunctions, in the file's order.
+    pub metafunctions: Vec<Metafunction>,
     /// The relations, in the file's order.
     pub relations: Vec<Relation>,
 }
