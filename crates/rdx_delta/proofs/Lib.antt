@@ -1,0 +1,5 @@
+pub mod Ranges
+pub mod Arguments
+pub mod Tables
+pub mod Folding
+pub mod Comparing

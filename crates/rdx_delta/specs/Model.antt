@@ -1,0 +1,2 @@
+pub mod ReplyCode
+pub mod OneWay
