@@ -11,10 +11,10 @@ use Rattle.rdx_lang.specs.Depths.{Use, length_use, uses, item_uses, closed_parts
 use Rattle.rdx_lang.specs.Patterns.{Pattern, wild, hole, lit, nt, named, in_hole, Items}
 use Rattle.rdx_lang.specs.declared.pattern.Kind.{Kind}
 use Rattle.rdx_lang.specs.declared.pattern.Ref.TheVariants.{Nt}
-use Rattle.rdx_grammar.specs.Heads.{Head, naming, avoiding, prefixing, splitting, hiding, plain, Role, word, bound, spelt, pattern, ellipsis, Roles, every, patterns, repeatable, roles_of, head_among, is_ellipsis_symbol, next, is_of_ellipsis, is_repeated, fits, is_shaped}
+use Rattle.rdx_grammar.specs.Heads.{Head, naming, avoiding, prefixing, splitting, hiding, escaping, plain, Role, word, bound, spelt, pattern, ellipsis, unread, Roles, every, patterns, repeatable, roles_of, head_among, is_ellipsis_symbol, next, is_of_ellipsis, is_repeated, fits, is_shaped}
 use Rattle.rdx_grammar.specs.Kinds.{kind_of, is_among, is_base}
 use Rattle.rdx_grammar.specs.Names.{begins_with_dots, has_suffix, front}
-use Rattle.rdx_grammar.specs.Occurrences.{Occurrence, malformed, keys_in, role_occurrences, deeper, occurrences, occurrences_among}
+use Rattle.rdx_grammar.specs.Occurrences.{Occurrence, malformed, keys, keys_in, role_occurrences, deeper, head_occurrences, occurrences, occurrences_among}
 use Rattle.rdx_grammar.specs.Parts.{text_of, is_symbol, is_word}
 use Rattle.rdx_grammar.specs.PatternChecks.{Bound, binds_itself, binds, bound_when, bound_by, all_bound}
 use Rattle.rdx_grammar.specs.Reading.{base, base_of, suffixed, other_symbol, by_base, symbol_reading, name_in, length_name, ellipsis_in, ellipsis_behind, role_items, only, bound_to, prefixed, names_among, assembled, reading, items_among}
@@ -173,6 +173,36 @@ module _ (ns : List (List ℕ)) where
     spelt-nothing n nil = refl
     spelt-nothing n (cons d ds) = spelt-nothing n ds
 
+    -- nor do keywords
+    mutual
+      keys-nothing : (d : Sexp) → bind (keys d) ≡ []
+      keys-nothing (leaf (integer z) s) = refl
+      keys-nothing (leaf (truth b) s) = refl
+      keys-nothing (leaf (text t) s) = refl
+      keys-nothing (leaf (symbol x) s) = refl
+      keys-nothing (leaf (keyword k) s) = refl
+      keys-nothing (list ds s) = keys_in-nothing ds
+
+      keys_in-nothing : (ds : Sexps) → bind (keys_in ds) ≡ []
+      keys_in-nothing nil = refl
+      keys_in-nothing (cons d ds) = bind-append (keys d) (keys_in ds) ∙ (λ i. keys-nothing d i ++ keys_in-nothing ds i)
+
+    -- nor what is not read
+    unread-nothing : (n : ℕ) (ds : Sexps) → bind (occurrences_among n (every unread) ds) ≡ []
+    unread-nothing n nil = refl
+    unread-nothing n (cons d ds) = bind-append (keys d) (occurrences_among n (every unread) ds) ∙ (λ i. keys-nothing d i ++ unread-nothing n ds i)
+
+    -- the list itself, where its head would ask Racket, binds nothing and is passed
+    head-makes : (n : ℕ) (h : Head) (whole : Sexp) (p : Pattern) (os : List Occurrence) → (ArePassed os → Makes n p (bind os))
+        → ArePassed (head_occurrences h whole ++ os) → Makes n p (bind (head_occurrences h whole ++ os))
+    head-makes n naming whole p os f h = f h
+    head-makes n avoiding whole p os f h = f h
+    head-makes n prefixing whole p os f h = f h
+    head-makes n splitting whole p os f h = f h
+    head-makes n hiding whole p os f h = f h
+    head-makes n escaping whole p os f h = f h.1
+    head-makes n plain whole p os f h = f h
+
     -- an ellipsis behind an item is one in its role
     repeated-behind : (rs : Roles) (ds : Sexps) → is_repeated rs ds ≡ is_some (ellipsis_behind rs ds)
     repeated-behind rs nil = refl
@@ -185,6 +215,7 @@ module _ (ns : List (List ℕ)) where
         by_role (Some spelt) = refl
         by_role (Some pattern) = refl
         by_role (Some ellipsis) = refl
+        by_role (Some unread) = refl
 
     -- an item that is a pattern, in front of others in these roles
     pattern-step : (n : ℕ) (rs : Roles) (d : Sexp) (ds : Sexps)
@@ -230,8 +261,9 @@ module _ (ns : List (List ℕ)) where
       reading-makes n (leaf (keyword k) s) h = (refl, refl)
       reading-makes n (list ds s) h =
           let k = head_among ds in
-          shaped-makes n (is_shaped ds) (list ds s) ds (assembled k (names_among (roles_of k) ds) (items_among ns pos (roles_of k) ds)) (occurrences_among n (roles_of k) ds)
-          (λ f g. list-makes n k ds f g) h
+          let p = assembled k (names_among (roles_of k) ds) (items_among ns pos (roles_of k) ds) in
+          let os = occurrences_among n (roles_of k) ds in
+          shaped-makes n (is_shaped ds) (list ds s) ds p (head_occurrences k (list ds s) ++ os) (λ f g. head-makes n k (list ds s) p os (λ q. list-makes n k ds f q) g) h
 
       -- a list with its shape, by its head
       list-makes : (n : ℕ) (h : Head) (ds : Sexps) → fits (roles_of h) ds ≡ true → ArePassed (occurrences_among n (roles_of h) ds)
@@ -274,6 +306,8 @@ module _ (ns : List (List ℕ)) where
       list-makes n hiding (cons w nil) f p = second-false (is_symbol w) _ f
       list-makes n hiding (cons w (cons d nil)) f p = makes-alone n (reading ns pos d) (occurrences n d) (reading-makes n d (ArePassed-both (occurrences n d) [] p).0)
       list-makes n hiding (cons w (cons d (cons c ds))) f p = second-false (is_symbol w) _ f
+      list-makes n escaping nil f p = absurd cc
+      list-makes n escaping (cons w ds) f p = (ap (map bound_use) (sym (unread-nothing n ds)), refl)
       list-makes n plain nil f p = (refl, refl)
       list-makes n plain (cons d ds) f p = pattern-step n repeatable d ds (λ k g. reading-makes k d g) (λ g. repeatable-make n ds g) p
 
@@ -302,3 +336,8 @@ module _ (ns : List (List ℕ)) where
                 m.1,
               )
           by_test false f g k p = pattern-step n repeatable d ds f k p
+
+    -- so do the items of a list pattern
+    pub items-make : (n : ℕ) (ds : Sexps) → ArePassed (occurrences_among n patterns ds)
+        → (item_uses n (items_among ns pos patterns ds) ≡ map bound_use (all_bound ns pos (occurrences_among n patterns ds))) × (closed_items_fit (items_among ns pos patterns ds) ≡ true)
+    items-make n ds h = patterns-make n ds h

@@ -2,19 +2,22 @@
 use Rattle.std.proofs.Common.{◌≡◌, Bool, true, false, List, [], ◌∷◌, refl, sym, subst}
 use Rattle.std.specs.Prelude.{codes}
 use Rattle.std.specs.Str.{chars}
-use Rattle.rdx_lang.specs.Edges.{Edge, edge_nt, edge_named, edge_hide_hole, edge_closed, edge_left, edge_right, Reaches, at_once, further, IsFree}
+use Rattle.rdx_lang.specs.Edges.{Edge, edge_nt, edge_named, edge_hide_hole, edge_closed, edge_left, edge_right, Reaches, at_once, further, IsFree, IsFirstRecursive}
 use Rattle.rdx_lang.specs.Members.{In, here, there}
-use Rattle.rdx_lang.specs.Patterns.{Pattern, of_kind, nt, Definition, Language}
+use Rattle.rdx_lang.specs.Patterns.{Pattern, wild, of_kind, nt, Definition, Language}
 use Rattle.rdx_lang.specs.WellFormed.{all_patterns, all_alternatives}
+use Rattle.rdx_lang.specs.declared.pattern.Kind.TheVariants.{Number}
 use Rattle.rdx_lang.specs.declared.pattern.Ref.{Ref}
-use Rattle.rdx_grammar.specs.Examples.{word, definitions, extended, InheritsInPlace, LeastCheckFirst}
-use Rattle.rdx_grammar.specs.Refused.{by_check}
+use Rattle.rdx_lang.specs.declared.pattern.Ref.TheVariants.{Nt}
+use Rattle.rdx_grammar.specs.Examples.{word, group, columns, definitions, extended, InheritsInPlace, LeastCheckFirst, conditioned, AsksInside, AsksInLanguage, RecursionFirst}
+use Rattle.rdx_grammar.specs.Refused.{by_check, by_recursion, by_escape}
 use Rattle.rdx_grammar.proofs.Booleans.{and_true}
 
--- ---- languages whose alternatives are built-in names
+-- ---- languages whose alternatives are built-in names, or match everything
 
--- the pattern is a built-in name
+-- the pattern is such a one
 abbrev is_built_in : Pattern → Bool
+is_built_in wild = true
 is_built_in (of_kind k) = true
 is_built_in p = false
 
@@ -68,7 +71,53 @@ inherits_in_place s = record {
   are = refl;
   reads = refl;
   free = free extended refl;
+  asks_nothing = refl;
 }
 
 pub least_check_first : LeastCheckFirst
 least_check_first = by_check refl
+
+pub asks_inside : AsksInside
+asks_inside = refl
+
+-- the language of `(define-language L (e number (side-condition e #t)))`, if it were not refused
+abbrev conditioned_number : Language
+conditioned_number = record { name = codes "L"; nonterminals = (Nt (codes "e"), of_kind Number ∷ wild ∷ []) ∷ [] }
+
+pub asks_in_language : AsksInLanguage
+unfolding chars
+asks_in_language =
+    by_escape
+    (record {
+      name = word (columns 18 19) (codes "L");
+      definitions = group (columns 20 52) (word (columns 21 22) (codes "e") ∷ word (columns 23 29) (codes "number") ∷ conditioned 30 ∷ []) ∷ [];
+    })
+    refl refl (free conditioned_number refl) refl
+
+-- the alternatives of `(define-language L (e e (side-condition e #t)))`, and their language
+abbrev looping : List Pattern
+looping = nt (Nt (codes "e")) ∷ wild ∷ []
+
+abbrev conditioned_loop : Language
+conditioned_loop = record { name = codes "L"; nonterminals = (Nt (codes "e"), looping) ∷ [] }
+
+-- its nonterminal reaches itself
+loops : IsFirstRecursive conditioned_loop (Nt (codes "e"))
+loops = record {
+  before = [];
+  alternatives = looping;
+  behind = [];
+  defined = refl;
+  recursive = at_once (edge_nt (record { all = looping; defined = here refl; among = here refl }));
+  first = λ d i. elim i [ ];
+}
+
+pub recursion_first : RecursionFirst
+unfolding chars
+recursion_first =
+    by_recursion
+    (record {
+      name = word (columns 18 19) (codes "L");
+      definitions = group (columns 20 47) (word (columns 21 22) (codes "e") ∷ word (columns 23 24) (codes "e") ∷ conditioned 25 ∷ []) ∷ [];
+    })
+    (Nt (codes "e")) refl refl loops refl

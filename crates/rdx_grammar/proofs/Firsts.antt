@@ -40,6 +40,14 @@ late_of None None (Some x) b os e f = absurd cc
 late_of None (Some x) d b os e f = absurd cc
 late_of (Some x) s d b os e f = absurd cc
 
+-- the refusal of the early checks, where the first one refuses nothing
+pub early_of : (u s d b : Option Refusal) (os : List (Option Refusal)) (r : Refusal) → u ≡ None → Some r ≡ first_refusal (s ∷ d ∷ b ∷ []) → Some r ≡ first_refusal (u ∷ s ∷ d ∷ b ∷ os)
+early_of None None None None os r e f = absurd cc
+early_of None None None (Some x) os r e f = f
+early_of None None (Some x) b os r e f = f
+early_of None (Some x) d b os r e f = f
+early_of (Some x) s d b os r e f = absurd cc
+
 -- a list without a first member is empty
 pub none-empty : {A : Type 0} (xs : List A) → first xs ≡ None → xs ≡ []
 none-empty [] e = refl

@@ -1,5 +1,5 @@
 -- The names of a reading fit together, where no check refuses what stands in its datum.
-use Rattle.std.proofs.Common.{◌≡◌, ◌<◌, ℕ, Bool, true, false, List, [], ◌∷◌, None, map, refl, sym, ap, ◌∙◌, subst}
+use Rattle.std.proofs.Common.{◌≡◌, ◌<◌, ℕ, suc, Bool, true, false, List, [], ◌∷◌, None, map, refl, sym, ap, ◌∙◌, subst}
 use Rattle.std.specs.Prelude.{◌&&◌, ◌||◌, not, bytes_eq, nat_eq, nat_lt}
 use Rattle.std.specs.Bool.{beq}
 use Rattle.std.specs.Cmp.{booleans_Decides}
@@ -7,26 +7,28 @@ use Rattle.std.specs.Cmp.Lexicographic.{bytes_decides}
 use Rattle.std.specs.List.{list_any, list_all}
 use Rattle.std.proofs.lemmas.Bool.{lt-ltb}
 use Rattle.std.proofs.lemmas.Cmp.{nat_eq_equiv, nat_list_eq_equiv}
-use Rattle.rdx_sexp.specs.Sexp.{Sexp}
-use Rattle.rdx_sexp.specs.Size.{sexp_depth, IsSpelledSexp}
+use Rattle.rdx_sexp.specs.Sexp.{Sexp, Sexps}
+use Rattle.rdx_sexp.specs.Size.{sexp_depth, sexps_depth, IsSpelledSexp, AreSpelled}
 use Rattle.rdx_lang.specs.Depths.{Use, agree, all_agree, is_shallow, has_one_depth_each, closed_parts_fit, has_fitting_names}
 use Rattle.rdx_lang.specs.Members.{In, here, there}
-use Rattle.rdx_grammar.specs.Occurrences.{occurrences}
+use Rattle.rdx_lang.specs.Patterns.{seq}
+use Rattle.rdx_grammar.specs.Heads.{patterns}
+use Rattle.rdx_grammar.specs.Occurrences.{occurrences, occurrences_among}
 use Rattle.rdx_grammar.specs.Parts.{text_of}
 use Rattle.rdx_grammar.specs.PatternChecks.{Bound, bad_binders, bad_occurrences, all_bound, differ, clashes, depth_clashes}
 use Rattle.rdx_grammar.specs.PatternRefusal.{keyword_at, bad_binder_at, bad_occurrence_at, depth_clash_at, pattern_refusal}
 use Rattle.rdx_grammar.specs.Names.{begins_with_dots}
 use Rattle.rdx_grammar.specs.Readable.{IsReadable}
-use Rattle.rdx_grammar.specs.Reading.{reading}
+use Rattle.rdx_grammar.specs.Reading.{reading, items_among}
 use Rattle.rdx_grammar.specs.Refusal.{unnamed, named}
 use Rattle.rdx_grammar.specs.Unbuilt.{unbuilt_at}
 use Rattle.rdx_grammar.specs.declared.patterns.position.Position.{Position}
 use Rattle.rdx_grammar.specs.declared.patterns.position.Position.TheVariants.{Query}
 use Rattle.rdx_grammar.specs.declared.shape.fault.DefKind.TheVariants.{BadName, BadPattern, EllipsisDepth}
 use Rattle.rdx_grammar.proofs.Booleans.{and_both, or_false}
-use Rattle.rdx_grammar.proofs.DepthsRead.{bound_use, reading-makes}
+use Rattle.rdx_grammar.proofs.DepthsRead.{bound_use, reading-makes, items-make}
 use Rattle.rdx_grammar.proofs.Firsts.{nothing, none_first, none_or}
-use Rattle.rdx_grammar.proofs.PassedPatterns.{AreBoundNames, pattern-written, are-passed, bound-are-names}
+use Rattle.rdx_grammar.proofs.PassedPatterns.{AreBoundNames, pattern-written, items-written, are-passed, bound-are-names}
 
 -- ---- where nothing clashes
 
@@ -89,6 +91,21 @@ fitting-reading ns pos d l h e f g =
     (and_both (all_agree (map bound_use bs)) (list_all is_shallow (map bound_use bs)) (agree-all [] bs g) (all-shallow bs (bound-are-names ns pos 4294967296 os w e))) in
     and_both (has_one_depth_each p) (closed_parts_fit p) one m.1
 
+-- so do those of the items of a list pattern
+pub fitting-items : (ns : List (List ℕ)) (pos : Position) (ds : Sexps) → suc (sexps_depth ds) < 4294967296 → AreSpelled ds
+    → bad_binders (occurrences_among 0 patterns ds) ≡ [] → bad_occurrences ns (occurrences_among 0 patterns ds) ≡ [] → depth_clashes ns pos (occurrences_among 0 patterns ds) ≡ []
+    → has_fitting_names (seq (items_among ns pos patterns ds)) ≡ true
+fitting-items ns pos ds l h e f g =
+    let os = occurrences_among 0 patterns ds in
+    let bs = all_bound ns pos os in
+    let p = seq (items_among ns pos patterns ds) in
+    let w = items-written ds l h in
+    let m = items-make ns pos 0 ds (are-passed ns 4294967296 os w e f) in
+    let one : has_one_depth_each p ≡ true =
+    subst (λ (us : List Use). (all_agree us && list_all is_shallow us) ≡ true) (sym m.0)
+    (and_both (all_agree (map bound_use bs)) (list_all is_shallow (map bound_use bs)) (agree-all [] bs g) (all-shallow bs (bound-are-names ns pos 4294967296 os w e))) in
+    and_both (has_one_depth_each p) (closed_parts_fit p) one m.1
+
 -- so do those of a pattern that is read outside grammars
 pub fitting-pattern : (ns : List (List ℕ)) (d : Sexp) → IsReadable d → pattern_refusal ns d ≡ None
     → has_fitting_names (reading ns Query d) ≡ true
@@ -98,6 +115,6 @@ fitting-pattern ns d r e =
     let k = none_or (keyword_at os) _ f.1 in
     let l = none_or (bad_binder_at os) _ k.1 in
     let m = none_or (bad_occurrence_at ns os) _ l.1 in
-    let n = none_or (depth_clash_at ns os) None m.1 in
+    let n = none_or (depth_clash_at ns os) _ m.1 in
     fitting-reading ns Query d r.nested r.spelled (nothing (named BadName) (bad_binders os) l.0) (nothing (unnamed BadPattern) (bad_occurrences ns os) m.0)
     (nothing (named EllipsisDepth) (depth_clashes ns Query os) n.0)

@@ -3,8 +3,8 @@ use Rattle.std.proofs.Common.{◌≡◌, ℕ, ◌++◌, Bool, true, false, List,
 use Rattle.std.specs.Prelude.{not, codes}
 use Rattle.std.proofs.lemmas.Grind.{flat_map-append}
 use Rattle.rdx_sexp.specs.Sexp.{Sexp, Sexps, leaf, list, nil, cons, integer, truth, text, symbol, keyword}
-use Rattle.rdx_grammar.specs.Heads.{Role, word, bound, spelt, pattern, ellipsis, Roles, roles_of, head_among, next, rest, is_repeated, suits, fits, is_shaped}
-use Rattle.rdx_grammar.specs.Occurrences.{Occurrence, malformed, keys, keys_in, role_occurrences, deeper, occurrences, occurrences_among}
+use Rattle.rdx_grammar.specs.Heads.{Head, naming, avoiding, prefixing, splitting, hiding, escaping, plain, Role, word, bound, spelt, pattern, ellipsis, unread, Roles, roles_of, head_among, next, rest, is_repeated, suits, fits, is_shaped}
+use Rattle.rdx_grammar.specs.Occurrences.{Occurrence, malformed, keys, keys_in, role_occurrences, deeper, head_occurrences, occurrences, occurrences_among}
 use Rattle.rdx_grammar.specs.Parts.{is_symbol, is_word}
 use Rattle.rdx_grammar.specs.PatternChecks.{keyword_fault, keyword_faults}
 use Rattle.rdx_grammar.specs.Refusal.{first, or_else}
@@ -36,11 +36,22 @@ role-keys n (Some bound) d os e f = sym (ap keyword_faults (symbol-keys d e))
 role-keys n (Some spelt) d os e f = sym (ap keyword_faults (symbol-keys d (and_true (is_symbol d) (not (is_word (codes "hole") d)) e).0))
 role-keys n (Some pattern) d os e f = f
 role-keys n (Some ellipsis) d os e f = sym (ap keyword_faults (symbol-keys d e))
+role-keys n (Some unread) d os e f = refl
 
 -- a list that may have its shape
 shaped-keys : (b : Bool) (whole : Sexp) (ds : Sexps) (os : List Occurrence) → (b ≡ true → keyword_faults os ≡ keyword_faults (keys_in ds)) → keyword_faults (if b then os else malformed whole ∷ keys_in ds) ≡ keyword_faults (keys_in ds)
 shaped-keys true whole ds os f = f refl
 shaped-keys false whole ds os f = refl
+
+-- a list that would ask Racket is no keyword itself
+head-keys : (h : Head) (whole : Sexp) (os : List Occurrence) → keyword_faults (head_occurrences h whole ++ os) ≡ keyword_faults os
+head-keys naming whole os = refl
+head-keys avoiding whole os = refl
+head-keys prefixing whole os = refl
+head-keys splitting whole os = refl
+head-keys hiding whole os = refl
+head-keys escaping whole os = refl
+head-keys plain whole os = refl
 
 mutual
   -- a pattern around which n repetitions stand
@@ -51,7 +62,9 @@ mutual
   occurrences-keys n (leaf (symbol x) s) = refl
   occurrences-keys n (leaf (keyword k) s) = refl
   occurrences-keys n (list ds s) =
-      shaped-keys (is_shaped ds) (list ds s) ds (occurrences_among n (roles_of (head_among ds)) ds) (λ e. among-keys n (roles_of (head_among ds)) ds e)
+      let k = head_among ds in
+      let os = occurrences_among n (roles_of k) ds in
+      shaped-keys (is_shaped ds) (list ds s) ds (head_occurrences k (list ds s) ++ os) (λ e. head-keys k (list ds s) os ∙ among-keys n (roles_of k) ds e)
 
   -- items in these roles
   among-keys : (n : ℕ) (rs : Roles) (ds : Sexps) → fits rs ds ≡ true → keyword_faults (occurrences_among n rs ds) ≡ keyword_faults (keys_in ds)

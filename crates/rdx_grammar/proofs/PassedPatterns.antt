@@ -7,12 +7,12 @@ use Rattle.std.proofs.Math.Nat.{le-max_left, le-max_right}
 use Rattle.rdx_sexp.specs.Sexp.{Sexp, Sexps, leaf, list, nil, cons, integer, truth, text, symbol, keyword}
 use Rattle.rdx_sexp.specs.Size.{sexp_depth, sexps_depth, IsSpelledSexp, AreSpelled}
 use Rattle.rdx_term.specs.Spelling.{is_name, is_symbol_spelling}
-use Rattle.rdx_grammar.specs.Heads.{Head, naming, avoiding, prefixing, splitting, hiding, plain, Role, word, bound, spelt, pattern, ellipsis, Roles, done, item, every, patterns, repeatable, roles_of, head_among, is_ellipsis_symbol, next, rest, is_repeated, suits, fits, is_shaped}
+use Rattle.rdx_grammar.specs.Heads.{Head, naming, avoiding, prefixing, splitting, hiding, escaping, plain, Role, word, bound, spelt, pattern, ellipsis, unread, Roles, done, item, every, patterns, repeatable, roles_of, head_among, is_ellipsis_symbol, next, rest, is_repeated, suits, fits, is_shaped}
 use Rattle.rdx_grammar.specs.Inside.AreNames.{AreNames}
 use Rattle.rdx_grammar.specs.Inside.BoundView.{bound_names}
 use Rattle.rdx_grammar.specs.Kinds.{is_base}
 use Rattle.rdx_grammar.specs.Names.{is_bad_name, begins_with_dots, is_ellipsis, has_suffix, front}
-use Rattle.rdx_grammar.specs.Occurrences.{Occurrence, key, binder, single, repeats, excepted, malformed, keys, keys_in, role_occurrences, deeper, occurrences, occurrences_among}
+use Rattle.rdx_grammar.specs.Occurrences.{Occurrence, key, binder, single, repeats, excepted, malformed, escape, keys, keys_in, role_occurrences, deeper, head_occurrences, occurrences, occurrences_among}
 use Rattle.rdx_grammar.specs.Parts.{text_of, is_symbol, is_word}
 use Rattle.rdx_grammar.specs.PatternChecks.{Bound, when, bad_binder, bad_binders, is_bad_symbol, bad_occurrence, bad_occurrences, binds, bound_when, all_bound}
 use Rattle.rdx_grammar.specs.declared.patterns.position.Position.{Position}
@@ -31,6 +31,7 @@ IsWritten m (single n d) = (n < m) × IsTrue (is_symbol_spelling (text_of d))
 IsWritten m (repeats n d) = (n < m) × (IsTrue (is_symbol_spelling (text_of d)) × (is_ellipsis_symbol d ≡ true))
 IsWritten m (excepted d) = Unit {0}
 IsWritten m (malformed d) = Unit {0}
+IsWritten m (escape d) = Unit {0}
 
 -- so is each of these
 abbrev pub AreWritten : ℕ → List Occurrence → Type 0
@@ -64,6 +65,7 @@ IsFixed bound = Unit {0}
 IsFixed spelt = Unit {0}
 IsFixed pattern = Unit {0}
 IsFixed ellipsis = ⊥
+IsFixed unread = Unit {0}
 
 -- so are these
 abbrev AreFixed : Roles → Type 0
@@ -80,6 +82,7 @@ table-fixed avoiding = (tt, tt)
 table-fixed prefixing = (tt, (tt, tt))
 table-fixed splitting = (tt, (tt, (tt, tt)))
 table-fixed hiding = (tt, (tt, tt))
+table-fixed escaping = (tt, tt)
 table-fixed plain = tt
 
 -- those behind an item
@@ -101,6 +104,7 @@ fixed-none bound P h e = absurd cc
 fixed-none spelt P h e = absurd cc
 fixed-none pattern P h e = absurd cc
 fixed-none ellipsis P h e = absurd h
+fixed-none unread P h e = absurd cc
 
 -- what stands there as an ellipsis is one
 next-ellipsis : (rs : Roles) (d : Sexp) → AreFixed rs → next rs d ≡ Some ellipsis → is_ellipsis_symbol d ≡ true
@@ -123,6 +127,7 @@ role-written m n (Some bound) d os l h e f k = ((l, symbol-spelled d e h), tt)
 role-written m n (Some spelt) d os l h e f k = (tt, tt)
 role-written m n (Some pattern) d os l h e f k = k
 role-written m n (Some ellipsis) d os l h e f k = let g = f refl in ((l, (symbol-spelled d (and_true (is_symbol d) (is_ellipsis (text_of d)) g).0 h, g)), tt)
+role-written m n (Some unread) d os l h e f k = keys-written m d
 
 -- one repetition more is enough room
 deeper-below : (b : Bool) (n a c m : ℕ) → n + suc (max a c) < m → deeper b n + a < m
@@ -139,6 +144,16 @@ shaped-written : (m : ℕ) (b : Bool) (whole : Sexp) (ds : Sexps) (os : List Occ
 shaped-written m true whole ds os f = f refl
 shaped-written m false whole ds os f = (tt, keys_in-written m ds)
 
+-- the list itself, where its head would ask Racket
+head-written : (m : ℕ) (h : Head) (whole : Sexp) → AreWritten m (head_occurrences h whole)
+head-written m naming whole = tt
+head-written m avoiding whole = tt
+head-written m prefixing whole = tt
+head-written m splitting whole = tt
+head-written m hiding whole = tt
+head-written m escaping whole = (tt, tt)
+head-written m plain whole = tt
+
 mutual
   -- a pattern
   occurrences-written : (m n : ℕ) (d : Sexp) → n + sexp_depth d < m → IsSpelledSexp d → AreWritten m (occurrences n d)
@@ -148,8 +163,10 @@ mutual
   occurrences-written m n (leaf (symbol x) s) l h = ((omega (arith, l), h), tt)
   occurrences-written m n (leaf (keyword k) s) l h = (tt, tt)
   occurrences-written m n (list ds s) l h =
-      shaped-written m (is_shaped ds) (list ds s) ds (occurrences_among n (roles_of (head_among ds)) ds)
-      (λ e. among-written m n (roles_of (head_among ds)) ds l h (table-fixed (head_among ds)) e)
+      let k = head_among ds in
+      let os = head_occurrences k (list ds s) in
+      shaped-written m (is_shaped ds) (list ds s) ds (os ++ occurrences_among n (roles_of k) ds)
+      (λ e. AreWritten-append m os (occurrences_among n (roles_of k) ds) (head-written m k (list ds s)) (among-written m n (roles_of k) ds l h (table-fixed k) e))
 
   -- items in these roles
   among-written : (m n : ℕ) (rs : Roles) (ds : Sexps) → n + suc (sexps_depth ds) < m → AreSpelled ds → AreFixed rs → fits rs ds ≡ true
@@ -166,6 +183,26 @@ mutual
 -- a pattern that is read
 pub pattern-written : (d : Sexp) → sexp_depth d < 4294967296 → IsSpelledSexp d → AreWritten 4294967296 (occurrences 0 d)
 pattern-written d l h = occurrences-written 4294967296 0 d (omega (arith, l)) h
+
+-- items of a list pattern may be any, behind an item or not
+mutual
+  patterns-fit : (ds : Sexps) → fits patterns ds ≡ true
+  patterns-fit nil = refl
+  patterns-fit (cons d ds) = repeatable-fit ds
+
+  repeatable-fit : (ds : Sexps) → fits repeatable ds ≡ true
+  repeatable-fit nil = refl
+  repeatable-fit (cons d ds) = by_symbol (is_symbol d) (is_ellipsis (text_of d)) refl (patterns-fit ds) (repeatable-fit ds)
+    where
+      by_symbol : (a b : Bool) → is_symbol d ≡ a → fits patterns ds ≡ true → fits repeatable ds ≡ true
+          → (suits (if a && b then Some ellipsis else Some pattern) d && fits (if a && b then patterns else repeatable) ds) ≡ true
+      by_symbol true true e f g = and_both (is_symbol d) (fits patterns ds) e f
+      by_symbol true false e f g = g
+      by_symbol false b e f g = g
+
+-- the items of a list pattern that is read
+pub items-written : (ds : Sexps) → suc (sexps_depth ds) < 4294967296 → AreSpelled ds → AreWritten 4294967296 (occurrences_among 0 patterns ds)
+items-written ds l h = among-written 4294967296 0 patterns ds (omega (arith, l)) h tt (patterns-fit ds)
 
 -- ---- what the checks pass
 
@@ -208,6 +245,7 @@ IsPassed (single n d) = (bytes_eq (text_of d) (codes "hole") ≡ false → is_na
 IsPassed (repeats n d) = (is_ellipsis_symbol d ≡ true) × ((is_name (text_of d) ≡ true) × (begins_with_dots (text_of d) ≡ true))
 IsPassed (excepted d) = Unit {0}
 IsPassed (malformed d) = ⊥
+IsPassed (escape d) = Unit {0}
 
 -- so is each of these
 abbrev pub ArePassed : List Occurrence → Type 0
@@ -235,6 +273,7 @@ module _ (ns : List (List ℕ)) (m : ℕ) where
   written-passed (repeats n d) h e f = (h.1.1, (ellipsis-name d h.1.0 h.1.1, ellipsis-dots (text_of d) (and_true (is_symbol d) (is_ellipsis (text_of d)) h.1.1).1))
   written-passed (excepted d) h e f = tt
   written-passed (malformed d) h e f = absurd cc
+  written-passed (escape d) h e f = tt
 
   -- several
   pub are-passed : (os : List Occurrence) → AreWritten m os → bad_binders os ≡ [] → bad_occurrences ns os ≡ [] → ArePassed os
@@ -275,6 +314,7 @@ module _ (ns : List (List ℕ)) (pos : Position) (m : ℕ) where
       when-names (not (is_word (codes "...") d)) n d (all_bound ns pos os) h.0.0 (λ f. ellipsis-name d h.0.1.0 h.0.1.1) (bound-are-names os h.1 e)
   bound-are-names (excepted d ∷ os) h e = bound-are-names os h.1 e
   bound-are-names (malformed d ∷ os) h e = bound-are-names os h.1 e
+  bound-are-names (escape d ∷ os) h e = bound-are-names os h.1 e
 
 -- they are names
 pub AreNames-bound : (m : ℕ) (bs : List Bound) → AreBoundNames m bs → AreNames (bound_names bs)

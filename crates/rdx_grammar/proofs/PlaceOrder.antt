@@ -2,9 +2,9 @@
 use Rattle.std.proofs.Common.{ℕ, ◌++◌, Bool, true, false, List, [], ◌∷◌, Option, Some, None, map, sym, subst, if◌then◌else◌}
 use Rattle.std.proofs.lemmas.List.{map-append}
 use Rattle.rdx_sexp.specs.Sexp.{Sexp, Sexps, leaf, list, nil, cons, integer, truth, text, symbol, keyword}
-use Rattle.rdx_grammar.specs.Heads.{Role, word, bound, spelt, pattern, ellipsis, Roles, roles_of, head_among, next, rest, is_repeated, is_shaped}
+use Rattle.rdx_grammar.specs.Heads.{Head, naming, avoiding, prefixing, splitting, hiding, escaping, plain, Role, word, bound, spelt, pattern, ellipsis, unread, Roles, roles_of, head_among, next, rest, is_repeated, is_shaped}
 use Rattle.rdx_grammar.specs.Laws.{datum_of, all_parts, all_parts_in, IsPickedFrom, none_left, picked, left_out, InOrder}
-use Rattle.rdx_grammar.specs.Occurrences.{Occurrence, malformed, keys, keys_in, role_occurrences, deeper, occurrences, occurrences_among}
+use Rattle.rdx_grammar.specs.Occurrences.{Occurrence, malformed, keys, keys_in, role_occurrences, deeper, head_occurrences, occurrences, occurrences_among}
 
 -- nothing is picked from every list
 nothing_picked : (es : List Sexp) → IsPickedFrom [] es
@@ -48,10 +48,21 @@ role-picked n (Some bound) d os p = itself_picked d
 role-picked n (Some spelt) d os p = itself_picked d
 role-picked n (Some pattern) d os p = p
 role-picked n (Some ellipsis) d os p = itself_picked d
+role-picked n (Some unread) d os p = keys-picked d
+
+-- the list itself, where its head would ask Racket, and what stands in it
+head-picked : (h : Head) (ds : Sexps) (whole : Sexp) (os : List Occurrence) → IsPickedFrom (map datum_of os) (all_parts_in ds) → IsPickedFrom (map datum_of (head_occurrences h whole ++ os)) (whole ∷ all_parts_in ds)
+head-picked naming ds whole os p = left_out p
+head-picked avoiding ds whole os p = left_out p
+head-picked prefixing ds whole os p = left_out p
+head-picked splitting ds whole os p = left_out p
+head-picked hiding ds whole os p = left_out p
+head-picked escaping ds whole os p = picked p
+head-picked plain ds whole os p = left_out p
 
 -- a list that may have its shape
-shaped-picked : (b : Bool) (ds : Sexps) (whole : Sexp) (os : List Occurrence) → IsPickedFrom (map datum_of os) (all_parts_in ds) → IsPickedFrom (map datum_of (if b then os else malformed whole ∷ keys_in ds)) (whole ∷ all_parts_in ds)
-shaped-picked true ds whole os p = left_out p
+shaped-picked : (b : Bool) (ds : Sexps) (whole : Sexp) (os : List Occurrence) → IsPickedFrom (map datum_of os) (whole ∷ all_parts_in ds) → IsPickedFrom (map datum_of (if b then os else malformed whole ∷ keys_in ds)) (whole ∷ all_parts_in ds)
+shaped-picked true ds whole os p = p
 shaped-picked false ds whole os p = picked (keys_in-picked ds)
 
 mutual
@@ -63,7 +74,9 @@ mutual
   pattern-picked n (leaf (symbol x) s) = picked none_left
   pattern-picked n (leaf (keyword k) s) = picked none_left
   pattern-picked n (list ds s) =
-      shaped-picked (is_shaped ds) ds (list ds s) (occurrences_among n (roles_of (head_among ds)) ds) (among-picked n (roles_of (head_among ds)) ds)
+      let k = head_among ds in
+      let os = occurrences_among n (roles_of k) ds in
+      shaped-picked (is_shaped ds) ds (list ds s) (head_occurrences k (list ds s) ++ os) (head-picked k ds (list ds s) os (among-picked n (roles_of k) ds))
 
   -- items in these roles
   among-picked : (n : ℕ) (rs : Roles) (ds : Sexps) → IsPickedFrom (map datum_of (occurrences_among n rs ds)) (all_parts_in ds)

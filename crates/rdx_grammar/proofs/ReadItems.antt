@@ -1,14 +1,13 @@
 -- The items of a list pattern, read one by one.
 use Rattle.std.proofs.Common.{◌≡◌, ◌++◌, ℕ, ◌+◌, ◌<◌, Bool, true, false, length, drop, get_or, List, [], ◌∷◌, Some, None, refl, ap, if◌then◌else◌}
 use Rattle.std.specs.Bool.{then_some}
-use Rattle.rdx_base.specs.declared.place.Span.{Span}
-use Rattle.rdx_sexp.specs.Sexp.{Sexp, Sexps, list, sexps}
+use Rattle.rdx_sexp.specs.Sexp.{Sexp, sexps}
 use Rattle.rdx_term.specs.Spelling.{is_name}
-use Rattle.rdx_lang.specs.Patterns.{Pattern, wild, Items, nil, one, many}
+use Rattle.rdx_lang.specs.Patterns.{Items, nil, one, many}
 use Rattle.rdx_lang.specs.PatternView.{Slot, just, repeated, items_of}
-use Rattle.rdx_grammar.specs.Heads.{Roles, roles_of, head_among, next, rest, is_shaped}
+use Rattle.rdx_grammar.specs.Heads.{Roles, next, rest}
 use Rattle.rdx_grammar.specs.Parts.{text_of}
-use Rattle.rdx_grammar.specs.Reading.{name_in, names_among, ellipsis_behind, with_item, role_items, assembled, reading, items_among}
+use Rattle.rdx_grammar.specs.Reading.{name_in, ellipsis_behind, with_item, role_items, reading, items_among}
 use Rattle.rdx_grammar.specs.declared.patterns.position.Position.{Position}
 use Rattle.rdx_grammar.proofs.Rests.{drop-at}
 
@@ -47,11 +46,3 @@ module _ (ns : List (List ℕ)) (pos : Position) where
   -- the next item is read
   pub items-at : (rs : Roles) (ds : List Sexp) (i : ℕ) (d : Sexp) → i < length ds → d ≡ get_or ds i d → items_among ns pos rs (sexps (drop i ds)) ≡ role_items (next rs d) (ellipsis_behind (rest rs d) (sexps (drop (i + 1) ds))) (reading ns pos d) (items_among ns pos (rest rs d) (sexps (drop (i + 1) ds)))
   items-at rs ds i d h e = ap (λ es. items_among ns pos rs (sexps es)) (drop-at ds i d h e)
-
-  -- a list with its shape
-  shaped : (b : Bool) (p : Pattern) → b ≡ true → (if b then p else wild) ≡ p
-  shaped true p e = refl
-  shaped false p e = absurd cc
-
-  pub reading-shaped : (ds : Sexps) (s : Span) → is_shaped ds ≡ true → reading ns pos (list ds s) ≡ assembled (head_among ds) (names_among (roles_of (head_among ds)) ds) (items_among ns pos (roles_of (head_among ds)) ds)
-  reading-shaped ds s e = shaped (is_shaped ds) (assembled (head_among ds) (names_among (roles_of (head_among ds)) ds) (items_among ns pos (roles_of (head_among ds)) ds)) e

@@ -10,7 +10,7 @@ use Rattle.rdx_lang.specs.WellFormed.{has_known_nonterminals, have_known_nonterm
 use Rattle.rdx_lang.specs.declared.pattern.Kind.{Kind}
 use Rattle.rdx_lang.specs.declared.pattern.Ref.{Ref}
 use Rattle.rdx_lang.specs.declared.pattern.Ref.TheVariants.{Nt}
-use Rattle.rdx_grammar.specs.Heads.{Head, naming, avoiding, prefixing, splitting, hiding, plain, Role, Roles, roles_of, head_among, next, rest, is_shaped}
+use Rattle.rdx_grammar.specs.Heads.{Head, naming, avoiding, prefixing, splitting, hiding, escaping, plain, Role, Roles, roles_of, head_among, next, rest, is_shaped}
 use Rattle.rdx_grammar.specs.Kinds.{kind_of, is_among}
 use Rattle.rdx_grammar.specs.Names.{has_suffix, front}
 use Rattle.rdx_grammar.specs.Nonterminals.{ref_names}
@@ -155,6 +155,7 @@ module _ (xs : List Ref) (pos : Position) where
   assembled_known prefixing ys ps e = prefixed_known (only ys)
   assembled_known splitting ys ps e = split_known ps e
   assembled_known hiding ys ps e = hidden_known ps e
+  assembled_known escaping ys ps e = refl
   assembled_known plain ys ps e = e
 
   -- a list that may have its shape
@@ -172,7 +173,7 @@ module _ (xs : List Ref) (pos : Position) where
         (assembled_known h (names_among (roles_of h) ds) (items_among ns pos (roles_of h) ds) (items_known (roles_of h) ds))
 
     -- items in these roles
-    items_known : (rs : Roles) (ds : Sexps) → are_known (items_among ns pos rs ds) ≡ true
+    pub items_known : (rs : Roles) (ds : Sexps) → have_known_nonterminals xs (items_among (flat_map ref_names xs) pos rs ds) ≡ true
     items_known rs nil = refl
     items_known rs (cons d ds) =
         role_known (next rs d) (ellipsis_behind (rest rs d) ds) (reading ns pos d) (items_among ns pos (rest rs d) ds) (reading_known d) (items_known (rest rs d) ds)

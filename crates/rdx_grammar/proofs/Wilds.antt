@@ -9,20 +9,20 @@ use Rattle.rdx_term.specs.Tree as tree
 use Rattle.rdx_lang.specs.Patterns.{Pattern, wild, hole, lit, nt, Items}
 use Rattle.rdx_lang.specs.declared.pattern.Kind.{Kind}
 use Rattle.rdx_lang.specs.declared.pattern.Ref.TheVariants.{Nt}
-use Rattle.rdx_grammar.specs.Heads.{Head, naming, avoiding, prefixing, splitting, hiding, plain, Role, word, bound, spelt, pattern, ellipsis, Roles, every, roles_of, head_among, next, rest, is_repeated, fits, is_shaped}
+use Rattle.rdx_grammar.specs.Heads.{Head, naming, avoiding, prefixing, splitting, hiding, escaping, plain, Role, word, bound, spelt, pattern, ellipsis, unread, Roles, every, roles_of, head_among, next, rest, is_repeated, fits, is_shaped}
 use Rattle.rdx_grammar.specs.Kinds.{kind_of, is_among, is_base}
 use Rattle.rdx_grammar.specs.Laws.{wilds, item_wilds, underscores, WildsAreWritten}
 use Rattle.rdx_grammar.specs.Names.{is_bad_name, begins_with_dots, has_suffix, front}
-use Rattle.rdx_grammar.specs.Occurrences.{Occurrence, malformed, keys_in, role_occurrences, deeper, occurrences, occurrences_among}
+use Rattle.rdx_grammar.specs.Occurrences.{Occurrence, malformed, keys, keys_in, role_occurrences, deeper, head_occurrences, occurrences, occurrences_among}
 use Rattle.rdx_grammar.specs.Parts.{text_of, is_symbol, is_word}
-use Rattle.rdx_grammar.specs.PatternChecks.{keyword_fault, keyword_faults, bad_binder, bad_binders, bad_occurrence, bad_occurrences, is_bad_symbol}
-use Rattle.rdx_grammar.specs.PatternRefusal.{keyword_at, bad_binder_at, bad_occurrence_at}
+use Rattle.rdx_grammar.specs.PatternChecks.{keyword_fault, keyword_faults, bad_binder, bad_binders, bad_occurrence, bad_occurrences, is_bad_symbol, escape_in, escapes}
+use Rattle.rdx_grammar.specs.PatternRefusal.{keyword_at, bad_binder_at, bad_occurrence_at, depth_clash_at, escape_at}
 use Rattle.rdx_grammar.specs.Reading.{base, base_of, suffixed, other_symbol, by_base, symbol_reading, name_in, only, bound_to, prefixed, names_among, ellipsis_behind, item_slot, with_item, role_items, assembled, reading, items_among}
 use Rattle.rdx_grammar.specs.Refusal.{unnamed, named}
 use Rattle.rdx_grammar.specs.Unbuilt.{unbuilt_at}
 use Rattle.rdx_grammar.specs.declared.patterns.position.Position.{Position}
 use Rattle.rdx_grammar.specs.declared.patterns.position.Position.TheVariants.{Grammar, Query}
-use Rattle.rdx_grammar.specs.declared.shape.fault.DefKind.TheVariants.{Shape, BadName, BadPattern}
+use Rattle.rdx_grammar.specs.declared.shape.fault.DefKind.TheVariants.{Shape, BadName, BadPattern, RacketEscape}
 use Rattle.rdx_grammar.proofs.Booleans.{or_false, and_true, second-false, not_true}
 use Rattle.rdx_grammar.proofs.DefinitionSpelled.{symbol-spelled}
 use Rattle.rdx_grammar.proofs.Firsts.{nothing, none_both, none_or, none_first}
@@ -130,6 +130,30 @@ module _ (ns : List (List ℕ)) (pos : Position) where
   underscores-append [] qs = sym (zero-plus (underscores qs))
   underscores-append (o ∷ os) qs = let e = underscores-append os qs in omega (arith, e)
 
+  -- a keyword is none
+  mutual
+    keys-underscores : (d : Sexp) → underscores (keys d) ≡ 0
+    keys-underscores (leaf (integer z) s) = refl
+    keys-underscores (leaf (truth b) s) = refl
+    keys-underscores (leaf (text t) s) = refl
+    keys-underscores (leaf (symbol x) s) = refl
+    keys-underscores (leaf (keyword k) s) = refl
+    keys-underscores (list ds s) = keys_in-underscores ds
+
+    keys_in-underscores : (ds : Sexps) → underscores (keys_in ds) ≡ 0
+    keys_in-underscores nil = refl
+    keys_in-underscores (cons d ds) = underscores-append (keys d) (keys_in ds) ∙ (λ i. keys-underscores d i + keys_in-underscores ds i)
+
+  -- nor is a list that would ask Racket
+  head-underscores : (h : Head) (whole : Sexp) (os : List Occurrence) → underscores os ≡ underscores (head_occurrences h whole ++ os)
+  head-underscores naming whole os = refl
+  head-underscores avoiding whole os = refl
+  head-underscores prefixing whole os = refl
+  head-underscores splitting whole os = refl
+  head-underscores hiding whole os = refl
+  head-underscores escaping whole os = sym (zero-plus (underscores os))
+  head-underscores plain whole os = refl
+
   -- those of an item, by itself or repeated
   item-wilds : (e : Option (Option (List ℕ))) (p : Pattern) (ps : Items) → item_wilds (with_item (item_slot e p) ps) ≡ wilds p + item_wilds ps
   item-wilds None p ps = refl
@@ -143,17 +167,19 @@ module _ (ns : List (List ℕ)) (pos : Position) where
   role-wilds n (Some spelt) e d p ps os f = sym (zero-plus (item_wilds ps))
   role-wilds n (Some pattern) e d p ps os f = item-wilds e p ps ∙ ap (λ (k : ℕ). k + item_wilds ps) (f refl)
   role-wilds n (Some ellipsis) e d p ps os f = sym (zero-plus (item_wilds ps))
+  role-wilds n (Some unread) e d p ps os f = let k = keys-underscores d in omega (arith, k)
 
   -- an item that is a pattern passes the checks, where all that stands in items does
   abbrev Passes : List Occurrence → Type 0
-  Passes os = (keyword_faults os ≡ []) × ((bad_binders os ≡ []) × (bad_occurrences ns os ≡ []))
+  Passes os = (keyword_faults os ≡ []) × ((bad_binders os ≡ []) × ((bad_occurrences ns os ≡ []) × (escapes os ≡ [])))
 
   passes-both : (os qs : List Occurrence) → Passes (os ++ qs) → Passes os × Passes qs
   passes-both os qs h =
       let k = none_both (keyword_faults os) (keyword_faults qs) (sym (flat_map-append keyword_fault os qs) ∙ h.0) in
       let n = none_both (bad_binders os) (bad_binders qs) (sym (flat_map-append bad_binder os qs) ∙ h.1.0) in
-      let b = none_both (bad_occurrences ns os) (bad_occurrences ns qs) (sym (flat_map-append (bad_occurrence ns) os qs) ∙ h.1.1) in
-      ((k.0, (n.0, b.0)), (k.1, (n.1, b.1)))
+      let b = none_both (bad_occurrences ns os) (bad_occurrences ns qs) (sym (flat_map-append (bad_occurrence ns) os qs) ∙ h.1.1.0) in
+      let e = none_both (escapes os) (escapes qs) (sym (flat_map-append escape_in os qs) ∙ h.1.1.1) in
+      ((k.0, (n.0, (b.0, e.0))), (k.1, (n.1, (b.1, e.1))))
 
   passes-role : (n : ℕ) (o : Option Role) (d : Sexp) (os : List Occurrence) → Passes (role_occurrences n o d os) → o ≡ Some pattern → Passes os
   passes-role n None d os h e = absurd cc
@@ -162,11 +188,12 @@ module _ (ns : List (List ℕ)) (pos : Position) where
   passes-role n (Some spelt) d os h e = absurd cc
   passes-role n (Some pattern) d os h e = h
   passes-role n (Some ellipsis) d os h e = absurd cc
+  passes-role n (Some unread) d os h e = absurd cc
 
   -- a list that may have its shape
   shaped-wilds : (b : Bool) (whole : Sexp) (ds : Sexps) (p : Pattern) (os : List Occurrence) → Passes (if b then os else malformed whole ∷ keys_in ds) → (b ≡ true → Passes os → wilds p ≡ underscores os) → wilds (if b then p else wild) ≡ underscores (if b then os else malformed whole ∷ keys_in ds)
   shaped-wilds true whole ds p os h f = f refl h
-  shaped-wilds false whole ds p os h f = let k = h.1.1 in absurd cc
+  shaped-wilds false whole ds p os h f = let k = h.1.1.0 in absurd cc
 
   -- symbols that stand for symbols are no items
   spelt-wilds : (ds : Sexps) → item_wilds (items_among ns pos (every spelt) ds) ≡ 0
@@ -182,37 +209,38 @@ module _ (ns : List (List ℕ)) (pos : Position) where
   prefixed-wilds xs x e = ap (λ (ys : List (List ℕ)). wilds (prefixed (only (ys ++ [])))) e
 
   -- a list with its shape has those of its items, by its head
-  list-wilds : (n : ℕ) (h : Head) (ds : Sexps) → AreSpelled ds → fits (roles_of h) ds ≡ true → bad_binders (occurrences_among n (roles_of h) ds) ≡ [] → wilds (assembled h (names_among (roles_of h) ds) (items_among ns pos (roles_of h) ds)) ≡ item_wilds (items_among ns pos (roles_of h) ds)
-  list-wilds n naming nil h f p = absurd cc
-  list-wilds n naming (cons w nil) h f p = second-false (is_symbol w) _ f
-  list-wilds n naming (cons w (cons x nil)) h f p = second-false (is_symbol x) _ (and_true (is_symbol w) (is_symbol x && false) f).1
-  list-wilds n naming (cons w (cons x (cons d nil))) h f p =
+  list-wilds : (n : ℕ) (h : Head) (whole : Sexp) (ds : Sexps) → escapes (head_occurrences h whole) ≡ [] → AreSpelled ds → fits (roles_of h) ds ≡ true → bad_binders (occurrences_among n (roles_of h) ds) ≡ [] → wilds (assembled h (names_among (roles_of h) ds) (items_among ns pos (roles_of h) ds)) ≡ item_wilds (items_among ns pos (roles_of h) ds)
+  list-wilds n naming whole nil e h f p = absurd cc
+  list-wilds n naming whole (cons w nil) e h f p = second-false (is_symbol w) _ f
+  list-wilds n naming whole (cons w (cons x nil)) e h f p = second-false (is_symbol x) _ (and_true (is_symbol w) (is_symbol x && false) f).1
+  list-wilds n naming whole (cons w (cons x (cons d nil))) e h f p =
       let g = and_true (is_symbol x) true (and_true (is_symbol w) (is_symbol x && true) f).1 in
       let b = none_first (is_bad_name (text_of x)) x (bad_binders (occurrences n d ++ [])) p in
       bound-wilds (name_in x) (text_of x) (reading ns pos d) (named-once x (bound-name x g.0 h.1.0 b.0)) ∙ sym (plus-zero (wilds (reading ns pos d)))
-  list-wilds n naming (cons w (cons x (cons d (cons c ds)))) h f p = second-false (is_symbol x) _ (and_true (is_symbol w) (is_symbol x && false) f).1
-  list-wilds n avoiding nil h f p = refl
-  list-wilds n avoiding (cons w ds) h f p = sym (spelt-wilds ds)
-  list-wilds n prefixing nil h f p = absurd cc
-  list-wilds n prefixing (cons w nil) h f p = second-false (is_symbol w) _ f
-  list-wilds n prefixing (cons w (cons x nil)) h f p =
+  list-wilds n naming whole (cons w (cons x (cons d (cons c ds)))) e h f p = second-false (is_symbol x) _ (and_true (is_symbol w) (is_symbol x && false) f).1
+  list-wilds n avoiding whole nil e h f p = refl
+  list-wilds n avoiding whole (cons w ds) e h f p = sym (spelt-wilds ds)
+  list-wilds n prefixing whole nil e h f p = absurd cc
+  list-wilds n prefixing whole (cons w nil) e h f p = second-false (is_symbol w) _ f
+  list-wilds n prefixing whole (cons w (cons x nil)) e h f p =
       let b = is_symbol x && not (is_word (codes "hole") x) in
       let g = and_true b true (and_true (is_symbol w) (b && true) f).1 in
       prefixed-wilds (name_in x) (text_of x) (named-once x (spelt-name x g.0 h.1.0))
-  list-wilds n prefixing (cons w (cons x (cons d ds))) h f p =
+  list-wilds n prefixing whole (cons w (cons x (cons d ds))) e h f p =
       let b = is_symbol x && not (is_word (codes "hole") x) in
       second-false b _ (and_true (is_symbol w) (b && false) f).1
-  list-wilds n splitting nil h f p = absurd cc
-  list-wilds n splitting (cons w nil) h f p = second-false (is_symbol w) _ f
-  list-wilds n splitting (cons w (cons d nil)) h f p = second-false (is_symbol w) _ f
-  list-wilds n splitting (cons w (cons d (cons c nil))) h f p =
+  list-wilds n splitting whole nil e h f p = absurd cc
+  list-wilds n splitting whole (cons w nil) e h f p = second-false (is_symbol w) _ f
+  list-wilds n splitting whole (cons w (cons d nil)) e h f p = second-false (is_symbol w) _ f
+  list-wilds n splitting whole (cons w (cons d (cons c nil))) e h f p =
       ap (λ (k : ℕ). wilds (reading ns pos d) + k) (sym (plus-zero (wilds (reading ns pos c))))
-  list-wilds n splitting (cons w (cons d (cons c (cons b ds)))) h f p = second-false (is_symbol w) _ f
-  list-wilds n hiding nil h f p = absurd cc
-  list-wilds n hiding (cons w nil) h f p = second-false (is_symbol w) _ f
-  list-wilds n hiding (cons w (cons d nil)) h f p = sym (plus-zero (wilds (reading ns pos d)))
-  list-wilds n hiding (cons w (cons d (cons c ds))) h f p = second-false (is_symbol w) _ f
-  list-wilds n plain ds h f p = refl
+  list-wilds n splitting whole (cons w (cons d (cons c (cons b ds)))) e h f p = second-false (is_symbol w) _ f
+  list-wilds n hiding whole nil e h f p = absurd cc
+  list-wilds n hiding whole (cons w nil) e h f p = second-false (is_symbol w) _ f
+  list-wilds n hiding whole (cons w (cons d nil)) e h f p = sym (plus-zero (wilds (reading ns pos d)))
+  list-wilds n hiding whole (cons w (cons d (cons c ds))) e h f p = second-false (is_symbol w) _ f
+  list-wilds n escaping whole ds e h f p = absurd cc
+  list-wilds n plain whole ds e h f p = refl
 
   mutual
     -- a datum around which n repetitions stand
@@ -221,12 +249,16 @@ module _ (ns : List (List ℕ)) (pos : Position) where
     wilds-of n (leaf (truth b) s) h p = refl
     wilds-of n (leaf (text t) s) h p = refl
     wilds-of n (leaf (symbol x) s) h p =
-        symbol-wilds x h (none_first (is_bad_symbol ns x) (leaf (symbol x) s) [] p.1.1).0 ∙ sym (plus-zero (if bytes_eq x (codes "_") then 1 else 0))
+        symbol-wilds x h (none_first (is_bad_symbol ns x) (leaf (symbol x) s) [] p.1.1.0).0 ∙ sym (plus-zero (if bytes_eq x (codes "_") then 1 else 0))
     wilds-of n (leaf (keyword k) s) h p = let q = p.0 in absurd cc
     wilds-of n (list ds s) h p =
         let k = head_among ds in
-        shaped-wilds (is_shaped ds) (list ds s) ds (assembled k (names_among (roles_of k) ds) (items_among ns pos (roles_of k) ds)) (occurrences_among n (roles_of k) ds) p
-        (λ f q. list-wilds n k ds h f q.1.0 ∙ items-wilds n (roles_of k) ds h q)
+        let whole = list ds s in
+        let os = occurrences_among n (roles_of k) ds in
+        shaped-wilds (is_shaped ds) whole ds (assembled k (names_among (roles_of k) ds) (items_among ns pos (roles_of k) ds)) (head_occurrences k whole ++ os) p
+        (λ f q.
+        let r = passes-both (head_occurrences k whole) os q in
+        list-wilds n k whole ds r.0.1.1.1 h f r.1.1.0 ∙ items-wilds n (roles_of k) ds h r.1 ∙ head-underscores k whole os)
 
     -- items in these roles
     items-wilds : (n : ℕ) (rs : Roles) (ds : Sexps) → AreSpelled ds → Passes (occurrences_among n rs ds) → item_wilds (items_among ns pos rs ds) ≡ underscores (occurrences_among n rs ds)
@@ -250,4 +282,6 @@ wilds_are_written ns pos d h e =
     let keys = nothing (unnamed Shape) (keyword_faults os) k.0 in
     let binders = nothing (named BadName) (bad_binders os) l.0 in
     let others = nothing (unnamed BadPattern) (bad_occurrences ns os) m.0 in
-    wilds-of ns pos 0 d h (keys, (binders, others))
+    let c = none_or (depth_clash_at ns os) _ m.1 in
+    let asking = nothing (unnamed RacketEscape) (escapes os) (none_or (escape_at os) None c.1).0 in
+    wilds-of ns pos 0 d h (keys, (binders, (others, asking)))

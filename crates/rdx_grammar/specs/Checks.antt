@@ -8,7 +8,7 @@ use Rattle.rdx_lang.specs.declared.pattern.Ref.TheVariants.{Nt}
 use Rattle.rdx_grammar.specs.Kinds.{kind_of}
 use Rattle.rdx_grammar.specs.Names.{is_one_of, kept_words, is_bad_name, begins_with_dots, has_suffix}
 use Rattle.rdx_grammar.specs.Parts.{text_of}
-use Rattle.rdx_grammar.specs.PatternChecks.{when, keyword_faults, bad_binders, bad_occurrences, depth_clashes}
+use Rattle.rdx_grammar.specs.PatternChecks.{when, keyword_faults, bad_binders, bad_occurrences, depth_clashes, escapes}
 use Rattle.rdx_grammar.specs.declared.patterns.position.Position.TheVariants.{Grammar as InGrammar}
 use Rattle.rdx_grammar.specs.Stands.{Stand, misshaped, defined, nonterminal, alternative, inherited}
 
@@ -108,3 +108,17 @@ depth_clash ns (inherited d names again) = []
 -- all such symbols, each alternative by itself
 abbrev pub all_depth_clashes : List (List ℕ) → List Stand → List Sexp
 all_depth_clashes ns ss = flat_map (depth_clash ns) ss
+
+-- ---- S10, RacketEscape: a list in a pattern would ask Racket
+
+-- such lists in an alternative
+abbrev pub escapes_in : Stand → List Sexp
+escapes_in (misshaped d) = []
+escapes_in (defined d) = []
+escapes_in (nonterminal d) = []
+escapes_in (alternative os) = escapes os
+escapes_in (inherited d names again) = []
+
+-- all such lists
+abbrev pub all_escapes : List Stand → List Sexp
+all_escapes ss = flat_map escapes_in ss

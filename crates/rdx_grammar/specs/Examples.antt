@@ -1,14 +1,16 @@
--- Worked examples: the language that an extension is, and the refusal of a form that two checks refuse.
-use Rattle.std.specs.Prelude.{ℕ, List, [], ◌∷◌, Some, codes}
+-- Worked examples: the language that an extension is, the refusals of forms that two checks refuse, and those of lists that would ask Racket.
+use Rattle.std.specs.Prelude.{◌≡◌, ℕ, ◌+◌, true, List, [], ◌∷◌, Some, None, codes}
 use Rattle.rdx_base.specs.declared.place.Span.{Span}
-use Rattle.rdx_sexp.specs.Sexp.{symbol, Sexp, leaf, list, sexps}
+use Rattle.rdx_sexp.specs.Sexp.{symbol, truth, Sexp, leaf, list, sexps}
 use Rattle.rdx_lang.specs.Patterns.{of_kind, Language}
 use Rattle.rdx_lang.specs.declared.pattern.Kind.TheVariants.{Any, Number, Text, Boolean}
 use Rattle.rdx_lang.specs.declared.pattern.Ref.TheVariants.{Nt}
 use Rattle.rdx_grammar.specs.Forms.{language_form, extension_form}
 use Rattle.rdx_grammar.specs.Languages.{empty_language}
+use Rattle.rdx_grammar.specs.PatternRefusal.{pattern_refusal}
+use Rattle.rdx_grammar.specs.Refusal.{Refusal}
 use Rattle.rdx_grammar.specs.Refused.{IsLanguage, IsRefused}
-use Rattle.rdx_grammar.specs.declared.shape.fault.DefKind.TheVariants.{Duplicate}
+use Rattle.rdx_grammar.specs.declared.shape.fault.DefKind.TheVariants.{Duplicate, LeftRecursive, RacketEscape}
 
 -- a symbol, and a list
 abbrev pub word : Span → List ℕ → Sexp
@@ -64,3 +66,47 @@ abbrev pub LeastCheckFirst : Type 0
 LeastCheckFirst =
     IsRefused empty_language defined_twice (language_form defined_twice)
     (record { kind = Duplicate; place = record { line = 1; column = 31 }; name = Some (codes "e") })
+
+-- ---- lists that would ask Racket
+
+-- refused for such a list, which begins in this column of the first line
+abbrev pub asks_at : ℕ → Refusal
+asks_at n = record { kind = RacketEscape; place = record { line = 1; column = n }; name = None }
+
+-- `(any (unquote x))`
+abbrev pub unquoted : Sexp
+unquoted =
+    group (columns 1 18) (word (columns 2 5) (codes "any")
+    ∷ group (columns 6 17) (word (columns 7 14) (codes "unquote") ∷ word (columns 15 16) (codes "x") ∷ []) ∷ [])
+
+-- A pattern is refused at the list itself, however deep it stands.
+abbrev pub AsksInside : Type 0
+AsksInside = pattern_refusal [] unquoted ≡ Some (asks_at 6)
+
+-- `(side-condition e #t)`, from one column on
+abbrev pub conditioned : ℕ → Sexp
+conditioned n =
+    group (columns n (n + 21)) (word (columns (n + 1) (n + 15)) (codes "side-condition")
+    ∷ word (columns (n + 16) (n + 17)) (codes "e") ∷ leaf (truth true) (columns (n + 18) (n + 20)) ∷ [])
+
+-- `(define-language L (e number (side-condition e #t)))`
+abbrev pub conditioned_language : Sexp
+conditioned_language =
+    group (columns 1 53) (word (columns 2 17) (codes "define-language") ∷ word (columns 18 19) (codes "L")
+    ∷ group (columns 20 52) (word (columns 21 22) (codes "e") ∷ word (columns 23 29) (codes "number") ∷ conditioned 30 ∷ []) ∷ [])
+
+-- So is a language. What stands in the list is not read, and `e` there is no left edge.
+abbrev pub AsksInLanguage : Type 0
+AsksInLanguage = IsRefused empty_language conditioned_language (language_form conditioned_language) (asks_at 30)
+
+-- `(define-language L (e e (side-condition e #t)))`
+abbrev pub conditioned_loop : Sexp
+conditioned_loop =
+    group (columns 1 48) (word (columns 2 17) (codes "define-language") ∷ word (columns 18 19) (codes "L")
+    ∷ group (columns 20 47) (word (columns 21 22) (codes "e") ∷ word (columns 23 24) (codes "e") ∷ conditioned 25 ∷ []) ∷ [])
+
+-- Where the language is left-recursive too, that is reported.
+abbrev pub RecursionFirst : Type 0
+RecursionFirst =
+    IsRefused empty_language conditioned_loop (language_form conditioned_loop)
+    (record { kind = LeftRecursive; place = record { line = 1; column = 1 }; name = Some (codes "e") })

@@ -1,5 +1,5 @@
 -- The heads and roles that values of the code stand for.
-use Rattle.rdx_grammar.specs.Heads.{Head, naming, avoiding, prefixing, splitting, hiding, plain, Role, word, bound, spelt, pattern, ellipsis, Roles, done, item, every, patterns, repeatable}
+use Rattle.rdx_grammar.specs.Heads.{Head, naming, avoiding, prefixing, splitting, hiding, escaping, plain, Role, word, bound, spelt, pattern, ellipsis, unread, Roles, done, item, every, patterns, repeatable}
 use Rattle.rdx_grammar.specs.declared.patterns.heads.Head as code_head
 use Rattle.rdx_grammar.specs.declared.patterns.heads.Head.TheVariants as heads
 use Rattle.rdx_grammar.specs.declared.patterns.heads.Role as code_role
@@ -14,6 +14,7 @@ head_view heads.Avoiding = avoiding
 head_view heads.Prefixing = prefixing
 head_view heads.Splitting = splitting
 head_view heads.Hiding = hiding
+head_view heads.Escaping = escaping
 head_view heads.Plain = plain
 
 -- what a role of the code is
@@ -23,6 +24,7 @@ role_view roles.Bound = bound
 role_view roles.Spelt = spelt
 role_view roles.Pattern = pattern
 role_view roles.Ellipsis = ellipsis
+role_view roles.Unread = unread
 
 -- what several roles of the code are
 abbrev pub roles_view : code_roles.Roles → Roles

@@ -17,6 +17,8 @@ pub data Head : Type 0 where
   splitting : Head
   -- `(hide-hole p)`
   hiding : Head
+  -- a list headed by `unquote` or `side-condition`, which would ask Racket
+  escaping : Head
   -- every other list, item by item
   plain : Head
 
@@ -28,6 +30,8 @@ head_of x =
     else if bytes_eq x (codes "variable-prefix") then prefixing
     else if bytes_eq x (codes "in-hole") then splitting
     else if bytes_eq x (codes "hide-hole") then hiding
+    else if bytes_eq x (codes "unquote") then escaping
+    else if bytes_eq x (codes "side-condition") then escaping
     else plain
 
 -- the kind of a list of these data
@@ -49,6 +53,8 @@ pub data Role : Type 0 where
   pattern : Role
   -- the ellipsis that repeats the pattern before it
   ellipsis : Role
+  -- whatever it is; it is not read
+  unread : Role
 
 -- what all items of a list are there for
 pub data Roles : Type 0 where
@@ -70,6 +76,7 @@ roles_of avoiding = item word (every spelt)
 roles_of prefixing = item word (item spelt done)
 roles_of splitting = item word (item pattern (item pattern done))
 roles_of hiding = item word (item pattern done)
+roles_of escaping = item word (every unread)
 roles_of plain = patterns
 
 -- the datum is an ellipsis
@@ -100,6 +107,7 @@ is_of_ellipsis (Some bound) = false
 is_of_ellipsis (Some spelt) = false
 is_of_ellipsis (Some pattern) = false
 is_of_ellipsis (Some ellipsis) = true
+is_of_ellipsis (Some unread) = false
 
 -- the first of the items in these roles is the ellipsis that repeats the item before them
 abbrev pub is_repeated : Roles → Sexps → Bool
@@ -122,6 +130,7 @@ suits (Some bound) d = is_symbol d
 suits (Some spelt) d = is_symbol d && not (is_word (codes "hole") d)
 suits (Some pattern) d = true
 suits (Some ellipsis) d = is_symbol d
+suits (Some unread) d = true
 
 -- the data may stand in these roles, one by one, and no other is missing
 abbrev pub fits : Roles → Sexps → Bool

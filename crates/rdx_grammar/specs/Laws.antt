@@ -8,7 +8,7 @@ use Rattle.rdx_lang.specs.Patterns as model
 use Rattle.rdx_lang.specs.declared.checked.CheckedPat.{CheckedPat}
 use Rattle.rdx_grammar.specs.Answers.{ReadsPattern}
 use Rattle.rdx_grammar.specs.Forms.{GrammarForm}
-use Rattle.rdx_grammar.specs.Occurrences.{Occurrence, key, binder, single, repeats, excepted, malformed, occurrences}
+use Rattle.rdx_grammar.specs.Occurrences.{Occurrence, key, binder, single, repeats, excepted, malformed, escape, occurrences}
 use Rattle.rdx_grammar.specs.Parts.{text_of}
 use Rattle.rdx_grammar.specs.PatternRefusal.{pattern_refusal}
 use Rattle.rdx_grammar.specs.Reading.{reading}
@@ -71,6 +71,7 @@ datum_of (single n d) = d
 datum_of (repeats n d) = d
 datum_of (excepted d) = d
 datum_of (malformed d) = d
+datum_of (escape d) = d
 
 -- the first list is the second one with some members left out
 pub data IsPickedFrom : List Sexp → List Sexp → Type 0 where
@@ -114,6 +115,7 @@ underscore (single n d) = if bytes_eq (text_of d) (codes "_") then 1 else 0
 underscore (repeats n d) = 0
 underscore (excepted d) = 0
 underscore (malformed d) = 0
+underscore (escape d) = 0
 
 -- how often `_` is a pattern
 abbrev pub underscores : List Occurrence → ℕ

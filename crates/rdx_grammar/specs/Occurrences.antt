@@ -2,7 +2,7 @@
 -- may bind a name also how many repetitions stand around it.
 use Rattle.std.specs.Prelude.{ℕ, suc, Bool, List, [], ◌∷◌, ◌++◌, Option, Some, None, if◌then◌else◌}
 use Rattle.rdx_sexp.specs.Sexp.{Atom, integer, truth, text, symbol, keyword, Sexp, Sexps, leaf, list, nil, cons}
-use Rattle.rdx_grammar.specs.Heads.{Role, word, bound, spelt, pattern, ellipsis, Roles, roles_of, head_among, next, rest, is_repeated, is_shaped}
+use Rattle.rdx_grammar.specs.Heads.{Head, naming, avoiding, prefixing, splitting, hiding, escaping, plain, Role, word, bound, spelt, pattern, ellipsis, unread, Roles, roles_of, head_among, next, rest, is_repeated, is_shaped}
 
 -- one thing that stands in a pattern
 pub data Occurrence : Type 0 where
@@ -18,6 +18,8 @@ pub data Occurrence : Type 0 where
   excepted : Sexp → Occurrence
   -- a list that has not the shape that its head asks for
   malformed : Sexp → Occurrence
+  -- a list that would ask Racket
+  escape : Sexp → Occurrence
 
 -- ---- keywords
 
@@ -51,17 +53,30 @@ role_occurrences n (Some bound) d os = binder n d ∷ []
 role_occurrences n (Some spelt) d os = excepted d ∷ []
 role_occurrences n (Some pattern) d os = os
 role_occurrences n (Some ellipsis) d os = repeats n d ∷ []
+role_occurrences n (Some unread) d os = keys d
 
 -- one repetition more, where there is one
 abbrev pub deeper : Bool → ℕ → ℕ
 deeper b n = if b then suc n else n
+
+-- the list, where its head is one that would ask Racket
+abbrev pub head_occurrences : Head → Sexp → List Occurrence
+head_occurrences naming d = []
+head_occurrences avoiding d = []
+head_occurrences prefixing d = []
+head_occurrences splitting d = []
+head_occurrences hiding d = []
+head_occurrences escaping d = escape d ∷ []
+head_occurrences plain d = []
 
 abbrev mutual
   -- what stands in a pattern around which n repetitions stand; of a list without its shape, the list itself and the keywords in it
   pub occurrences : ℕ → Sexp → List Occurrence
   occurrences n (leaf a s) = atom_occurrences n a (leaf a s)
   occurrences n (list ds s) =
-      if is_shaped ds then occurrences_among n (roles_of (head_among ds)) ds else malformed (list ds s) ∷ keys_in ds
+      if is_shaped ds
+      then head_occurrences (head_among ds) (list ds s) ++ occurrences_among n (roles_of (head_among ds)) ds
+      else malformed (list ds s) ∷ keys_in ds
 
   -- in items in these roles
   pub occurrences_among : ℕ → Roles → Sexps → List Occurrence

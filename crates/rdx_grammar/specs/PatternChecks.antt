@@ -4,7 +4,7 @@ use Rattle.std.specs.List.{list_any}
 use Rattle.rdx_sexp.specs.Sexp.{Sexp}
 use Rattle.rdx_grammar.specs.Kinds.{is_base}
 use Rattle.rdx_grammar.specs.Names.{is_bad_name, begins_with_dots, is_ellipsis, has_suffix, front}
-use Rattle.rdx_grammar.specs.Occurrences.{Occurrence, key, binder, single, repeats, excepted, malformed}
+use Rattle.rdx_grammar.specs.Occurrences.{Occurrence, key, binder, single, repeats, excepted, malformed, escape}
 use Rattle.rdx_grammar.specs.Parts.{text_of, is_word}
 use Rattle.rdx_grammar.specs.declared.patterns.position.Position.{Position}
 use Rattle.rdx_grammar.specs.declared.patterns.position.Position.TheVariants.{Grammar, Query}
@@ -23,6 +23,7 @@ keyword_fault (single n d) = []
 keyword_fault (repeats n d) = []
 keyword_fault (excepted d) = []
 keyword_fault (malformed d) = []
+keyword_fault (escape d) = []
 
 -- all such data
 abbrev pub keyword_faults : List Occurrence → List Sexp
@@ -38,6 +39,7 @@ bad_binder (single n d) = []
 bad_binder (repeats n d) = []
 bad_binder (excepted d) = []
 bad_binder (malformed d) = []
+bad_binder (escape d) = []
 
 -- all such symbols
 abbrev pub bad_binders : List Occurrence → List Sexp
@@ -61,6 +63,7 @@ bad_occurrence ns (single n d) = when (is_bad_symbol ns (text_of d)) d
 bad_occurrence ns (repeats n d) = []
 bad_occurrence ns (excepted d) = when (is_bad_excepted (text_of d)) d
 bad_occurrence ns (malformed d) = d ∷ []
+bad_occurrence ns (escape d) = []
 
 -- all such data
 abbrev pub bad_occurrences : List (List ℕ) → List Occurrence → List Sexp
@@ -96,6 +99,7 @@ bound_by ns pos (single n d) = bound_when (binds ns pos (text_of d)) n d
 bound_by ns pos (repeats n d) = bound_when (not (is_word (codes "...") d)) n d
 bound_by ns pos (excepted d) = []
 bound_by ns pos (malformed d) = []
+bound_by ns pos (escape d) = []
 
 -- all that bind names
 abbrev pub all_bound : List (List ℕ) → Position → List Occurrence → List Bound
@@ -113,3 +117,19 @@ clashes before (b ∷ bs) = when (list_any (differ b) before) b.symbol ++ clashe
 -- all symbols that bind a name at another depth than one before them does
 abbrev pub depth_clashes : List (List ℕ) → Position → List Occurrence → List Sexp
 depth_clashes ns pos os = clashes [] (all_bound ns pos os)
+
+-- ---- S10, RacketEscape: a list would ask Racket
+
+-- the datum, where it is such a list
+abbrev pub escape_in : Occurrence → List Sexp
+escape_in (key d) = []
+escape_in (binder n d) = []
+escape_in (single n d) = []
+escape_in (repeats n d) = []
+escape_in (excepted d) = []
+escape_in (malformed d) = []
+escape_in (escape d) = d ∷ []
+
+-- all such data
+abbrev pub escapes : List Occurrence → List Sexp
+escapes os = flat_map escape_in os

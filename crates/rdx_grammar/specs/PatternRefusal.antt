@@ -2,10 +2,10 @@
 use Rattle.std.specs.Prelude.{ℕ, List, [], ◌∷◌, Option, option_map}
 use Rattle.rdx_sexp.specs.Sexp.{Sexp}
 use Rattle.rdx_grammar.specs.Occurrences.{Occurrence, occurrences}
-use Rattle.rdx_grammar.specs.PatternChecks.{keyword_faults, bad_binders, bad_occurrences, depth_clashes}
+use Rattle.rdx_grammar.specs.PatternChecks.{keyword_faults, bad_binders, bad_occurrences, depth_clashes, escapes}
 use Rattle.rdx_grammar.specs.Refusal.{Refusal, unnamed, named, first, first_refusal}
 use Rattle.rdx_grammar.specs.Unbuilt.{unbuilt_at}
-use Rattle.rdx_grammar.specs.declared.shape.fault.DefKind.TheVariants.{Shape, BadName, BadPattern, EllipsisDepth}
+use Rattle.rdx_grammar.specs.declared.shape.fault.DefKind.TheVariants.{Shape, BadName, BadPattern, EllipsisDepth, RacketEscape}
 use Rattle.rdx_grammar.specs.declared.patterns.position.Position.TheVariants.{Query}
 
 -- S1: the first keyword
@@ -24,6 +24,10 @@ bad_occurrence_at ns os = option_map (unnamed BadPattern) (first (bad_occurrence
 abbrev pub depth_clash_at : List (List ℕ) → List Occurrence → Option Refusal
 depth_clash_at ns os = option_map (named EllipsisDepth) (first (depth_clashes ns Query os))
 
+-- S10: the first list that would ask Racket
+abbrev pub escape_at : List Occurrence → Option Refusal
+escape_at os = option_map (unnamed RacketEscape) (first (escapes os))
+
 -- the refusal by the check with the least number that refuses a pattern outside grammars, over these nonterminals
 abbrev pub pattern_refusal : List (List ℕ) → Sexp → Option Refusal
 pattern_refusal ns d =
@@ -33,4 +37,5 @@ pattern_refusal ns d =
     ∷ bad_binder_at (occurrences 0 d)  -- S4
     ∷ bad_occurrence_at ns (occurrences 0 d)  -- S5
     ∷ depth_clash_at ns (occurrences 0 d)  -- S6
+    ∷ escape_at (occurrences 0 d)  -- S10
     ∷ [])

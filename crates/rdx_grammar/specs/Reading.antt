@@ -1,4 +1,5 @@
--- The pattern that a datum stands for. A datum that is refused has a pattern too, which counts for nothing.
+-- The pattern that a datum stands for. A datum that is refused has a pattern too, which counts for nothing, but for what would ask Racket:
+-- a language with such a list in it is looked at for left recursion before it is refused for that.
 use Rattle.std.specs.Prelude.{ℕ, Bool, true, false, List, [], ◌∷◌, ◌++◌, Option, Some, None, codes, bytes_eq, if◌then◌else◌}
 use Rattle.std.specs.Bool.{then_some}
 use Rattle.rdx_sexp.specs.Sexp.{Atom, integer, truth, text, symbol, keyword, Sexp, Sexps, leaf, list, nil, cons}
@@ -9,7 +10,7 @@ use Rattle.rdx_lang.specs.PatternView.{Slot, just, repeated}
 use Rattle.rdx_lang.specs.Patterns as model
 use Rattle.rdx_lang.specs.declared.pattern.Kind.{Kind}
 use Rattle.rdx_lang.specs.declared.pattern.Ref.TheVariants.{Nt}
-use Rattle.rdx_grammar.specs.Heads.{Head, naming, avoiding, prefixing, splitting, hiding, plain, Role, word, bound, spelt, pattern, ellipsis, Roles, roles_of, head_among, next, rest, is_shaped}
+use Rattle.rdx_grammar.specs.Heads.{Head, naming, avoiding, prefixing, splitting, hiding, escaping, plain, Role, word, bound, spelt, pattern, ellipsis, unread, Roles, roles_of, head_among, next, rest, is_shaped}
 use Rattle.rdx_grammar.specs.Kinds.{kind_of, is_among}
 use Rattle.rdx_grammar.specs.Names.{has_suffix, front}
 use Rattle.rdx_grammar.specs.Parts.{text_of}
@@ -76,6 +77,7 @@ role_names (Some bound) d = name_in d
 role_names (Some spelt) d = name_in d
 role_names (Some pattern) d = []
 role_names (Some ellipsis) d = []
+role_names (Some unread) d = []
 
 -- the names among items in these roles
 abbrev pub names_among : Roles → Sexps → List (List ℕ)
@@ -90,6 +92,7 @@ is_pattern (Some bound) = false
 is_pattern (Some spelt) = false
 is_pattern (Some pattern) = true
 is_pattern (Some ellipsis) = false
+is_pattern (Some unread) = false
 
 -- the length name of an ellipsis with this text: none of `...`; every symbol of a file is a name
 abbrev pub length_name : List ℕ → Option (List ℕ)
@@ -103,6 +106,7 @@ ellipsis_in (Some bound) d = None
 ellipsis_in (Some spelt) d = None
 ellipsis_in (Some pattern) d = None
 ellipsis_in (Some ellipsis) d = Some (length_name (text_of d))
+ellipsis_in (Some unread) d = None
 
 -- the ellipsis with which the items in these roles begin, which repeats the item before them, where there is one
 abbrev pub ellipsis_behind : Roles → Sexps → Option (Option (List ℕ))
@@ -174,10 +178,12 @@ assembled avoiding xs ps = except xs
 assembled prefixing xs ps = prefixed (only xs)
 assembled splitting xs ps = split_by (only_items ps)
 assembled hiding xs ps = hidden (only_item ps)
+assembled escaping xs ps = wild
 assembled plain xs ps = seq ps
 
 abbrev mutual
-  -- the pattern of a datum over these nonterminals, in a grammar or outside; a list without its shape is refused
+  -- the pattern of a datum over these nonterminals, in a grammar or outside; a list without its shape is refused, and so is one that
+  -- would ask Racket
   pub reading : List (List ℕ) → Position → Sexp → Pattern
   reading ns pos (leaf a s) = atom_reading ns pos a
   reading ns pos (list ds s) =

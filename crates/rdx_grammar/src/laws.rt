@@ -1,5 +1,5 @@
 //! Laws of the definitions: functions that do nothing, whose contracts are the laws.
-ghost use Rattle.rdx_grammar.specs.Examples.{InheritsInPlace, LeastCheckFirst};
+ghost use Rattle.rdx_grammar.specs.Examples.{InheritsInPlace, LeastCheckFirst, AsksInside, AsksInLanguage, RecursionFirst};
 ghost use Rattle.rdx_grammar.specs.Laws.{OneLanguage, OneRefusal, NeverBothLanguage, OnePattern, OnePatternRefusal, NeverBothPattern, NeverNeitherPattern, InOrder, WildsAreWritten};
 
 /// A form over a base is one language at most.
@@ -35,8 +35,12 @@ pub fn wilds_are_written()
     ensures { WildsAreWritten }
 {}
 
-/// Worked examples: the language that an extension is, and the refusal of a form that two checks refuse.
+/// Worked examples: the language that an extension is, the refusals of forms that two checks refuse, and those of lists that would ask
+/// Racket.
 pub fn worked_examples()
     ensures extension { InheritsInPlace }
     ensures refusal { LeastCheckFirst }
+    ensures asks_inside { AsksInside }
+    ensures asks_in_language { AsksInLanguage }
+    ensures recursion_first { RecursionFirst }
 {}

@@ -5,7 +5,7 @@
 //! each has all the alternatives. What forms and patterns mean follows the Redex reference manual ("Languages" and "Patterns").
 //!
 //! In a list of patterns an ellipsis, `...` or `..._x`, repeats the pattern right before it, and `..._x` names the number of turns. One that
-//! is first, or right behind another one, is refused.
+//! is first, or right behind another one, is refused. So is a list headed by `unquote` or `side-condition`, which would ask Racket.
 //!
 //! A reader gives what the form means, or refuses the form at the first place of the check with the least number that refuses it. The
 //! README names the definition of each check. The modules stand on each other in this order: [`shape`] (data by their shape, names, words

@@ -1,4 +1,4 @@
--- A form that has passed the checks, and the check for left recursion that is left.
+-- A form that has passed the checks before left recursion, and that check.
 use Rattle.std.specs.Prelude.{◌≡◌, ◌<◌, List, Option, Some, None, IsTrue, Result, Ok, Err}
 use Rattle.rdx_sexp.specs.Sexp.{Sexp, sexps}
 use Rattle.rdx_sexp.specs.Size.{sexp_depth, AreSpelled}

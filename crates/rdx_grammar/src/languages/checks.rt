@@ -10,7 +10,7 @@ ghost use Rattle.rdx_grammar.specs.Refusal.{first};
 use crate::languages::bases::{Base, all_inherit};
 use crate::languages::stands::Stand;
 use crate::patterns::checks::{
-    first_bad_binder, first_bad_occurrence, first_depth_clash, first_keyword, when,
+    first_bad_binder, first_bad_occurrence, first_depth_clash, first_escape, first_keyword, when,
 };
 use crate::patterns::kinds::kind;
 use crate::patterns::names::Names;
@@ -174,4 +174,29 @@ pub(crate) fn first_depth_clash_in_form<'a>(
         }
     }
     Ok(None)
+}
+
+// The first list in an alternative that would ask Racket.
+fn escape_in<'a>(s: &Stand<'a>) -> Option<&'a Datum>
+    ensures { option_map (λ d. d.now) result ≡ first (model.escapes_in (stand_of s.now)) }
+{
+    match s {
+        Stand::Alternative(found) => first_escape(found),
+        Stand::Misshaped(_)
+        | Stand::Defined(_)
+        | Stand::Nonterminal(_)
+        | Stand::Inherited(_, _, _) => None,
+    }
+}
+
+/// The first list in a pattern that would ask Racket.
+pub(crate) fn first_escape_in_form<'a>(found: &[Stand<'a>]) -> Option<&'a Datum>
+    ensures { option_map (λ d. d.now) result ≡ first (model.all_escapes (stands_of found.now)) }
+{
+    for s in found {
+        if let Some(d) = escape_in(s) {
+            return Some(d);
+        }
+    }
+    None
 }

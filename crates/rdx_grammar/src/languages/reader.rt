@@ -16,7 +16,8 @@ use crate::languages::extension::extended;
 use crate::languages::form_parts::{FormParts, extension_form, language_form};
 use crate::languages::nonterminals::form_names;
 use crate::languages::recursion::checked;
-use crate::languages::refusals::refuse_form;
+use crate::languages::refusals::{refuse_escape, refuse_form};
+use crate::languages::stands::form_stands;
 use crate::patterns::names::{Names, symbol_name};
 use crate::shape::DefFault;
 use rdx_lang::{CheckedLang, Language};
@@ -56,12 +57,15 @@ fn read_form(
     ensures { ReadsForm (base_in (option_map (λ c. c.now) base.entry)) form.now
         (option_map parts_of parts.entry) result }
 {
-    if let Some(refusal) = refuse_form(alloc, base, form, parts)? {
+    let found = form_stands(alloc, form, parts)?;
+    if let Some(refusal) = refuse_form(alloc, base, form, parts, &found)? {
         return Err(DefFault::Refused(refusal));
     }
-    match parts {
-        Some(parts) => checked(alloc, form, read_parts(alloc, base, parts)?),
-        None => unreachable!(),
+    let Some(parts) = parts else { unreachable!() };
+    let language = checked(alloc, form, read_parts(alloc, base, parts)?)?;
+    match refuse_escape(&found) {
+        Some(refusal) => Err(DefFault::Refused(refusal)),
+        None => Ok(language),
     }
 }
 

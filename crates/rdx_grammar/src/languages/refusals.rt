@@ -7,14 +7,16 @@ ghost use Rattle.rdx_grammar.specs.Inside.PartViews.{parts_of};
 ghost use Rattle.rdx_grammar.specs.Inside.StandView.{stands_of};
 ghost use Rattle.rdx_grammar.specs.Refusal.{refusal_of, first_refusal};
 ghost use Rattle.rdx_grammar.specs.Refused as model;
+ghost use Rattle.rdx_grammar.specs.Stands as stands;
 
 use crate::languages::bases::Base;
 use crate::languages::checks::{
-    first_bad_name, first_bad_pattern, first_depth_clash_in_form, first_repeated, first_shape_fault,
+    first_bad_name, first_bad_pattern, first_depth_clash_in_form, first_escape_in_form,
+    first_repeated, first_shape_fault,
 };
 use crate::languages::form_parts::FormParts;
 use crate::languages::nonterminals::form_names;
-use crate::languages::stands::{Stand, form_stands};
+use crate::languages::stands::Stand;
 use crate::patterns::names::Names;
 use crate::shape::refusal::{named, unnamed};
 use crate::shape::unbuilt::has_word_to_come;
@@ -83,15 +85,18 @@ fn names_over(
     }
 }
 
-/// The refusal by the check with the least number that refuses a form with these parts over a base, but for left recursion.
+/// The refusal by the check with the least number that refuses a form with these parts over a base, in which these stand, but for left
+/// recursion and for what comes behind it.
 pub(crate) fn refuse_form(
     alloc: Global,
     base: Option<&Base>,
     form: &Datum,
     parts: Option<FormParts<'_>>,
+    found: &[Stand],
 ) -> Result<Option<DefRefusal>, NoMemory>
     requires spelled { AreSpelledIn (option_map parts_of parts) }
     requires shallow { AreShallowIn (option_map parts_of parts) }
+    requires stands { stands_of found.now ≡ stands.form_stands form.now (option_map parts_of parts) }
     ensures { IfOk result (λ r.
         option_map refusal_of r
         ≡ model.refusal_over (base_in (option_map (λ c. c.now) base.entry)) form.now
@@ -100,11 +105,20 @@ pub(crate) fn refuse_form(
     if has_word_to_come(form) {
         return Ok(Some(unnamed(DefKind::Unbuilt, form)));
     }
-    let found = form_stands(alloc, form, parts)?;
-    if let Some(refusal) = refuse_early(alloc, &found)? {
+    if let Some(refusal) = refuse_early(alloc, found)? {
         return Ok(Some(refusal));
     }
     let all = names_over(alloc, base, parts)?;
     let names = Names::new(alloc, &all)?;
-    refuse_late(alloc, base, &names, &found)
+    refuse_late(alloc, base, &names, found)
+}
+
+/// The refusal by the first list that would ask Racket, which is looked for behind left recursion.
+pub(crate) fn refuse_escape(found: &[Stand]) -> Option<DefRefusal>
+    ensures { option_map refusal_of result ≡ model.escape_at (stands_of found.now) }
+{
+    match first_escape_in_form(found) {
+        Some(d) => Some(unnamed(DefKind::RacketEscape, d)),
+        None => None,
+    }
 }

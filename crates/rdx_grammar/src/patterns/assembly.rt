@@ -109,6 +109,7 @@ pub(crate) fn assembled(
         },
         Head::Splitting => split_by(alloc, only_items(items)),
         Head::Hiding => hidden(alloc, only_item(items)),
+        Head::Escaping => Ok(Pat::Wild),
         Head::Plain => Ok(Pat::Seq(items)),
     }
 }

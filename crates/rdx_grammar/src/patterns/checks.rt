@@ -33,7 +33,8 @@ fn keyword_fault<'a>(o: &Occurrence<'a>) -> Option<&'a Datum>
         | Occurrence::Single(_, _)
         | Occurrence::Repeats(_, _)
         | Occurrence::Excepted(_)
-        | Occurrence::Malformed(_) => None,
+        | Occurrence::Malformed(_)
+        | Occurrence::Escape(_) => None,
     }
 }
 
@@ -58,7 +59,8 @@ fn bad_binder<'a>(o: &Occurrence<'a>) -> Option<&'a Datum>
         | Occurrence::Single(_, _)
         | Occurrence::Repeats(_, _)
         | Occurrence::Excepted(_)
-        | Occurrence::Malformed(_) => None,
+        | Occurrence::Malformed(_)
+        | Occurrence::Escape(_) => None,
     }
 }
 
@@ -96,7 +98,10 @@ fn bad_occurrence<'a>(names: &Names, o: &Occurrence<'a>) -> Option<&'a Datum>
         Occurrence::Single(_, d) => when(is_bad_symbol(names, text(d)), d),
         Occurrence::Excepted(d) => when(is_bad_excepted(text(d)), d),
         Occurrence::Malformed(d) => Some(*d),
-        Occurrence::Key(_) | Occurrence::Binder(_, _) | Occurrence::Repeats(_, _) => None,
+        Occurrence::Key(_)
+        | Occurrence::Binder(_, _)
+        | Occurrence::Repeats(_, _)
+        | Occurrence::Escape(_) => None,
     }
 }
 
@@ -157,8 +162,38 @@ pub fn bound_by<'a>(
         Occurrence::Binder(depth, d) => Some((*depth, *d)),
         Occurrence::Single(depth, d) => bound_when(binds(names, position, text(d)), *depth, d),
         Occurrence::Repeats(depth, d) => bound_when(!is_word(d, "..."), *depth, d),
-        Occurrence::Key(_) | Occurrence::Excepted(_) | Occurrence::Malformed(_) => None,
+        Occurrence::Key(_)
+        | Occurrence::Excepted(_)
+        | Occurrence::Malformed(_)
+        | Occurrence::Escape(_) => None,
     }
+}
+
+// The list, where it would ask Racket.
+fn escape_in<'a>(o: &Occurrence<'a>) -> Option<&'a Datum>
+    ensures { option_map (λ d. d.now) result ≡ first (model.escape_in (occurrence_of o.now)) }
+{
+    match o {
+        Occurrence::Escape(d) => Some(*d),
+        Occurrence::Key(_)
+        | Occurrence::Binder(_, _)
+        | Occurrence::Single(_, _)
+        | Occurrence::Repeats(_, _)
+        | Occurrence::Excepted(_)
+        | Occurrence::Malformed(_) => None,
+    }
+}
+
+/// The first list that would ask Racket.
+pub fn first_escape<'a>(found: &[Occurrence<'a>]) -> Option<&'a Datum>
+    ensures { option_map (λ d. d.now) result ≡ first (model.escapes (occurrences_of found.now)) }
+{
+    for o in found {
+        if let Some(d) = escape_in(o) {
+            return Some(d);
+        }
+    }
+    None
 }
 
 /// The first symbol that binds a name at another depth than one before it, over these nonterminals.

@@ -22,6 +22,8 @@ pub enum Head {
     Splitting,
     /// `(hide-hole p)`
     Hiding,
+    /// a list headed by `unquote` or `side-condition`, which would ask Racket
+    Escaping,
     /// every other list, item by item
     Plain,
 }
@@ -39,6 +41,8 @@ pub enum Role {
     Pattern,
     /// The ellipsis that repeats the pattern before it.
     Ellipsis,
+    /// Whatever it is; it is not read.
+    Unread,
 }
 
 /// What the items of a list are there for.
@@ -72,6 +76,7 @@ fn head_of(text: &str) -> Head
         "variable-prefix" => Head::Prefixing,
         "in-hole" => Head::Splitting,
         "hide-hole" => Head::Hiding,
+        "unquote" | "side-condition" => Head::Escaping,
         _ => Head::Plain,
     }
 }
@@ -99,6 +104,7 @@ pub fn roles_of(head: Head) -> Roles
         Head::Prefixing => Roles::Two(Role::Word, Role::Spelt),
         Head::Splitting => Roles::Three(Role::Word, Role::Pattern, Role::Pattern),
         Head::Hiding => Roles::Two(Role::Word, Role::Pattern),
+        Head::Escaping => Roles::OneAndEvery(Role::Word, Role::Unread),
         Head::Plain => Roles::Patterns,
     }
 }
@@ -158,7 +164,9 @@ pub fn is_pattern(role: Option<Role>) -> bool
 {
     match role {
         Some(Role::Pattern) => true,
-        Some(Role::Word | Role::Bound | Role::Spelt | Role::Ellipsis) | None => false,
+        Some(Role::Word | Role::Bound | Role::Spelt | Role::Ellipsis | Role::Unread) | None => {
+            false
+        },
     }
 }
 
@@ -168,7 +176,9 @@ fn is_of_ellipsis(role: Option<Role>) -> bool
 {
     match role {
         Some(Role::Ellipsis) => true,
-        Some(Role::Word | Role::Bound | Role::Spelt | Role::Pattern) | None => false,
+        Some(Role::Word | Role::Bound | Role::Spelt | Role::Pattern | Role::Unread) | None => {
+            false
+        },
     }
 }
 
@@ -202,7 +212,7 @@ fn suits(role: Option<Role>, d: &Datum) -> bool
         None => false,
         Some(Role::Word | Role::Bound | Role::Ellipsis) => is_symbol(d),
         Some(Role::Spelt) => is_symbol(d) && !is_word(d, "hole"),
-        Some(Role::Pattern) => true,
+        Some(Role::Pattern | Role::Unread) => true,
     }
 }
 

@@ -1,12 +1,14 @@
 //! What stands in a pattern.
 ghost use Rattle.std.specs.Prelude.{◌≡◌, ◌<◌, ◌+◌, ◌++◌, [], IfOk, option_map};
-ghost use Rattle.rdx_sexp.specs.Size.{sexp_depth};
-ghost use Rattle.rdx_grammar.specs.HeadView.{role_view};
+ghost use Rattle.rdx_sexp.specs.Sexp.{sexps};
+ghost use Rattle.rdx_sexp.specs.Size.{sexp_depth, sexps_depth};
+ghost use Rattle.rdx_grammar.specs.HeadView.{head_view, role_view, roles_view};
+ghost use Rattle.rdx_grammar.specs.Heads.{patterns};
 ghost use Rattle.rdx_grammar.specs.OccurrenceView.{occurrences_of};
 ghost use Rattle.rdx_grammar.specs.Occurrences as model;
 
 use crate::patterns::heads::{
-    Role, fits, head_among, is_pattern, is_repeated, next, rest, roles_of,
+    Head, Role, Roles, fits, head_among, is_pattern, is_repeated, next, rest, roles_of,
 };
 use rdx_sexp::{Datum, Form};
 use rdx_term::NoMemory;
@@ -26,6 +28,8 @@ pub enum Occurrence<'a> {
     Excepted(&'a Datum),
     /// A list that has not the shape that its head asks for.
     Malformed(&'a Datum),
+    /// A list that would ask Racket.
+    Escape(&'a Datum),
 }
 
 // Adds the keywords in a datum.
@@ -61,6 +65,7 @@ fn add_other<'a>(
         Some(Role::Bound) => Ok(out.push(Occurrence::Binder(depth, d))?),
         Some(Role::Spelt) => Ok(out.push(Occurrence::Excepted(d))?),
         Some(Role::Ellipsis) => Ok(out.push(Occurrence::Repeats(depth, d))?),
+        Some(Role::Unread) => add_keys(d, out),
         Some(Role::Word | Role::Pattern) | None => Ok(()),
     }
 }
@@ -73,7 +78,25 @@ fn deeper(repeated: bool, depth: usize) -> usize
     if repeated { depth + 1 } else { depth }
 }
 
+// Adds the list with this head, where it would ask Racket.
+fn add_head<'a>(head: Head, d: &'a Datum, out: &mut Vec<Occurrence<'a>>) -> Result<(), NoMemory>
+    ensures { IfOk result (λ _.
+        occurrences_of out.new.items
+        ≡ occurrences_of out.old.items ++ model.head_occurrences (head_view head) d.now) }
+{
+    match head {
+        Head::Escaping => Ok(out.push(Occurrence::Escape(d))?),
+        Head::Naming
+        | Head::Avoiding
+        | Head::Prefixing
+        | Head::Splitting
+        | Head::Hiding
+        | Head::Plain => Ok(()),
+    }
+}
+
 /// Adds what stands in a pattern around which so many repetitions stand.
+#[cycle(add_pattern)]
 pub fn add_pattern<'a>(
     depth: usize,
     d: &'a Datum,
@@ -89,21 +112,56 @@ pub fn add_pattern<'a>(
         Form::Sym(_) => Ok(out.push(Occurrence::Single(depth, d))?),
         Form::Key(_) => Ok(out.push(Occurrence::Key(d))?),
         Form::List(items) => {
-            let mut left = roles_of(head_among(items));
-            if !fits(left, items) {
+            let head = head_among(items);
+            let roles = roles_of(head);
+            if !fits(roles, items) {
                 out.push(Occurrence::Malformed(d))?;
                 return add_keys(d, out);
             }
-            for (i, item) in items.iter().enumerate() {
-                let role = next(left, item);
-                left = rest(left, item);
-                if is_pattern(role) {
-                    add_pattern(deeper(is_repeated(left, &items[i + 1..]), depth), item, out)?;
-                } else {
-                    add_other(depth, role, item, out)?;
-                }
-            }
-            Ok(())
+            add_head(head, d, out)?;
+            add_items(depth, roles, items, out)
         }
     }
+}
+
+// Adds what stands in items in these roles, around which so many repetitions stand.
+#[cycle(add_pattern)]
+fn add_items<'a>(
+    depth: usize,
+    roles: Roles,
+    items: &'a [Datum],
+    out: &mut Vec<Occurrence<'a>>,
+) -> Result<(), NoMemory>
+    requires { depth + 1 + sexps_depth (sexps items.now) < 4_294_967_296 }
+    ensures { IfOk result (λ _.
+        occurrences_of out.new.items
+        ≡ occurrences_of out.old.items
+        ++ model.occurrences_among depth (roles_view roles) (sexps items.now)) }
+{
+    let mut left = roles;
+    for (i, item) in items.iter().enumerate() {
+        let role = next(left, item);
+        left = rest(left, item);
+        if is_pattern(role) {
+            add_pattern(deeper(is_repeated(left, &items[i + 1..]), depth), item, out)?;
+        } else {
+            add_other(depth, role, item, out)?;
+        }
+    }
+    Ok(())
+}
+
+/// Adds what stands in items that are patterns, each with an ellipsis behind it or not, around which so many repetitions stand.
+pub fn add_patterns<'a>(
+    depth: usize,
+    items: &'a [Datum],
+    out: &mut Vec<Occurrence<'a>>,
+) -> Result<(), NoMemory>
+    requires { depth + 1 + sexps_depth (sexps items.now) < 4_294_967_296 }
+    ensures { IfOk result (λ _.
+        occurrences_of out.new.items
+        ≡ occurrences_of out.old.items
+        ++ model.occurrences_among depth patterns (sexps items.now)) }
+{
+    add_items(depth, Roles::Patterns, items, out)
 }

@@ -1,11 +1,12 @@
 //! The patterns of data.
-ghost use Rattle.std.specs.Prelude.{◌≡◌, ◌++◌, IfOk, OnOk, option_map};
+ghost use Rattle.std.specs.Prelude.{◌≡◌, ◌++◌, IfOk, OnOk, map, option_map};
 ghost use Rattle.std.specs.Bool.{then_some};
 ghost use Rattle.std.specs.Rc.{rc_str_bytes};
-ghost use Rattle.rdx_lang.specs.PatternView.{pattern_of, slot_of};
+ghost use Rattle.rdx_lang.specs.PatternView.{pattern_of, slot_of, items_of};
 ghost use Rattle.rdx_sexp.specs.Sexp.{sexps};
 ghost use Rattle.rdx_term.specs.Spelling.{is_name};
 ghost use Rattle.rdx_grammar.specs.HeadView.{role_view, roles_view};
+ghost use Rattle.rdx_grammar.specs.Heads.{patterns};
 ghost use Rattle.rdx_grammar.specs.Parts.{text_of};
 ghost use Rattle.rdx_grammar.specs.Reading as model;
 
@@ -110,7 +111,7 @@ fn add_role_name(role: Option<Role>, d: &Datum, out: &mut Vec<Name>) -> Result<(
 {
     match role {
         Some(Role::Bound | Role::Spelt) => add_name(d, out),
-        Some(Role::Word | Role::Pattern | Role::Ellipsis) | None => Ok(()),
+        Some(Role::Word | Role::Pattern | Role::Ellipsis | Role::Unread) | None => Ok(()),
     }
 }
 
@@ -153,11 +154,14 @@ fn with_ellipsis(roles: Roles, others: &[Datum], pat: Pat) -> Result<Item, NoMem
     };
     match next(roles, first) {
         Some(Role::Ellipsis) => Ok(Item::Many(pat, length_name(first)?)),
-        Some(Role::Word | Role::Bound | Role::Spelt | Role::Pattern) | None => Ok(Item::One(pat)),
+        Some(Role::Word | Role::Bound | Role::Spelt | Role::Pattern | Role::Unread) | None => {
+            Ok(Item::One(pat))
+        }
     }
 }
 
 /// The pattern of a datum over these nonterminals.
+#[cycle(read_datum)]
 pub fn read_datum(
     alloc: Global,
     names: &Names,
@@ -174,21 +178,53 @@ pub fn read_datum(
         Form::Key(_) => Ok(Pat::Wild),
         Form::List(parts) => {
             let head = head_among(parts);
-            let mut left = roles_of(head);
-            if !fits(left, parts) {
+            let roles = roles_of(head);
+            if !fits(roles, parts) {
                 return Ok(Pat::Wild);
             }
-            let found = names_among(alloc, left, parts)?;
-            let mut items = Vec::new(alloc);
-            for (i, part) in parts.iter().enumerate() {
-                let role = next(left, part);
-                left = rest(left, part);
-                if is_pattern(role) {
-                    let pat = read_datum(alloc, names, position, part)?;
-                    items.push(with_ellipsis(left, &parts[i + 1..], pat)?)?;
-                }
-            }
+            let found = names_among(alloc, roles, parts)?;
+            let items = read_among(alloc, names, position, roles, parts)?;
             assembled(alloc, head, found, items)
         }
     }
+}
+
+// The item patterns among items in these roles.
+#[cycle(read_datum)]
+fn read_among(
+    alloc: Global,
+    names: &Names,
+    position: Position,
+    roles: Roles,
+    parts: &[Datum],
+) -> Result<Vec<Item>, NoMemory>
+    ensures { IfOk result (λ items.
+        items_of (map slot_of items.items)
+        ≡ model.items_among names.now position (roles_view roles) (sexps parts.now)) }
+{
+    let mut items = Vec::new(alloc);
+    let mut left = roles;
+    for (i, part) in parts.iter().enumerate() {
+        let role = next(left, part);
+        left = rest(left, part);
+        if is_pattern(role) {
+            let pat = read_datum(alloc, names, position, part)?;
+            items.push(with_ellipsis(left, &parts[i + 1..], pat)?)?;
+        }
+    }
+    Ok(items)
+}
+
+/// The item patterns of items that are patterns, each with an ellipsis behind it or not, over these nonterminals.
+pub fn read_items(
+    alloc: Global,
+    names: &Names,
+    position: Position,
+    parts: &[Datum],
+) -> Result<Vec<Item>, NoMemory>
+    ensures { IfOk result (λ items.
+        items_of (map slot_of items.items)
+        ≡ model.items_among names.now position patterns (sexps parts.now)) }
+{
+    read_among(alloc, names, position, Roles::Patterns, parts)
 }

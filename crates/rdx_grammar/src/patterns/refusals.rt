@@ -5,7 +5,7 @@ ghost use Rattle.rdx_grammar.specs.Readable.{IsReadable};
 ghost use Rattle.rdx_grammar.specs.Refusal.{refusal_of};
 
 use crate::patterns::checks::{
-    first_bad_binder, first_bad_occurrence, first_depth_clash, first_keyword,
+    first_bad_binder, first_bad_occurrence, first_depth_clash, first_escape, first_keyword,
 };
 use crate::patterns::names::Names;
 use crate::patterns::occurrences::add_pattern;
@@ -42,6 +42,9 @@ pub(crate) fn refuse_pattern(
     }
     if let Some(d) = first_depth_clash(alloc, names, Position::Query, &found)? {
         return Ok(Some(named(alloc, DefKind::EllipsisDepth, d)?));
+    }
+    if let Some(d) = first_escape(&found) {
+        return Ok(Some(unnamed(DefKind::RacketEscape, d)));
     }
     Ok(None)
 }

@@ -12,15 +12,7 @@ fn is_form_word(text: &str) -> bool
 {
     matches!(
         text,
-        "unquote"
-            | "unquote-splicing"
-            | "side-condition"
-            | "judgment-holds"
-            | "context-closure"
-            | "compatible-closure"
-            | "cross"
-            | "with"
-            | "fresh"
+        "judgment-holds" | "context-closure" | "compatible-closure" | "cross" | "with" | "fresh"
     )
 }
 

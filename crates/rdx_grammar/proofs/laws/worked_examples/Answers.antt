@@ -1,4 +1,4 @@
-use Rattle.rdx_grammar.proofs.Examples.{inherits_in_place, least_check_first}
+use Rattle.rdx_grammar.proofs.Examples.{inherits_in_place, least_check_first, asks_inside, asks_in_language, recursion_first}
 use Rattle.rdx_grammar.proofs.laws.worked_examples.Goals as goal
 
 pub returns-clause-extension : goal.returns-clause-extension
@@ -6,3 +6,12 @@ returns-clause-extension c = inherits_in_place
 
 pub returns-clause-refusal : goal.returns-clause-refusal
 returns-clause-refusal c = least_check_first
+
+pub returns-clause-asks_inside : goal.returns-clause-asks_inside
+returns-clause-asks_inside c = asks_inside
+
+pub returns-clause-asks_in_language : goal.returns-clause-asks_in_language
+returns-clause-asks_in_language c = asks_in_language
+
+pub returns-clause-recursion_first : goal.returns-clause-recursion_first
+returns-clause-recursion_first c = recursion_first

@@ -10,7 +10,7 @@ use Rattle.rdx_grammar.specs.Refused.{shape_at, duplicate_at, bad_name_at, bad_p
 use Rattle.rdx_grammar.specs.Stands.{Stand, form_stands}
 use Rattle.rdx_grammar.specs.Unbuilt.{unbuilt_at}
 use Rattle.rdx_grammar.specs.declared.shape.fault.DefKind.TheVariants.{BadName, Unbuilt}
-use Rattle.rdx_grammar.proofs.Firsts.{nothing, none_or, late_of}
+use Rattle.rdx_grammar.proofs.Firsts.{nothing, none_or, early_of, late_of}
 use Rattle.rdx_grammar.proofs.FormsRead.{form-names}
 use Rattle.rdx_grammar.proofs.NamedForms.{AreNamedIn-passed}
 use Rattle.rdx_grammar.proofs.languages.refusals.refuse_form.Goals as goal
@@ -23,8 +23,7 @@ pub names_over-requires : goal.names_over-requires
 names_over-requires c =
     let g = option_map parts_of c.args.parts in
     let ss = form_stands c.args.form.now g in
-    let r0 : stands_of c.in_ok-found.found.items ≡ ss = c.in_ok-found.ensures in
-    let r : stands_of c.deref.result.now ≡ ss = cc in
+    let r : stands_of c.args.found.now ≡ ss = c.requires.stands in
     let e : early ss ≡ None = ap early (sym r) ∙ sym c.in_ok-refusal.ensures ∙ ap (option_map refusal_of) c.in_default.is in
     let f = (none_or (shape_at ss) _ e).1 in
     let k = (none_or (duplicate_at ss) _ f).1 in
@@ -34,15 +33,24 @@ pub refuse_late-requires : goal.refuse_late-requires
 refuse_late-requires c =
     let g = option_map parts_of c.args.parts in
     let ss = form_stands c.args.form.now g in
-    let r0 : stands_of c.in_ok-found.found.items ≡ ss = c.in_ok-found.ensures in
-    let r : stands_of c.deref.result.now ≡ ss = cc in
+    let r : stands_of c.args.found.now ≡ ss = c.requires.stands in
     let e : early ss ≡ None = ap early (sym r) ∙ sym c.in_ok-refusal.ensures ∙ ap (option_map refusal_of) c.in_default.is in
     let f = (none_or (shape_at ss) _ e).1 in
     let k = (none_or (duplicate_at ss) _ f).1 in
     let n = nothing (named BadName) (bad_names ss) (none_or (bad_name_at ss) None k).0 in
-    let s0 : stands_of c.in_ok-found.found.items ≡ ss = c.in_ok-found.ensures in
-    let s : stands_of c.deref-3.result.now ≡ ss = cc in
-    subst (λ (rs : List Stand). BindNames c.in_ok-names.names rs) (sym s) (form-names c.in_ok-names.names c.args.form.now g c.requires.spelled c.requires.shallow n)
+    subst (λ (rs : List Stand). BindNames c.in_ok-names.names rs) (sym r) (form-names c.in_ok-names.names c.args.form.now g c.requires.spelled c.requires.shallow n)
+
+pub returns-in-Some : goal.returns-in-Some
+returns-in-Some c =
+    let B = base_in (option_map (λ b. b.now) c.args.base) in
+    let g = option_map parts_of c.args.parts in
+    let ss = form_stands c.args.form.now g in
+    let ns = names_over B g in
+    let e : Some (refusal_of c.in-Some.refusal) ≡ early ss =
+    sym (ap (option_map refusal_of) c.in-Some.is) ∙ c.in_ok-refusal.ensures ∙ ap early c.requires.stands in
+    let u : unbuilt_at c.args.form.now ≡ None =
+    ap (λ b. if b then Some (unnamed Unbuilt c.args.form.now) else None) (sym c.has_word_to_come.ensures ∙ c.if-has_word_to_come.false) in
+    early_of (unbuilt_at c.args.form.now) (shape_at ss) (duplicate_at ss) (bad_name_at ss) (bad_pattern_at B ns ss ∷ depth_clash_at ns ss ∷ []) (refusal_of c.in-Some.refusal) u e
 
 pub returns : goal.returns
 returns c =
@@ -50,17 +58,14 @@ returns c =
     let g = option_map parts_of c.args.parts in
     let ss = form_stands c.args.form.now g in
     let ns = names_over B g in
-    let r0 : stands_of c.in_ok-found.found.items ≡ ss = c.in_ok-found.ensures in
-    let r : stands_of c.deref.result.now ≡ ss = cc in
+    let r : stands_of c.args.found.now ≡ ss = c.requires.stands in
     let e : early ss ≡ None = ap early (sym r) ∙ sym c.in_ok-refusal.ensures ∙ ap (option_map refusal_of) c.in_default.is in
     let u : unbuilt_at c.args.form.now ≡ None =
     ap (λ b. if b then Some (unnamed Unbuilt c.args.form.now) else None) (sym c.has_word_to_come.ensures ∙ c.if-has_word_to_come.false) in
     let n0 : c.in_ok-all.all.items ≡ ns = c.in_ok-all.ensures in
-    let m : c.in_ok-names.names ≡ c.deref-2.result.now = c.in_ok-names.ensures in
+    let m : c.in_ok-names.names ≡ c.deref.result.now = c.in_ok-names.ensures in
     let n : c.in_ok-names.names ≡ ns = cc in
-    let s0 : stands_of c.in_ok-found.found.items ≡ ss = c.in_ok-found.ensures in
-    let s : stands_of c.deref-3.result.now ≡ ss = cc in
     subst (λ (o : Option Refusal). IfOk c.refuse_late.result (λ r. option_map refusal_of r ≡ o))
-    ((λ i. first_refusal (bad_pattern_at B (n i) (s i) ∷ depth_clash_at (n i) (s i) ∷ []))
+    ((λ i. first_refusal (bad_pattern_at B (n i) (r i) ∷ depth_clash_at (n i) (r i) ∷ []))
     ∙ sym (late_of (unbuilt_at c.args.form.now) (shape_at ss) (duplicate_at ss) (bad_name_at ss) (bad_pattern_at B ns ss ∷ depth_clash_at ns ss ∷ []) u e))
     c.refuse_late.ensures
