@@ -18,7 +18,8 @@ use Rattle.rdx_lang.specs.Templates.{lit, Items, nil, one, many, seq}
 use Rattle.rdx_lang.proofs.Examples.{one_alone, named_kind_binds, two_pairs, two_values}
 use Rattle.rdx_lang.proofs.JoinLaws.{joined_itself, turned_join, unit_left}
 use Rattle.rdx_eval.specs.Answers.{value, stops, goes, lists}
-use Rattle.rdx_eval.specs.Calls.{Calls, calls_at}
+use Rattle.rdx_eval.specs.Calls.{Calls}
+use Rattle.rdx_eval.specs.Heights.{calls_at}
 use Rattle.rdx_eval.specs.Examples.{OneTurn, TwoLengths, OtherWayRound, NoTurn, SideBySide, InnermostTurns, TurnsInTurns, NoContext, ContextFirst, WhereBinds, WhereMeets}
 use Rattle.rdx_eval.specs.Examples.{any_1, any_2, a, b, each, none_in_turn, one_in_turn, two_in_turn, list_of_three, any_1_bound}
 use Rattle.rdx_eval.specs.Extending.{By, joins_none, joins_more, joins_skip, matched}
@@ -104,7 +105,7 @@ binds_the_term y t =
     (λ c h. named_kind_binds h)
 
 -- one binding is a listing
-one_listed : (c : Binding) → IsListing binding_cmp (c ∷ []) (λ d. In d (c ∷ []))
+pub one_listed : (c : Binding) → IsListing binding_cmp (c ∷ []) (λ d. In d (c ∷ []))
 one_listed c = record { ascending = (tt, tt); sound = λ d i. i; complete = λ d i. i }
 
 pub where_binds : WhereBinds

@@ -12,7 +12,7 @@ use Rattle.rdx_lang.specs.RepetitionExamples.{empty_list, in_turns, both_bound}
 use Rattle.rdx_lang.specs.RepetitionExamples as patterns
 use Rattle.rdx_lang.specs.Templates.{Template, lit, var, fill, seq, nil, one, many}
 use Rattle.rdx_eval.specs.Answers.{Answer, value, fault, not_context, lengths_differ}
-use Rattle.rdx_eval.specs.Calls.{calls_at}
+use Rattle.rdx_eval.specs.Heights.{calls_at}
 use Rattle.rdx_eval.specs.Extending.{Extend}
 use Rattle.rdx_eval.specs.Instantiation.{Makes}
 

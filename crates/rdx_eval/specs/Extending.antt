@@ -1,6 +1,6 @@
 -- Extras: what a binding has to meet, one after the other, each over all bindings found so far, in ascending order. A name that an extra
 -- binds again has to have an equal value.
-use Rattle.std.specs.Prelude.{◌≡◌, List, [], ◌∷◌, Option, Some, None}
+use Rattle.std.specs.Prelude.{◌≡◌, List, [], ◌∷◌, Option, Some, None, if◌then◌else◌}
 use Rattle.rdx_term.specs.Tree.{Tree}
 use Rattle.rdx_lang.specs.Bindings.{Binding}
 use Rattle.rdx_lang.specs.Join.{IsJoin}
@@ -8,10 +8,11 @@ use Rattle.rdx_lang.specs.Listing.{Matches}
 use Rattle.rdx_lang.specs.Members.{In}
 use Rattle.rdx_lang.specs.Order.{binding_cmp}
 use Rattle.rdx_lang.specs.Patterns.{Pattern, Language}
-use Rattle.rdx_lang.specs.Programs.{Extra, such_as}
+use Rattle.rdx_lang.specs.Programs.{Extra, such_as, provided}
+use Rattle.rdx_lang.specs.Rules.{Match}
 use Rattle.rdx_eval.specs.Answers.{Answer, value, Then, Gather, Lists}
 use Rattle.rdx_eval.specs.Calls.{Calls}
-use Rattle.rdx_eval.specs.Instantiation.{Makes}
+use Rattle.rdx_eval.specs.Instantiation.{Makes, HostMakes, is_false}
 
 -- cs has the joins of b with those of ds with which it has one, in order
 pub data Joins (b : Binding) : List Binding → List Binding → Type 0 where
@@ -23,9 +24,14 @@ pub data Joins (b : Binding) : List Binding → List Binding → Type 0 where
 pub data Matched (L : Language) (p : Pattern) (b : Binding) (t : Tree) : Answer (List Binding) → Type 0 where
   matched : {ds cs : List Binding} → Matches L p t ds → Joins b ds cs → Matched L p b t (value cs)
 
+-- the binding alone, unless the term is false
+abbrev pub unless_false : Tree → Binding → List Binding
+unless_false t b = if is_false t then [] else b ∷ []
+
 -- what an extra makes of one binding, where w is the whole term that fresh names avoid
 abbrev pub By : Language → Calls → Tree → Extra → Binding → Answer (List Binding) → Type 0
 By L C w (such_as p t) b = Then (Makes C b t) (Matched L p b)
+By L C w (provided h) b = Then (HostMakes C b h) (λ t r. r ≡ value (unless_false t b))
 
 -- what an extra makes of all bindings, ascending and each once
 abbrev pub ByEach : Language → Calls → Tree → Extra → List Binding → Answer (List Binding) → Type 0
@@ -36,7 +42,11 @@ abbrev pub Extend : Language → Calls → Tree → List Extra → List Binding 
 Extend L C w [] bs = λ r. r ≡ value bs
 Extend L C w (e ∷ es) bs = Then (ByEach L C w e bs) (Extend L C w es)
 
--- the same over a language, where there is one
+-- the bindings by which p matches t that meet the extras; t is the whole term
+abbrev pub Survivors : Language → Calls → Tree → Pattern → List Extra → Answer (List Binding) → Type 0
+Survivors L C t p es = Then (Lists binding_cmp (Match L p t)) (Extend L C t es)
+
+-- what extras make of bindings over a language, where there is one
 abbrev pub ExtendOver : Option Language → Calls → Tree → List Extra → List Binding → Answer (List Binding) → Type 0
 ExtendOver None C w es bs r = ⊥
 ExtendOver (Some L) C w es bs r = Extend L C w es bs r

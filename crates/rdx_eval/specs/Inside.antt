@@ -1,3 +1,5 @@
 pub mod Parts
-pub mod Languages
+pub mod Metafunctions
 pub mod Sequences
+pub mod Scopes
+pub mod Stops

@@ -4,7 +4,11 @@ pub mod Calls
 pub mod Turns
 pub mod Instantiation
 pub mod Extending
+pub mod Metafunctions
+pub mod Languages
+pub mod Heights
 pub mod Views
 pub mod Laws
 pub mod Examples
+pub mod CallExamples
 pub mod Inside

@@ -1,19 +1,26 @@
 // The engine's calls.
 ghost use Rattle.std.specs.Prelude.{◌≡◌};
 
-use crate::EvalFault;
-use crate::extending::extend;
-use crate::instantiation::instantiate;
 use crate::lookup::language_named;
-use rdx_lang::{Binding, CheckedLang, CheckedPat, Extra, Matcher, Program, Split, Template};
+use crate::room::Room;
+use crate::scope::{Scope, Setting};
+use crate::{EvalFault, evaluation};
+use rdx_delta::HostTable;
+use rdx_lang::{
+    Binding, CheckedLang, CheckedPat, Extra, HostExpr, Matcher, Program, Split, Template,
+};
 use rdx_term::{Name, NoMemory, Term};
 use std::alloc::Global;
 
-/// A program, with a matcher.
+/// How high calls may stand on calls.
+const HEIGHT: usize = 400;
+
+/// A program, with the table of host operations and a matcher.
 #[derive(Drop)]
 pub struct Engine<'a, M: Drop> {
     alloc: Global,
     program: &'a Program,
+    host: &'a HostTable,
     matcher: M,
 }
 
@@ -25,20 +32,37 @@ impl<'a, M: Matcher + Drop> Engine<'a, M> {
     ghost use Rattle.rdx_lang.specs.ProgramView.{program_of, extras_of};
     ghost use Rattle.rdx_lang.specs.Programs.{language_named};
     ghost use Rattle.rdx_lang.specs.Shown.{binding_of, bindings_of, decompositions_of};
-    ghost use Rattle.rdx_lang.specs.TemplateView.{template_of};
-    ghost use Rattle.rdx_eval.specs.Calls.{calls_at, height};
+    ghost use Rattle.rdx_lang.specs.TemplateView.{template_of, host_of};
+    ghost use Rattle.rdx_eval.specs.Heights.{calls_at, height};
     ghost use Rattle.rdx_eval.specs.Extending.{ExtendOver};
-    ghost use Rattle.rdx_eval.specs.Instantiation.{Makes};
+    ghost use Rattle.rdx_eval.specs.Instantiation.{Makes, HostMakes};
     ghost use Rattle.rdx_eval.specs.Views.{Says, bindings_in};
 
-    /// An engine for this program, with this matcher.
-    pub fn new(alloc: Global, program: &'a Program, matcher: M) -> Engine<'a, M>
+    /// An engine for this program, with this table of host operations and this matcher.
+    pub fn new(
+        alloc: Global,
+        program: &'a Program,
+        host: &'a HostTable,
+        matcher: M,
+    ) -> Engine<'a, M>
         ensures { result.program ≡ program.entry }
     {
         Engine {
             alloc,
             program,
+            host,
             matcher,
+        }
+    }
+
+    // What stays the same in an evaluation.
+    fn setting(&self) -> Setting<'a, HostTable>
+        ensures { result.program ≡ self.now.program }
+    {
+        Setting {
+            alloc: self.alloc,
+            program: self.program,
+            host: self.host,
         }
     }
 
@@ -83,7 +107,44 @@ impl<'a, M: Matcher + Drop> Engine<'a, M> {
             (binding_of b.now) (template_of t.now)) result }
         ensures same { self.new.program ≡ self.old.program }
     {
-        instantiate(self.alloc, t, b, &[])
+        let setting = self.setting();
+        let scope = Scope {
+            setting: &setting,
+            height: HEIGHT,
+            b,
+            turns: &[],
+        };
+        let room = Room::whole();
+        Ok(evaluation::instantiate(&scope, &mut self.matcher, room, t)?)
+    }
+
+    /// What the host expression makes of the binding, or the first fault.
+    pub fn host(&mut self, h: &HostExpr, b: &Binding) -> Result<Term, EvalFault>
+        ensures answer { Says tree_of (HostMakes (calls_at (program_of self.old.program.now) height)
+            (binding_of b.now) (host_of h.now)) result }
+        ensures same { self.new.program ≡ self.old.program }
+    {
+        let setting = self.setting();
+        let scope = Scope {
+            setting: &setting,
+            height: HEIGHT,
+            b,
+            turns: &[],
+        };
+        let room = Room::whole();
+        Ok(evaluation::evaluate(&scope, &mut self.matcher, room, h)?)
+    }
+
+    /// The value of the metafunction of this name for the list of arguments, or the first fault. A
+    /// name that the program has no metafunction of is undefined for all arguments.
+    pub fn call(&mut self, f: &Name, args: &Term) -> Result<Term, EvalFault>
+        ensures answer { Says tree_of ((calls_at (program_of self.old.program.now) height).value_of
+            f.now (tree_of args.now)) result }
+        ensures same { self.new.program ≡ self.old.program }
+    {
+        let setting = self.setting();
+        let room = Room::whole();
+        Ok(evaluation::call(&setting, &mut self.matcher, room, HEIGHT, f, args)?)
     }
 
     /// Which bindings the extras make of these, one extra after the other, in a language of the
@@ -102,9 +163,19 @@ impl<'a, M: Matcher + Drop> Engine<'a, M> {
             (extras_of extras.now) (bindings_in found)) result }
         ensures same { self.new.program ≡ self.old.program }
     {
-        let Some(checked) = language_named(self.program, language) else {
+        let Some(language) = language_named(self.program, language) else {
             unreachable!()
         };
-        extend(self.alloc, checked, &mut self.matcher, extras, found)
+        let setting = self.setting();
+        let room = Room::whole();
+        Ok(evaluation::extend(
+            &setting,
+            &mut self.matcher,
+            room,
+            HEIGHT,
+            language,
+            extras,
+            found,
+        )?)
     }
 }

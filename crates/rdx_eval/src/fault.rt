@@ -1,11 +1,19 @@
 // Why there is no value.
 
-use rdx_term::NoMemory;
+use rdx_lang::HostOp;
+use rdx_term::{Name, NoMemory, Term};
 use std::alloc::{AllocError, AllocFailed};
 
 /// A fault of an evaluation.
 #[derive(Drop)]
 pub enum Fault {
+    /// No clause of the metafunction takes these arguments.
+    Undefined(Name, Term),
+    /// The clause of the metafunction that takes these arguments makes several values of them, of
+    /// which these two are the least.
+    Ambiguous(Name, Term, Term, Term),
+    /// Calls stand on calls higher than 400, this metafunction's on top.
+    Spent(Name),
     /// What was to be filled is no context; it has so many holes.
     NotContext(u32),
     /// A term would be deeper than 500.
@@ -15,6 +23,13 @@ pub enum Fault {
     /// Two sequences of these lengths drive one ellipsis: that of the name that is written first,
     /// and the first other one.
     Lengths(usize, usize),
+    /// The operation takes another number of arguments, or has one that is no integer where it wants
+    /// integers.
+    HostDomain(HostOp, Vec<Term>),
+    /// The operation leaves the integers of 128 bits.
+    Overflow(HostOp, Vec<Term>),
+    /// The operation divides by zero.
+    DivideByZero(HostOp, Vec<Term>),
 }
 
 /// Why there is no answer.

@@ -1,14 +1,28 @@
 //! Laws of evaluation: functions that do nothing, whose contracts are the laws.
-ghost use Rattle.rdx_eval.specs.Laws.{OneTerm, SomeTerm, OneExtension, SomeExtension};
+ghost use Rattle.rdx_eval.specs.Laws.{OneValue, SomeValue, ValuesStay, OneTerm, SomeTerm, OneExtension, SomeExtension};
+ghost use Rattle.rdx_eval.specs.CallExamples.{RemainderOfNegative, CutTowardZero, WrongKind, ByZero, AndStops, AndGivesTheLast, NothingToFail, OrStops, NothingHolds, FalseTakesAway, ZeroIsTrue, SpentAtNone, NotThere};
 ghost use Rattle.rdx_eval.specs.Examples.{OneTurn, TwoLengths, OtherWayRound, NoTurn, SideBySide, InnermostTurns, TurnsInTurns, Unbound, NoContext, ContextFirst, WhereBinds, WhereMeets};
 
-/// A template makes of a binding one term, or has one fault.
+/// A call has one value, or one fault, where the program's languages are free of left recursion.
+pub fn one_value()
+    ensures one { OneValue }
+    ensures some { SomeValue }
+{}
+
+/// The value of a call, or its fault, is the same at every greater height, unless the height was
+/// spent.
+pub fn values_stay()
+    ensures stay { ValuesStay }
+{}
+
+/// A template makes of a binding one term, or has one fault, where the program's languages are free
+/// of left recursion.
 pub fn one_term()
     ensures one { OneTerm }
     ensures some { SomeTerm }
 {}
 
-/// Extras make one list of some bindings, or have one fault, in a language that is free of left
+/// Extras make one list of some bindings, or have one fault, in languages that are free of left
 /// recursion.
 pub fn one_extension()
     ensures one { OneExtension }
@@ -29,4 +43,22 @@ pub fn worked_examples()
     ensures context_first { ContextFirst }
     ensures where_binds { WhereBinds }
     ensures where_meets { WhereMeets }
+{}
+
+/// Worked examples: what host expressions make, which bindings side conditions leave, and calls at no
+/// height and of nothing.
+pub fn worked_calls()
+    ensures remainder_of_negative { RemainderOfNegative }
+    ensures cut_toward_zero { CutTowardZero }
+    ensures wrong_kind { WrongKind }
+    ensures by_zero { ByZero }
+    ensures and_stops { AndStops }
+    ensures and_gives_the_last { AndGivesTheLast }
+    ensures nothing_to_fail { NothingToFail }
+    ensures or_stops { OrStops }
+    ensures nothing_holds { NothingHolds }
+    ensures false_takes_away { FalseTakesAway }
+    ensures zero_is_true { ZeroIsTrue }
+    ensures spent_at_none { SpentAtNone }
+    ensures not_there { NotThere }
 {}

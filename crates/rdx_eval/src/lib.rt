@@ -1,21 +1,30 @@
-//! Evaluation: what templates make of bindings, and which bindings meet extras.
+//! Evaluation: what templates make of bindings, what host expressions and metafunctions make of
+//! terms, and which bindings meet extras.
 //!
-//! An [`Engine`] evaluates over a program, with a matcher of any kind. What is answered is said by
-//! relations with the answer last (`specs/Answers.antt`): a value, or the first [`Fault`] in the
-//! order in which things are written. Each allows one answer at most, and [`laws`] has that there
-//! is one.
+//! An [`Engine`] evaluates over a program, with a table of host operations and a matcher of any
+//! kind. What is answered is said by relations with the answer last (`specs/Answers.antt`): a value,
+//! or the first [`Fault`] in the order in which things are written. Each allows one answer at most,
+//! and [`laws`] has that there is one. Calls stand on calls 400 high at most; a call that is higher
+//! is a fault.
 #![tactic(auto)]
 
 mod engine;
+mod evaluation;
 mod extending;
 mod fault;
-mod instantiation;
+mod host;
 pub mod laws;
 mod lookup;
 mod making;
+mod room;
+mod scope;
+mod stop;
+mod stopping;
 #[cfg(test)]
 mod tests;
 mod turns;
+mod values;
 
 pub use engine::Engine;
 pub use fault::{EvalFault, Fault};
+pub use lookup::language_named;

@@ -1,12 +1,83 @@
-// A template with many turns, and what is made after a fault.
-use crate::instantiation::instantiate;
-use crate::{EvalFault, Fault};
+// What an engine makes of templates, host expressions and calls that need no matcher.
+use crate::{Engine, EvalFault, Fault};
 use rdx_bind::one;
-use rdx_lang::{Binding, TItem, Template, Value};
+use rdx_delta::{
+    HostEntry, HostTable, host_add, host_add1, host_eq, host_equal, host_ge, host_gt, host_is_zero,
+    host_le, host_lt, host_mul, host_not, host_quotient, host_remainder, host_sub, host_sub1,
+};
+use rdx_lang::{
+    Binding, CheckedLang, CheckedPat, HostExpr, HostOp, Matcher, Program, Split, TItem, Template,
+    Value,
+};
 use rdx_term::{Name, NoMemory, Term};
 use std::alloc::Global;
+use std::process::Abort;
 use std::rc::RcStr;
 use std::test::Fail;
+
+// A matcher that is never asked.
+#[derive(Drop)]
+struct Unasked;
+
+impl Matcher for Unasked {
+    fn matches(
+        &mut self,
+        _language: &CheckedLang,
+        _pat: &CheckedPat,
+        _t: &Term,
+    ) -> Result<Vec<Binding>, NoMemory> {
+        Err(NoMemory)
+    }
+
+    fn splits(
+        &mut self,
+        _language: &CheckedLang,
+        _pat: &CheckedPat,
+        _t: &Term,
+    ) -> Result<Vec<Split>, NoMemory> {
+        Err(NoMemory)
+    }
+}
+
+// The table of all operations.
+fn table<R: Abort + AllocGlobal>(rt: &R) -> Result<HostTable, Fail> {
+    let entries = Vec::from_array(
+        rt.alloc(),
+        [
+            HostEntry::new(HostOp::Add, host_add),
+            HostEntry::new(HostOp::Sub, host_sub),
+            HostEntry::new(HostOp::Mul, host_mul),
+            HostEntry::new(HostOp::Quotient, host_quotient),
+            HostEntry::new(HostOp::Remainder, host_remainder),
+            HostEntry::new(HostOp::Add1, host_add1),
+            HostEntry::new(HostOp::Sub1, host_sub1),
+            HostEntry::new(HostOp::Eq, host_eq),
+            HostEntry::new(HostOp::Lt, host_lt),
+            HostEntry::new(HostOp::Le, host_le),
+            HostEntry::new(HostOp::Gt, host_gt),
+            HostEntry::new(HostOp::Ge, host_ge),
+            HostEntry::new(HostOp::IsZero, host_is_zero),
+            HostEntry::new(HostOp::Equal, host_equal),
+            HostEntry::new(HostOp::Not, host_not),
+        ],
+    );
+    let Ok(entries) = entries else {
+        panic!(rt; "entries")
+    };
+    match HostTable::new(entries) {
+        Ok(table) => Ok(table),
+        Err(_) => panic!(rt; "a table"),
+    }
+}
+
+// A program that defines nothing.
+fn nothing(alloc: Global) -> Program {
+    Program {
+        languages: Vec::new(alloc),
+        metafunctions: Vec::new(alloc),
+        relations: Vec::new(alloc),
+    }
+}
 
 fn name(alloc: Global) -> Result<Name, NoMemory> {
     Name::new(RcStr::from_str(alloc, "any_1")?).ok_or(NoMemory)
@@ -33,6 +104,15 @@ fn each(alloc: Global) -> Result<Template, NoMemory> {
     list_of(alloc, TItem::Many(inner))
 }
 
+// So many lists of one list around 1.
+fn nested(alloc: Global, depth: usize) -> Result<Template, NoMemory> {
+    let mut template = Template::Lit(Term::Int(1));
+    for _ in 0..depth {
+        template = list_of(alloc, TItem::One(template))?;
+    }
+    Ok(template)
+}
+
 // `(in-hole 1 1)`
 fn one_in_one(alloc: Global) -> Result<Template, NoMemory> {
     let context = Box::new(alloc, Template::Lit(Term::Int(1)))?;
@@ -40,21 +120,45 @@ fn one_in_one(alloc: Global) -> Result<Template, NoMemory> {
     Ok(Template::Fill(context, part))
 }
 
+// `(+ 1 2)`
+fn sum(alloc: Global) -> Result<HostExpr, NoMemory> {
+    let mut args = Vec::new(alloc);
+    args.push(HostExpr::Int(1))?;
+    args.push(HostExpr::Int(2))?;
+    Ok(HostExpr::Call(HostOp::Add, args))
+}
+
 #[test]
 fn many_turns(rt: HostRuntime) -> Result<(), Fail> {
     let alloc = rt.alloc();
-    let made = instantiate(alloc, &each(alloc)?, &ones(alloc, 10_000)?, &[]);
+    let (program, host) = (nothing(alloc), table(&rt)?);
+    let mut engine = Engine::new(alloc, &program, &host, Unasked);
+    let made = engine.instantiate(&each(alloc)?, &ones(alloc, 10_000)?);
     assert!(rt; made.is_ok_and(|t| t.nodes() == 20_001));
+    Ok(())
+}
+
+#[test]
+fn deep_template(rt: HostRuntime) -> Result<(), Fail> {
+    let alloc = rt.alloc();
+    let (program, host) = (nothing(alloc), table(&rt)?);
+    let mut engine = Engine::new(alloc, &program, &host, Unasked);
+    let made = engine.instantiate(&nested(alloc, 500)?, &ones(alloc, 0)?);
+    assert!(rt; made.is_ok_and(|t| t.depth() == 500));
     Ok(())
 }
 
 #[test]
 fn after_a_fault(rt: HostRuntime) -> Result<(), Fail> {
     let alloc = rt.alloc();
+    let (program, host) = (nothing(alloc), table(&rt)?);
+    let mut engine = Engine::new(alloc, &program, &host, Unasked);
     let b = ones(alloc, 3)?;
-    let refused = instantiate(alloc, &one_in_one(alloc)?, &b, &[]);
+    let refused = engine.instantiate(&one_in_one(alloc)?, &b);
     assert!(rt; matches!(refused, Err(EvalFault::Named(Fault::NotContext(0)))));
-    let made = instantiate(alloc, &each(alloc)?, &b, &[]);
-    assert!(rt; made.is_ok_and(|t| t.nodes() == 7));
+    let undefined = engine.call(&name(alloc)?, &Term::Int(1));
+    assert!(rt; matches!(undefined, Err(EvalFault::Named(Fault::Undefined(_, _)))));
+    let made = engine.host(&sum(alloc)?, &b);
+    assert!(rt; matches!(made, Ok(Term::Int(3))));
     Ok(())
 }

@@ -1,19 +1,21 @@
 // What names stand for under ellipses, and how many turns an ellipsis takes.
-ghost use Rattle.std.specs.Prelude.{◌≡◌, ◌++◌, suc, map, IfOk, OnOk};
+ghost use Rattle.std.specs.Prelude.{◌≡◌, ◌∷◌, ◌++◌, [], suc, map, IfOk, OnOk};
 ghost use Rattle.rdx_term.specs.View.{tree_of};
 ghost use Rattle.rdx_lang.specs.Bindings.{value_at, values};
 ghost use Rattle.rdx_lang.specs.BindingView.{found_value, value_of};
 ghost use Rattle.rdx_lang.specs.Shown.{binding_of};
 ghost use Rattle.rdx_lang.specs.Templates.{var};
-ghost use Rattle.rdx_lang.specs.TemplateView.{template_of, part_of};
-ghost use Rattle.rdx_eval.specs.Inside.Parts.{items_in, part_lengths};
+ghost use Rattle.rdx_lang.specs.TemplateView.{template_of, part_of, host_of};
+ghost use Rattle.rdx_eval.specs.Inside.Parts.{items_in, hosts_in, part_lengths};
 ghost use Rattle.rdx_eval.specs.Inside.Sequences.{sequence};
+ghost use Rattle.rdx_eval.specs.Inside.Stops.{Tells};
 ghost use Rattle.rdx_eval.specs.Instantiation.{agree};
 ghost use Rattle.rdx_eval.specs.Turns as model;
-ghost use Rattle.rdx_eval.specs.Views.{Says};
 
-use crate::{EvalFault, Fault};
-use rdx_lang::{Binding, TItem, Template, Value};
+use crate::Fault;
+use crate::stop::Stop;
+use crate::stopping::stopped;
+use rdx_lang::{Binding, HostExpr, TItem, Template, Value};
 use rdx_term::{Name, NoMemory, Term};
 use std::alloc::Global;
 
@@ -58,6 +60,7 @@ fn in_turns<'a>(b: &'a Binding, name: &Name, turns: &[usize]) -> Option<&'a Valu
 
 /// The term that a name of this depth stands for in these turns. A name that stands for no term is
 /// itself.
+#[inline(never)]
 pub(crate) fn term_for(
     b: &Binding,
     name: &Name,
@@ -131,6 +134,8 @@ fn add_lengths(
             add_lengths(context, b, turns, inside, out)?;
             add_lengths(part, b, turns, inside, out)
         }
+        Template::Call(_, items) => add_all_lengths(items, b, turns, inside, out),
+        Template::Host(h) => add_host_lengths(h, b, turns, inside, out),
         Template::Seq(items) => add_all_lengths(items, b, turns, inside, out),
     }
 }
@@ -171,32 +176,84 @@ fn add_item_lengths(
     }
 }
 
+// Adds those in a host expression.
+#[cycle(lengths)]
+fn add_host_lengths(
+    h: &HostExpr,
+    b: &Binding,
+    turns: &[usize],
+    inside: usize,
+    out: &mut Vec<usize>,
+) -> Result<(), NoMemory>
+    ensures { OnOk result (out.new.items ≡ out.old.items
+        ++ model.host_lengths (binding_of b.now) turns.now inside (host_of h.now)) }
+{
+    match h {
+        HostExpr::Term(template) => add_lengths(template, b, turns, inside, out),
+        HostExpr::Int(_) => Ok(()),
+        HostExpr::Bool(_) => Ok(()),
+        HostExpr::Call(_, hs) => add_hosts_lengths(hs, b, turns, inside, out),
+        HostExpr::And(hs) => add_hosts_lengths(hs, b, turns, inside, out),
+        HostExpr::Or(hs) => add_hosts_lengths(hs, b, turns, inside, out),
+    }
+}
+
+// Adds those in host expressions.
+#[cycle(lengths)]
+fn add_hosts_lengths(
+    hs: &[HostExpr],
+    b: &Binding,
+    turns: &[usize],
+    inside: usize,
+    out: &mut Vec<usize>,
+) -> Result<(), NoMemory>
+    ensures { OnOk result (out.new.items ≡ out.old.items
+        ++ model.hosts_lengths (binding_of b.now) turns.now inside (hosts_in hs.now)) }
+{
+    for h in hs {
+        add_host_lengths(h, b, turns, inside, out)?;
+    }
+    Ok(())
+}
+
 // The length that all have.
-fn agreed(lengths: &[usize]) -> Result<usize, EvalFault>
-    ensures { Says (λ n. n) (λ r. r ≡ agree lengths.now) result }
+fn agreed(alloc: Global, lengths: &[usize]) -> Result<usize, Stop>
+    ensures { Tells (λ n. n) (λ r. r ≡ agree lengths.now) result }
 {
     let [first, ..] = lengths else {
         return Ok(0);
     };
     for other in lengths {
         if *other != *first {
-            return Err(EvalFault::Named(Fault::Lengths(*first, *other)));
+            return Err(stopped(alloc, Fault::Lengths(*first, *other)));
         }
     }
     Ok(*first)
 }
 
+/// The turns with one more inside.
+#[inline(never)]
+pub(crate) fn with_turn(alloc: Global, turns: &[usize], turn: usize) -> Result<Vec<usize>, NoMemory>
+    ensures { IfOk result (λ inner. inner.items ≡ turns.now ++ turn ∷ []) }
+{
+    let mut inner = Vec::with_capacity(alloc, turns.len())?;
+    inner.extend_from_slice(turns)?;
+    inner.push(turn)?;
+    Ok(inner)
+}
+
 /// How many turns an ellipsis takes around the template, inside these turns.
+#[inline(never)]
 pub(crate) fn turns_around(
     alloc: Global,
     template: &Template,
     b: &Binding,
     turns: &[usize],
-) -> Result<usize, EvalFault>
-    ensures { Says (λ n. n) (λ r. r ≡ agree (model.lengths (binding_of b.now) turns.now 0
+) -> Result<usize, Stop>
+    ensures { Tells (λ n. n) (λ r. r ≡ agree (model.lengths (binding_of b.now) turns.now 0
         (template_of template.now))) result }
 {
     let mut lengths = Vec::new(alloc);
     add_lengths(template, b, turns, 0, &mut lengths)?;
-    agreed(&lengths)
+    agreed(alloc, &lengths)
 }

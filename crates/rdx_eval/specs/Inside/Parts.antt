@@ -2,8 +2,9 @@
 use Rattle.std.specs.Prelude.{ℕ, suc, List, [], ◌∷◌, ◌++◌, map}
 use Rattle.rdx_term.specs.Tree.{Tree}
 use Rattle.rdx_lang.specs.Bindings.{Binding}
-use Rattle.rdx_lang.specs.Templates.{Template, Items}
-use Rattle.rdx_lang.specs.TemplateView.{Part, just, repeated, items_of, part_of}
+use Rattle.rdx_lang.specs.Templates.{Template, Items, Hosts}
+use Rattle.rdx_lang.specs.TemplateView.{Part, just, repeated, items_of, part_of, host_of, hosts_of}
+use Rattle.rdx_lang.specs.declared.template.HostExpr.{HostExpr}
 use Rattle.rdx_lang.specs.declared.template.TItem.{TItem}
 use Rattle.rdx_eval.specs.Answers.{Answer, Single}
 use Rattle.rdx_eval.specs.Calls.{Calls}
@@ -13,6 +14,10 @@ use Rattle.rdx_eval.specs.Turns.{lengths}
 -- the items that items of the code stand for, in their order
 abbrev pub items_in : List TItem → Items
 items_in items = items_of (map part_of items)
+
+-- the host expressions that those of the code stand for, in their order
+abbrev pub hosts_in : List HostExpr → Hosts
+hosts_in hs = hosts_of (map host_of hs)
 
 -- what an item under an ellipsis makes
 abbrev pub Repeats : Calls → Binding → List ℕ → Template → Answer (List Tree) → Type 0

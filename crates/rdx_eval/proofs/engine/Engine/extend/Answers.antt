@@ -1,16 +1,31 @@
-use Rattle.std.proofs.Common.{Option, subst}
+use Rattle.std.proofs.Common.{Option, Some, subst}
+use Rattle.std.specs.Borrow.{Bor}
+use Rattle.std.specs.Prelude.{Err}
+use Rattle.rdx_term.specs.Tree.{Tree}
 use Rattle.rdx_term.specs.View.{tree_of}
+use Rattle.rdx_lang.specs.Checked.{language_in}
 use Rattle.rdx_lang.specs.Patterns.{Language}
 use Rattle.rdx_lang.specs.ProgramView.{extras_of, program_of}
-use Rattle.rdx_lang.specs.Programs.{Program}
-use Rattle.rdx_eval.specs.Calls.{calls_at, height}
+use Rattle.rdx_lang.specs.Programs.{language_named}
+use Rattle.rdx_lang.specs.declared.program.Program as code_program
 use Rattle.rdx_eval.specs.Extending.{ExtendOver}
-use Rattle.rdx_eval.specs.Views.{Says, bindings_in}
+use Rattle.rdx_eval.specs.Heights.{calls_at, height}
+use Rattle.rdx_eval.specs.Inside.Stops.{Tells}
+use Rattle.rdx_eval.specs.Views.{bindings_in}
+use Rattle.rdx_eval.proofs.HandedOn.{told_on}
 use Rattle.rdx_eval.proofs.engine.Engine.extend.Goals as goal
 
-pub returns-clause-answer : goal.returns-clause-answer
-returns-clause-answer g c =
-    let P : Program = program_of c.args.self.now.program.now in
-    subst (λ (L : Option Language). Says bindings_in
-    (ExtendOver L (calls_at P height) (tree_of c.args.whole.now) (extras_of c.args.extras.now) (bindings_in c.args.found)) c.extend.result)
-    c.in-Some.ensures (c.extend.ensures P height (tree_of c.args.whole.now))
+pub returns-in_err-extend-clause-answer : goal.returns-in_err-extend-clause-answer
+returns-in_err-extend-clause-answer g c =
+    let p = c.args.self.now.program in
+    let w : Tree = tree_of c.args.whole.now in
+    told_on bindings_in bindings_in
+    (ExtendOver (language_named (program_of p.now) c.args.language.now) (calls_at (program_of p.now) height) w (extras_of c.args.extras.now)
+    (bindings_in c.args.found)) c.from_residual.result c.in_err-extend.field-0.0 c.from_residual.ensures.1
+    (subst (λ (L : Option Language). Tells bindings_in
+    (ExtendOver L (calls_at (program_of p.now) height) w (extras_of c.args.extras.now) (bindings_in c.args.found)) (Err c.in_err-extend.field-0.0))
+    c.in-Some.ensures
+    (subst (λ (q : Bor code_program.Program). Tells bindings_in
+    (ExtendOver (Some (language_in c.in-Some.language.now)) (calls_at (program_of q.now) height) w (extras_of c.args.extras.now) (bindings_in c.args.found))
+    (Err c.in_err-extend.field-0.0))
+    c.setting-setting.ensures (c.in_err-extend.ensures w)))

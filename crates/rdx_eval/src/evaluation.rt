@@ -1,0 +1,437 @@
+// Evaluation: one recursion over templates, host expressions, calls and extras. How deep it goes is
+// counted, and each function of it has less room than the one that called it. Since each takes of
+// the machine's stack, what it holds is kept small: none is put into another, and what calls none
+// of them stands by itself.
+ghost use Rattle.std.specs.Prelude.{◌≤◌, length, true};
+ghost use Rattle.rdx_term.specs.Tree.{Tree, truth};
+ghost use Rattle.rdx_term.specs.View.{tree_of};
+ghost use Rattle.rdx_lang.specs.Checked.{language_in};
+ghost use Rattle.rdx_lang.specs.ProgramView.{clauses_of, extra_of, extras_of};
+ghost use Rattle.rdx_lang.specs.Shown.{binding_of, bindings_of};
+ghost use Rattle.rdx_lang.specs.Templates.{fill, call as calling, apply as applied};
+ghost use Rattle.rdx_lang.specs.TemplateView.{template_of, host_of};
+ghost use Rattle.rdx_eval.specs.Answers.{Then};
+ghost use Rattle.rdx_eval.specs.Extending.{By, ByEach, Extend};
+ghost use Rattle.rdx_eval.specs.Inside.Parts.{items_in, hosts_in, Repeats};
+ghost use Rattle.rdx_eval.specs.Inside.Scopes.{calls_in, calls_here, bound_here, turns_here};
+ghost use Rattle.rdx_eval.specs.Inside.Stops.{Tells};
+ghost use Rattle.rdx_eval.specs.Instantiation.{Inst, InstItems, InstHost, FirstFalse, FirstTrue};
+ghost use Rattle.rdx_eval.specs.Making.{IsList};
+ghost use Rattle.rdx_eval.specs.Metafunctions.{Clauses, Results};
+ghost use Rattle.rdx_eval.specs.Views.{terms_in, bindings_in};
+
+use crate::extending::{found_by, listed_bindings, matched, unless_false};
+use crate::host::{Host, is_false, operate};
+use crate::lookup::{language_named, metafunction_named};
+use crate::making::{filled, listed};
+use crate::room::Room;
+use crate::scope::{Scope, Setting};
+use crate::stop::Stop;
+use crate::stopping::{spent, undefined};
+use crate::turns::{term_for, turns_around, with_turn};
+use crate::values::one_of;
+use rdx_lang::{Binding, CheckedLang, Clause, Extra, HostExpr, HostOp, Matcher, TItem, Template};
+use rdx_term::{Name, Term};
+
+/// What the template makes in the scope.
+#[cycle(evaluation)]
+#[inline(never)]
+pub(crate) fn instantiate<M: Matcher, H: Host>(
+    scope: &Scope<H>,
+    matcher: &mut M,
+    room: Room,
+    template: &Template,
+) -> Result<Term, Stop>
+    ensures { Tells tree_of (Inst (calls_here scope.now) (bound_here scope.now)
+        (turns_here scope.now)
+        (template_of template.now)) result }
+{
+    let room = room.inside()?;
+    match template {
+        Template::Lit(t) => Ok(t.share()?),
+        Template::Var(name, depth) => Ok(term_for(scope.b, name, *depth, scope.turns)?),
+        Template::Fill(context, part) => fill_in(scope, matcher, room, context, part),
+        Template::Call(f, items) => call_with(scope, matcher, room, f, items),
+        Template::Host(h) => evaluate(scope, matcher, room, h),
+        Template::Seq(items) => instantiate_list(scope, matcher, room, items),
+    }
+}
+
+// The context that the first template makes, filled with what the second makes.
+#[cycle(evaluation)]
+#[inline(never)]
+fn fill_in<M: Matcher, H: Host>(
+    scope: &Scope<H>,
+    matcher: &mut M,
+    room: Room,
+    context: &Template,
+    part: &Template,
+) -> Result<Term, Stop>
+    ensures { Tells tree_of (Inst (calls_here scope.now) (bound_here scope.now)
+        (turns_here scope.now)
+        (fill (template_of context.now) (template_of part.now))) result }
+{
+    let room = room.inside()?;
+    let around = instantiate(scope, matcher, room, context)?;
+    let within = instantiate(scope, matcher, room, part)?;
+    filled(scope.setting.alloc, &around, &within)
+}
+
+// The value of the metafunction of this name for the list of what the items make.
+#[cycle(evaluation)]
+#[inline(never)]
+fn call_with<M: Matcher, H: Host>(
+    scope: &Scope<H>,
+    matcher: &mut M,
+    room: Room,
+    f: &Name,
+    items: &[TItem],
+) -> Result<Term, Stop>
+    ensures { Tells tree_of (Inst (calls_here scope.now) (bound_here scope.now)
+        (turns_here scope.now)
+        (calling f.now (items_in items.now))) result }
+{
+    let room = room.inside()?;
+    let args = instantiate_list(scope, matcher, room, items)?;
+    call(scope.setting, matcher, room, scope.height, f, &args)
+}
+
+// The list of what the items make.
+#[cycle(evaluation)]
+#[inline(never)]
+fn instantiate_list<M: Matcher, H: Host>(
+    scope: &Scope<H>,
+    matcher: &mut M,
+    room: Room,
+    items: &[TItem],
+) -> Result<Term, Stop>
+    ensures { Tells tree_of (Then (InstItems (calls_here scope.now) (bound_here scope.now)
+        (turns_here scope.now)
+        (items_in items.now)) IsList) result }
+{
+    let room = room.inside()?;
+    let mut found = Vec::new(scope.setting.alloc);
+    for item in items {
+        match item {
+            TItem::One(template) => {
+                let t = instantiate(scope, matcher, room, template)?;
+                found.push(t)?;
+            }
+            TItem::Many(template) => {
+                let mut more = repeat(scope, matcher, room, template)?;
+                found.append(&mut more)?;
+            }
+        }
+    }
+    listed(scope.setting.alloc, found)
+}
+
+// What the template makes under one ellipsis more.
+#[cycle(evaluation)]
+#[inline(never)]
+fn repeat<M: Matcher, H: Host>(
+    scope: &Scope<H>,
+    matcher: &mut M,
+    room: Room,
+    template: &Template,
+) -> Result<Vec<Term>, Stop>
+    ensures { Tells terms_in (Repeats (calls_here scope.now) (bound_here scope.now)
+        (turns_here scope.now)
+        (template_of template.now)) result }
+{
+    let room = room.inside()?;
+    let times = turns_around(scope.setting.alloc, template, scope.b, scope.turns)?;
+    let mut found = Vec::new(scope.setting.alloc);
+    for turn in 0..times {
+        let turns = with_turn(scope.setting.alloc, scope.turns, turn)?;
+        let inner = Scope {
+            setting: scope.setting,
+            height: scope.height,
+            b: scope.b,
+            turns: &turns,
+        };
+        let t = instantiate(&inner, matcher, room, template)?;
+        found.push(t)?;
+    }
+    Ok(found)
+}
+
+/// What the host expression makes in the scope.
+#[cycle(evaluation)]
+#[inline(never)]
+pub(crate) fn evaluate<M: Matcher, H: Host>(
+    scope: &Scope<H>,
+    matcher: &mut M,
+    room: Room,
+    h: &HostExpr,
+) -> Result<Term, Stop>
+    ensures { Tells tree_of (InstHost (calls_here scope.now) (bound_here scope.now)
+        (turns_here scope.now)
+        (host_of h.now)) result }
+{
+    let room = room.inside()?;
+    match h {
+        HostExpr::Term(template) => instantiate(scope, matcher, room, template),
+        HostExpr::Int(n) => Ok(Term::Int(*n)),
+        HostExpr::Bool(v) => Ok(Term::Bool(*v)),
+        HostExpr::Call(op, hs) => apply(scope, matcher, room, *op, hs),
+        HostExpr::And(hs) => first_false(scope, matcher, room, hs),
+        HostExpr::Or(hs) => first_true(scope, matcher, room, hs),
+    }
+}
+
+// What the operation answers to what host expressions make.
+#[cycle(evaluation)]
+#[inline(never)]
+fn apply<M: Matcher, H: Host>(
+    scope: &Scope<H>,
+    matcher: &mut M,
+    room: Room,
+    op: HostOp,
+    hs: &[HostExpr],
+) -> Result<Term, Stop>
+    ensures { Tells tree_of (InstHost (calls_here scope.now) (bound_here scope.now)
+        (turns_here scope.now)
+        (applied op (hosts_in hs.now))) result }
+{
+    let room = room.inside()?;
+    let mut found = Vec::new(scope.setting.alloc);
+    for h in hs {
+        let t = evaluate(scope, matcher, room, h)?;
+        found.push(t)?;
+    }
+    operate(scope.setting.alloc, scope.setting.host, op, found)
+}
+
+// The first false among what host expressions make, or else the last.
+#[cycle(evaluation)]
+#[inline(never)]
+fn first_false<M: Matcher, H: Host>(
+    scope: &Scope<H>,
+    matcher: &mut M,
+    room: Room,
+    hs: &[HostExpr],
+) -> Result<Term, Stop>
+    ensures { Tells tree_of (FirstFalse (calls_here scope.now) (bound_here scope.now)
+        (turns_here scope.now)
+        (truth true) (hosts_in hs.now)) result }
+{
+    let room = room.inside()?;
+    let mut last = Term::Bool(true);
+    for h in hs {
+        last = evaluate(scope, matcher, room, h)?;
+        if is_false(&last) {
+            return Ok(last);
+        }
+    }
+    Ok(last)
+}
+
+// The first that is not false among what host expressions make.
+#[cycle(evaluation)]
+#[inline(never)]
+fn first_true<M: Matcher, H: Host>(
+    scope: &Scope<H>,
+    matcher: &mut M,
+    room: Room,
+    hs: &[HostExpr],
+) -> Result<Term, Stop>
+    ensures { Tells tree_of (FirstTrue (calls_here scope.now) (bound_here scope.now)
+        (turns_here scope.now)
+        (hosts_in hs.now)) result }
+{
+    let room = room.inside()?;
+    for h in hs {
+        let t = evaluate(scope, matcher, room, h)?;
+        if !is_false(&t) {
+            return Ok(t);
+        }
+    }
+    Ok(Term::Bool(false))
+}
+
+/// The value of the metafunction of this name for the list of arguments.
+#[cycle(evaluation)]
+#[inline(never)]
+pub(crate) fn call<M: Matcher, H: Host>(
+    setting: &Setting<H>,
+    matcher: &mut M,
+    room: Room,
+    height: usize,
+    f: &Name,
+    args: &Term,
+) -> Result<Term, Stop>
+    ensures { Tells tree_of ((calls_in setting.now height).value_of f.now (tree_of args.now))
+        result }
+{
+    let room = room.inside()?;
+    if height == 0 {
+        return Err(spent(setting.alloc, f)?);
+    }
+    let Some(metafunction) = metafunction_named(setting.program, f) else {
+        return Err(undefined(setting.alloc, f, args)?);
+    };
+    let Some(language) = language_named(setting.program, &metafunction.language) else {
+        return Err(undefined(setting.alloc, f, args)?);
+    };
+    let clauses = metafunction.clauses.as_slice();
+    by_clauses(
+        setting,
+        matcher,
+        room,
+        height - 1,
+        language,
+        clauses,
+        f,
+        args,
+    )
+}
+
+// What the clauses of a metafunction make of the arguments: the first that takes them decides.
+#[cycle(evaluation)]
+#[inline(never)]
+fn by_clauses<M: Matcher, H: Host>(
+    setting: &Setting<H>,
+    matcher: &mut M,
+    room: Room,
+    height: usize,
+    language: &CheckedLang,
+    clauses: &[Clause],
+    f: &Name,
+    args: &Term,
+) -> Result<Term, Stop>
+    ensures { Tells tree_of (Clauses (language_in language.now) (calls_in setting.now height)
+        f.now (tree_of args.now) (clauses_of clauses.now)) result }
+{
+    let room = room.inside()?;
+    for clause in clauses {
+        let found = found_by(matcher, language, &clause.args, args)?;
+        let bs = extend(
+            setting,
+            matcher,
+            room,
+            height,
+            language,
+            &clause.extras,
+            found,
+        )?;
+        if !bs.is_empty() {
+            return result_of(setting, matcher, room, height, f, args, &clause.result, &bs);
+        }
+    }
+    Err(undefined(setting.alloc, f, args)?)
+}
+
+// The one value that the result of a clause has for all these bindings, which are some.
+#[cycle(evaluation)]
+#[inline(never)]
+fn result_of<'x, M: Matcher, H: Host>(
+    setting: &'x Setting<'x, H>,
+    matcher: &mut M,
+    room: Room,
+    height: usize,
+    f: &Name,
+    args: &Term,
+    template: &Template,
+    bs: &'x [Binding],
+) -> Result<Term, Stop>
+    requires { 1 ≤ length bs.now }
+    ensures { Tells tree_of (Results (calls_in setting.now height) f.now (tree_of args.now)
+        (template_of template.now) (bindings_of bs.now)) result }
+{
+    let room = room.inside()?;
+    let mut found = Vec::new(setting.alloc);
+    for b in bs {
+        let scope = Scope {
+            setting,
+            height,
+            b,
+            turns: &[],
+        };
+        let t = instantiate(&scope, matcher, room, template)?;
+        found.push(t)?;
+    }
+    one_of(setting.alloc, f, args, found)
+}
+
+/// What the extras make of the bindings, one extra after the other. The clause holds whatever the
+/// whole term is, since no extra makes a fresh name.
+#[cycle(evaluation)]
+#[inline(never)]
+pub(crate) fn extend<M: Matcher, H: Host>(
+    setting: &Setting<H>,
+    matcher: &mut M,
+    room: Room,
+    height: usize,
+    language: &CheckedLang,
+    extras: &[Extra],
+    found: Vec<Binding>,
+) -> Result<Vec<Binding>, Stop>
+    ensures { (w : Tree) → Tells bindings_in (Extend (language_in language.now)
+        (calls_in setting.now height) w (extras_of extras.now) (bindings_in found)) result }
+{
+    let room = room.inside()?;
+    let mut bs = found;
+    for extra in extras {
+        bs = by_each(setting, matcher, room, height, language, extra, &bs)?;
+    }
+    Ok(bs)
+}
+
+// What an extra makes of all bindings, ascending and each once.
+#[cycle(evaluation)]
+#[inline(never)]
+fn by_each<M: Matcher, H: Host>(
+    setting: &Setting<H>,
+    matcher: &mut M,
+    room: Room,
+    height: usize,
+    language: &CheckedLang,
+    extra: &Extra,
+    bs: &[Binding],
+) -> Result<Vec<Binding>, Stop>
+    ensures { (w : Tree) → Tells bindings_in (ByEach (language_in language.now)
+        (calls_in setting.now height) w (extra_of extra.now) (bindings_of bs.now)) result }
+{
+    let room = room.inside()?;
+    let mut found = Vec::new(setting.alloc);
+    for b in bs {
+        let mut more = by(setting, matcher, room, height, language, extra, b)?;
+        found.append(&mut more)?;
+    }
+    Ok(listed_bindings(setting.alloc, found)?)
+}
+
+// What an extra makes of one binding.
+#[cycle(evaluation)]
+#[inline(never)]
+fn by<'x, M: Matcher, H: Host>(
+    setting: &'x Setting<'x, H>,
+    matcher: &mut M,
+    room: Room,
+    height: usize,
+    language: &CheckedLang,
+    extra: &Extra,
+    b: &'x Binding,
+) -> Result<Vec<Binding>, Stop>
+    ensures { (w : Tree) → Tells bindings_in (By (language_in language.now)
+        (calls_in setting.now height) w (extra_of extra.now) (binding_of b.now)) result }
+{
+    let room = room.inside()?;
+    let scope = Scope {
+        setting,
+        height,
+        b,
+        turns: &[],
+    };
+    match extra {
+        Extra::Where(pat, template) => {
+            let t = instantiate(&scope, matcher, room, template)?;
+            Ok(matched(setting.alloc, language, matcher, pat, b, &t)?)
+        }
+        Extra::Side(h) => {
+            let t = evaluate(&scope, matcher, room, h)?;
+            Ok(unless_false(setting.alloc, &t, b)?)
+        }
+    }
+}
