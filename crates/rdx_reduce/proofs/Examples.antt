@@ -17,7 +17,8 @@ use Rattle.rdx_lang.proofs.JoinLaws.{unit_left, unit_right, unit_left-only, unit
 use Rattle.rdx_lang.proofs.NameLaws.{match-ascends}
 use Rattle.rdx_lang.proofs.RepetitionExamples.{each_division}
 use Rattle.rdx_eval.specs.Answers.{value, stops, goes, lists}
-use Rattle.rdx_eval.specs.Calls.{Calls, calls_at}
+use Rattle.rdx_eval.specs.Calls.{Calls}
+use Rattle.rdx_eval.specs.Heights.{calls_at}
 use Rattle.rdx_eval.specs.Examples.{x}
 use Rattle.rdx_eval.specs.Examples.{any_1 as template_any_1}
 use Rattle.rdx_eval.specs.Instantiation.{Makes}

@@ -10,7 +10,7 @@ use Rattle.rdx_lang.specs.RepetitionExamples as patterns
 use Rattle.rdx_lang.specs.RepetitionExamples.{seq_of_both}
 use Rattle.rdx_lang.specs.Templates.{Template, lit, fill}
 use Rattle.rdx_eval.specs.Answers.{Answer, value, fault, not_context}
-use Rattle.rdx_eval.specs.Calls.{calls_at}
+use Rattle.rdx_eval.specs.Heights.{calls_at}
 use Rattle.rdx_eval.specs.Examples.{any_1, x}
 use Rattle.rdx_reduce.specs.Steps.{Step, Steps}
 

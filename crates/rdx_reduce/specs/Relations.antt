@@ -4,7 +4,8 @@ use Rattle.rdx_term.specs.Tree.{Tree}
 use Rattle.rdx_lang.specs.Patterns.{Language}
 use Rattle.rdx_lang.specs.Programs.{Program, Relation, Rule, language_named}
 use Rattle.rdx_eval.specs.Answers.{Answer}
-use Rattle.rdx_eval.specs.Calls.{Calls, calls_at, height}
+use Rattle.rdx_eval.specs.Calls.{Calls}
+use Rattle.rdx_eval.specs.Heights.{calls_at, height}
 use Rattle.rdx_reduce.specs.Steps.{Step, Steps}
 
 -- the steps by these rules over a language, where there is one

@@ -8,13 +8,11 @@ use Rattle.rdx_term.specs.Order.{tree_cmp}
 use Rattle.rdx_term.specs.Tree.{Tree}
 use Rattle.rdx_lang.specs.Bindings.{Binding}
 use Rattle.rdx_lang.specs.Members.{In}
-use Rattle.rdx_lang.specs.Order.{binding_cmp}
 use Rattle.rdx_lang.specs.Patterns.{Language}
 use Rattle.rdx_lang.specs.Programs.{Rule}
-use Rattle.rdx_lang.specs.Rules.{Match}
 use Rattle.rdx_eval.specs.Answers.{Answer, value, Then, Gather, Single, Lists}
 use Rattle.rdx_eval.specs.Calls.{Calls}
-use Rattle.rdx_eval.specs.Extending.{Extend}
+use Rattle.rdx_eval.specs.Extending.{Survivors}
 use Rattle.rdx_eval.specs.Instantiation.{Makes}
 
 -- a step: the place of its rule, from 0, and the term that it leads to
@@ -26,17 +24,13 @@ pub record Step : Type 0 where
 abbrev pub step_cmp : Step → Step → Ordering
 step_cmp s u = ordering_then (nat_cmp s.rule u.rule) (tree_cmp s.reduct u.reduct)
 
--- the bindings by which a rule's pattern matches t that meet its extras, ascending and each once
-abbrev pub Survivors : Language → Calls → Tree → Rule → Answer (List Binding) → Type 0
-Survivors L C t r = Then (Lists binding_cmp (Match L r.pattern t)) (Extend L C t r.extras)
-
 -- the step by the rule r at place i with one binding
 abbrev pub StepBy : Calls → ℕ → Rule → Binding → Answer Step → Type 0
 StepBy C i r b = Then (Makes C b r.result) (λ u a. a ≡ value (record { rule = i; reduct = u }))
 
--- the steps by the rule r at place i, binding by binding
+-- the steps by the rule r at place i, binding by binding of those by which its pattern matches t that meet its extras
 abbrev pub RuleSteps : Language → Calls → Tree → ℕ → Rule → Answer (List Step) → Type 0
-RuleSteps L C t i r = Then (Survivors L C t r) (Gather (λ b. Single (StepBy C i r b)))
+RuleSteps L C t i r = Then (Survivors L C t r.pattern r.extras) (Gather (λ b. Single (StepBy C i r b)))
 
 -- the steps by these rules, of which the first is at place i, rule by rule
 abbrev pub AllSteps : Language → Calls → Tree → ℕ → List Rule → Answer (List Step) → Type 0

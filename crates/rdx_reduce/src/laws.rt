@@ -2,8 +2,8 @@
 ghost use Rattle.rdx_reduce.specs.Examples.{OneStep, StepByEach, OnceForTwo, FaultAlone};
 ghost use Rattle.rdx_reduce.specs.Laws.{OneStepping, SomeStepping};
 
-/// The rules of a relation have one listing of their steps from a term, or one fault, in a language
-/// that is free of left recursion.
+/// The rules of a relation have one listing of their steps from a term, or one fault, where the
+/// program's languages are free of left recursion.
 pub fn one_stepping()
     ensures one { OneStepping }
     ensures some { SomeStepping }

@@ -2,36 +2,22 @@
 ghost use Rattle.std.specs.Prelude.{◌≡◌, IsSome, map};
 ghost use Rattle.std.specs.Prelude as prelude;
 ghost use Rattle.rdx_term.specs.View.{tree_of};
-ghost use Rattle.rdx_lang.specs.Checked.{language_in};
-ghost use Rattle.rdx_lang.specs.ProgramView.{program_of, relation_of, rule_of};
+ghost use Rattle.rdx_lang.specs.Checked.{language_in, pattern_in};
+ghost use Rattle.rdx_lang.specs.ProgramView.{program_of, relation_of, rule_of, extras_of};
 ghost use Rattle.rdx_lang.specs.Programs.{language_named as named};
-ghost use Rattle.rdx_lang.specs.Shown.{binding_of, bindings_of};
-ghost use Rattle.rdx_eval.specs.Answers.{Gather, Single};
-ghost use Rattle.rdx_eval.specs.Calls.{calls_at, height};
-ghost use Rattle.rdx_eval.specs.Inside.Languages.{language_found};
+ghost use Rattle.rdx_eval.specs.Extending.{Survivors};
+ghost use Rattle.rdx_eval.specs.Heights.{calls_at, height};
 ghost use Rattle.rdx_eval.specs.Views.{Says, bindings_in, program_in};
 ghost use Rattle.rdx_reduce.specs.Relations.{AreSteps};
-ghost use Rattle.rdx_reduce.specs.StepView.{step_of, steps_in};
-ghost use Rattle.rdx_reduce.specs.Steps.{Survivors, StepBy, RuleSteps, AllSteps};
+ghost use Rattle.rdx_reduce.specs.StepView.{steps_in};
+ghost use Rattle.rdx_reduce.specs.Steps.{RuleSteps, AllSteps};
 
 use crate::Step;
 use crate::sorting::listing;
-use rdx_eval::{Engine, EvalFault};
-use rdx_lang::{Binding, CheckedLang, Matcher, Program, Relation, Rule};
+use rdx_eval::{Engine, EvalFault, language_named};
+use rdx_lang::{Binding, CheckedLang, Matcher, Relation, Rule};
 use rdx_term::{Name, Term};
 use std::alloc::Global;
-
-// The first language of the program with this name.
-fn language_named<'a>(program: &'a Program, name: &Name) -> Option<&'a CheckedLang>
-    ensures { language_found result ≡ named (program_of program.now) name.now }
-{
-    for checked in &program.languages {
-        if checked.language().name.text() == name.text() {
-            return Some(checked);
-        }
-    }
-    None
-}
 
 // The bindings by which the rule's pattern matches the term that meet its extras.
 fn survivors<M: Matcher + Drop>(
@@ -45,53 +31,14 @@ fn survivors<M: Matcher + Drop>(
         ≡ prelude.Some (language_in language.now) }
     ensures answer { Says bindings_in (Survivors (language_in language.now)
         (calls_at (program_of (program_in engine.old).now) height) (tree_of t.now)
-        (rule_of rule.now)) result }
+        (pattern_in rule.now.pattern) (extras_of rule.now.extras.items)) result }
     ensures same { program_in engine.new ≡ program_in engine.old }
 {
     let found = engine.matches(language, &rule.pattern, t)?;
     engine.extend(name, found, &rule.extras, t)
 }
 
-// The step by the rule at this place with one binding.
-fn step_by<M: Matcher + Drop>(
-    engine: &mut Engine<M>,
-    place: usize,
-    rule: &Rule,
-    b: &Binding,
-) -> Result<Step, EvalFault>
-    ensures answer { Says step_of (StepBy (calls_at (program_of (program_in engine.old).now) height)
-        place (rule_of rule.now) (binding_of b.now)) result }
-    ensures same { program_in engine.new ≡ program_in engine.old }
-{
-    let reduct = engine.instantiate(&rule.result, b)?;
-    Ok(Step {
-        rule: place,
-        reduct,
-    })
-}
-
 // The steps by the rule at this place, binding by binding.
-fn steps_by<M: Matcher + Drop>(
-    alloc: Global,
-    engine: &mut Engine<M>,
-    place: usize,
-    rule: &Rule,
-    bs: &[Binding],
-) -> Result<Vec<Step>, EvalFault>
-    ensures answer { Says steps_in (Gather (λ b. Single (StepBy
-        (calls_at (program_of (program_in engine.old).now) height) place (rule_of rule.now) b))
-        (bindings_of bs.now)) result }
-    ensures same { program_in engine.new ≡ program_in engine.old }
-{
-    let mut found = Vec::new(alloc);
-    for b in bs {
-        let step = step_by(engine, place, rule, b)?;
-        found.push(step)?;
-    }
-    Ok(found)
-}
-
-// The steps by the rule at this place.
 fn rule_steps<M: Matcher + Drop>(
     alloc: Global,
     engine: &mut Engine<M>,
@@ -109,7 +56,15 @@ fn rule_steps<M: Matcher + Drop>(
     ensures same { program_in engine.new ≡ program_in engine.old }
 {
     let bs = survivors(engine, language, name, rule, t)?;
-    steps_by(alloc, engine, place, rule, &bs)
+    let mut found = Vec::new(alloc);
+    for b in &bs {
+        let reduct = engine.instantiate(&rule.result, b)?;
+        found.push(Step {
+            rule: place,
+            reduct,
+        })?;
+    }
+    Ok(found)
 }
 
 // The steps by the rules, rule by rule.

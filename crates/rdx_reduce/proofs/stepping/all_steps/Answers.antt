@@ -9,10 +9,11 @@ use Rattle.rdx_lang.specs.ProgramView.{program_of, rule_of}
 use Rattle.rdx_lang.specs.Programs.{Rule}
 use Rattle.rdx_lang.specs.declared.program.Program.{Program}
 use Rattle.rdx_eval.specs.Answers.{value, fault}
-use Rattle.rdx_eval.specs.Calls.{Calls, calls_at, height}
+use Rattle.rdx_eval.specs.Calls.{Calls}
+use Rattle.rdx_eval.specs.Heights.{calls_at, height}
 use Rattle.rdx_eval.specs.Views.{program_in}
 use Rattle.rdx_eval.proofs.Gathered.{gathers-next, gathers-fault, gathers-end}
-use Rattle.rdx_eval.proofs.HandedOn.{error_handed_on}
+use Rattle.rdx_eval.proofs.SaidOn.{error_said_on}
 use Rattle.rdx_reduce.specs.StepView.{steps_in}
 use Rattle.rdx_reduce.specs.Steps.{RuleSteps, AllSteps}
 use Rattle.rdx_reduce.proofs.NumberedRules.{numbered, numbered-at, numbered-none, StepsAt, all_gathered}
@@ -30,7 +31,7 @@ returns-in_err-more-clause-answer g c =
     let r : Rule = rule_of x in
     let e : numbered i (map rule_of (drop i xs)) ≡ (i, r) ∷ numbered (i + 1) (map rule_of (drop (i + 1) xs)) =
     numbered-at rule_of xs i x c.loop-place-test.true c.index-rules-place.is in
-    error_handed_on steps_in steps_in (RuleSteps L (calls_at (program_of (program_in c.loop-place.engine).now) height) t i r) (AllSteps L C t 0 rs)
+    error_said_on steps_in steps_in (RuleSteps L (calls_at (program_of (program_in c.loop-place.engine).now) height) t i r) (AllSteps L C t 0 rs)
     c.from_residual.result _ c.from_residual.ensures.1
     (λ f h. all_gathered L C t 0 rs (fault f) (gathers-fault (StepsAt L C t) (numbered 0 rs) (i, r) _ _ (steps_in c.loop-place.found) f e
     (subst (λ (p : Bor Program). RuleSteps L (calls_at (program_of p.now) height) t i r (fault f)) c.loop-place.invariant.same h) c.loop-place.invariant.gathers))

@@ -2,7 +2,7 @@ use Rattle.std.proofs.Common.{◌≡◌, drop, map}
 use Rattle.rdx_term.specs.View.{tree_of}
 use Rattle.rdx_lang.specs.Checked.{language_in}
 use Rattle.rdx_lang.specs.ProgramView.{program_of, rule_of}
-use Rattle.rdx_eval.specs.Calls.{calls_at, height}
+use Rattle.rdx_eval.specs.Heights.{calls_at, height}
 use Rattle.rdx_eval.specs.Views.{program_in}
 use Rattle.rdx_eval.proofs.Gathered.{Gathers}
 use Rattle.rdx_reduce.specs.StepView.{steps_in}

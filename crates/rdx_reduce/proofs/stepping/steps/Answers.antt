@@ -9,9 +9,10 @@ use Rattle.rdx_lang.specs.Programs as model
 use Rattle.rdx_lang.specs.declared.program.Program.{Program}
 use Rattle.rdx_lang.specs.declared.program.Rule.{Rule}
 use Rattle.rdx_eval.specs.Answers.{value, fault, stops, goes, lists}
-use Rattle.rdx_eval.specs.Calls.{Calls, calls_at, height}
+use Rattle.rdx_eval.specs.Calls.{Calls}
+use Rattle.rdx_eval.specs.Heights.{calls_at, height}
 use Rattle.rdx_eval.specs.Views.{program_in}
-use Rattle.rdx_eval.proofs.HandedOn.{error_handed_on}
+use Rattle.rdx_eval.proofs.SaidOn.{error_said_on}
 use Rattle.rdx_reduce.specs.Relations.{StepsOver, AreSteps}
 use Rattle.rdx_reduce.specs.StepView.{steps_in}
 use Rattle.rdx_reduce.specs.Steps.{AllSteps}
@@ -26,7 +27,7 @@ returns-in_err-found-clause-answer g c =
     let rs : List model.Rule = map rule_of c.args.relation.now.rules.items in
     let e : Some L ≡ language_named P c.args.relation.now.language =
     subst (λ (p : Program). Some L ≡ language_named (program_of p) c.args.relation.now.language) c.program.ensures c.in-Some.ensures in
-    error_handed_on steps_in steps_in (AllSteps L C t 0 (map rule_of c.deref.result.now)) (AreSteps P (relation_of c.args.relation.now) t)
+    error_said_on steps_in steps_in (AllSteps L C t 0 (map rule_of c.deref.result.now)) (AreSteps P (relation_of c.args.relation.now) t)
     c.from_residual.result _ c.from_residual.ensures.1
     (λ f h. subst (λ (o : Option Language). StepsOver o C t rs (fault f)) e
     (stops (subst (λ (xs : List Rule). AllSteps L C t 0 (map rule_of xs) (fault f)) c.deref.ensures.value h)))

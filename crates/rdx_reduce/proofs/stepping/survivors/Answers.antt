@@ -4,18 +4,18 @@ use Rattle.std.specs.Prelude.{IsSome}
 use Rattle.rdx_term.specs.Tree.{Tree}
 use Rattle.rdx_term.specs.View.{tree_of}
 use Rattle.rdx_lang.specs.Bindings.{Binding}
-use Rattle.rdx_lang.specs.Checked.{language_in}
+use Rattle.rdx_lang.specs.Checked.{language_in, pattern_in}
 use Rattle.rdx_lang.specs.Patterns.{Language}
-use Rattle.rdx_lang.specs.ProgramView.{program_of, extras_of, rule_of}
+use Rattle.rdx_lang.specs.ProgramView.{program_of, extras_of}
 use Rattle.rdx_lang.specs.Programs.{language_named}
 use Rattle.rdx_lang.specs.declared.program.Extra.{Extra}
 use Rattle.rdx_lang.specs.declared.program.Program.{Program}
 use Rattle.rdx_eval.specs.Answers.{goes, lists}
-use Rattle.rdx_eval.specs.Calls.{Calls, calls_at, height}
-use Rattle.rdx_eval.specs.Extending.{Extend, ExtendOver}
+use Rattle.rdx_eval.specs.Calls.{Calls}
+use Rattle.rdx_eval.specs.Heights.{calls_at, height}
+use Rattle.rdx_eval.specs.Extending.{Extend, ExtendOver, Survivors}
 use Rattle.rdx_eval.specs.Views.{Says, bindings_in, program_in}
-use Rattle.rdx_eval.proofs.HandedOn.{handed_on}
-use Rattle.rdx_reduce.specs.Steps.{Survivors}
+use Rattle.rdx_eval.proofs.SaidOn.{said_on}
 use Rattle.rdx_reduce.proofs.stepping.survivors.Goals as goal
 
 pub extend-requires : goal.extend-requires
@@ -34,6 +34,6 @@ returns-clause-answer g c =
     c.matches.ensures.same c.extend.ensures.answer in
     let extended : Says bindings_in (Extend L C t (extras_of c.deref.result.now) bs) c.extend.result =
     subst (λ (o : Option Language). Says bindings_in (ExtendOver o C t (extras_of c.deref.result.now) bs) c.extend.result) c.requires over in
-    handed_on bindings_in (Extend L C t (extras_of c.args.rule.now.extras.items) bs) (Survivors L C t (rule_of c.args.rule.now)) c.extend.result
+    said_on bindings_in (Extend L C t (extras_of c.args.rule.now.extras.items) bs) (Survivors L C t (pattern_in c.args.rule.now.pattern) (extras_of c.args.rule.now.extras.items)) c.extend.result
     (λ a h. goes (lists c.in_ok-found.ensures.listing) h)
     (subst (λ (es : List Extra). Says bindings_in (Extend L C t (extras_of es) bs) c.extend.result) c.deref.ensures.value extended)
