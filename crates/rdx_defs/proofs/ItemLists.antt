@@ -1,17 +1,9 @@
--- The items of a list template, read one by one.
-use Rattle.std.proofs.Common.{◌≡◌, ◌++◌, ◌∙◌, ℕ, ◌+◌, ◌<◌, length, drop, get_or, Bool, true, false, List, [], ◌∷◌, refl, ap, if◌then◌else◌}
-use Rattle.rdx_base.specs.declared.place.Span.{Span}
-use Rattle.rdx_sexp.specs.Sexp.{Sexp, Sexps, list, sexps}
-use Rattle.rdx_term.specs.Tree as tree
-use Rattle.rdx_lang.specs.Templates.{Template, lit, Items, nil, one, many}
-use Rattle.rdx_lang.specs.TemplateView.{Part, just, repeated, items_of}
-use Rattle.rdx_grammar.specs.Heads.{Roles, next, rest, is_repeated}
-use Rattle.rdx_grammar.specs.Reading.{is_pattern}
-use Rattle.rdx_defs.specs.Bound.{Bound}
+-- The items of a list template and the arguments of a host expression, read one by one.
+use Rattle.std.proofs.Common.{◌≡◌, ◌++◌, Bool, true, false, List, [], ◌∷◌, refl, ap}
+use Rattle.rdx_lang.specs.Templates.{Template, Items, nil, one, many, Host, Hosts, none, more}
+use Rattle.rdx_lang.specs.TemplateView.{Part, just, repeated, items_of, hosts_of}
 use Rattle.rdx_defs.specs.Inside.ItemParts.{item_part}
-use Rattle.rdx_defs.specs.TemplateHeads.{template_head, template_roles, is_template_list}
-use Rattle.rdx_defs.specs.TemplateReading.{with_template, assembled_template, template_reading, templates_among}
-use Rattle.rdx_defs.proofs.ItemTests.{templates-at}
+use Rattle.rdx_defs.specs.TemplateReading.{with_template}
 
 -- the items with those of parts in front
 abbrev pub before : List Part → Items → Items
@@ -32,37 +24,17 @@ before-nil [] = refl
 before-nil (just t ∷ ps) = ap (one t) (before-nil ps)
 before-nil (repeated t ∷ ps) = ap (many t) (before-nil ps)
 
-module _ (bs : Bound) where
-  -- an item that is a template
-  if_template : (b r : Bool) (t : Template) (ts : Items) → b ≡ true → (if b then with_template r t ts else ts) ≡ with_template r t ts
-  if_template true r t ts e = refl
-  if_template false r t ts e = absurd cc
+-- the host expressions with these in front
+abbrev pub hosts_before : List Host → Hosts → Hosts
+hosts_before [] hs = hs
+hosts_before (g ∷ gs) hs = more g (hosts_before gs hs)
 
-  -- another item
-  if_other : (b r : Bool) (t : Template) (ts : Items) → b ≡ false → (if b then with_template r t ts else ts) ≡ ts
-  if_other true r t ts e = absurd cc
-  if_other false r t ts e = refl
+-- one more
+pub hosts_before-push : (gs : List Host) (h : Host) (hs : Hosts) → hosts_before (gs ++ h ∷ []) hs ≡ hosts_before gs (more h hs)
+hosts_before-push [] h hs = refl
+hosts_before-push (g ∷ gs) h hs = ap (more g) (hosts_before-push gs h hs)
 
-  -- the templates from one on
-  pub templates-template : (rs : Roles) (ds : List Sexp) (i : ℕ) (d : Sexp) → i < length ds → d ≡ get_or ds i d → is_pattern (next rs d) ≡ true
-      → templates_among bs rs (sexps (drop i ds))
-      ≡ with_template (is_repeated (rest rs d) (sexps (drop (i + 1) ds))) (template_reading bs d) (templates_among bs (rest rs d) (sexps (drop (i + 1) ds)))
-  templates-template rs ds i d h e f =
-      templates-at bs rs ds i d h e
-      ∙ if_template (is_pattern (next rs d)) (is_repeated (rest rs d) (sexps (drop (i + 1) ds))) (template_reading bs d) (templates_among bs (rest rs d) (sexps (drop (i + 1) ds))) f
-
-  -- the templates from another item on
-  pub templates-other : (rs : Roles) (ds : List Sexp) (i : ℕ) (d : Sexp) → i < length ds → d ≡ get_or ds i d → is_pattern (next rs d) ≡ false
-      → templates_among bs rs (sexps (drop i ds)) ≡ templates_among bs (rest rs d) (sexps (drop (i + 1) ds))
-  templates-other rs ds i d h e f =
-      templates-at bs rs ds i d h e
-      ∙ if_other (is_pattern (next rs d)) (is_repeated (rest rs d) (sexps (drop (i + 1) ds))) (template_reading bs d) (templates_among bs (rest rs d) (sexps (drop (i + 1) ds))) f
-
-  -- a list with its shape
-  shaped : (b : Bool) (t : Template) → b ≡ true → (if b then t else lit tree.hole) ≡ t
-  shaped true t e = refl
-  shaped false t e = absurd cc
-
-  pub reading-shaped : (ds : Sexps) (s : Span) → is_template_list ds ≡ true
-      → template_reading bs (list ds s) ≡ assembled_template (template_head ds) (templates_among bs (template_roles ds) ds)
-  reading-shaped ds s e = shaped (is_template_list ds) (assembled_template (template_head ds) (templates_among bs (template_roles ds) ds)) e
+-- none behind
+pub hosts_before-none : (gs : List Host) → hosts_before gs none ≡ hosts_of gs
+hosts_before-none [] = refl
+hosts_before-none (g ∷ gs) = ap (more g) (hosts_before-none gs)

@@ -1,9 +1,9 @@
--- The one item of a list template, and the two of one of two.
+-- The one item of a list template, the two of one of two, and the one host expression.
 use Rattle.std.proofs.Common.{◌≡◌, ◌++◌, List, [], ◌∷◌, length, map, None, refl}
 use Rattle.std.specs.Prelude.{option_map}
-use Rattle.rdx_lang.specs.TemplateView.{Part, just, repeated, items_of}
-use Rattle.rdx_lang.specs.Templates.{Template}
-use Rattle.rdx_defs.specs.Inside.ItemParts.{only_item, only_items}
+use Rattle.rdx_lang.specs.TemplateView.{Part, just, repeated, items_of, hosts_of}
+use Rattle.rdx_lang.specs.Templates.{Template, Host}
+use Rattle.rdx_defs.specs.Inside.ItemParts.{only_item, only_items, only_host}
 
 -- there is none among two items or more
 two : (p q : Part) (ps : List Part) → only_item (items_of (p ∷ q ∷ ps)) ≡ None
@@ -36,3 +36,9 @@ only_items-repeated (just c ∷ repeated u ∷ ps) t = refl
 only_items-repeated (just c ∷ just u ∷ []) t = refl
 only_items-repeated (just c ∷ just u ∷ repeated v ∷ ps) t = refl
 only_items-repeated (just c ∷ just u ∷ just v ∷ ps) t = refl
+
+-- there is no one host expression in a list that is not of one
+pub only_host-other : {A : Type 0} (f : A → Host) (xs : List A) → (length xs ≡ 1 → ⊥) → only_host (hosts_of (map f xs)) ≡ None
+only_host-other f [] n = refl
+only_host-other f (x ∷ []) n = absurd (n refl)
+only_host-other f (x ∷ y ∷ xs) n = refl

@@ -12,11 +12,11 @@ use Rattle.std.specs.declared.cmp.Ordering.TheVariants.{Less, Equal, Greater}
 use Rattle.rdx_lang.proofs.OrderLaws.{name_cmp-tells}
 use Rattle.rdx_grammar.specs.PatternChecks.{when}
 use Rattle.rdx_sexp.specs.declared.datum.Datum.{Datum}
-use Rattle.rdx_defs.specs.Inside.RelationViews.{stand_of}
-use Rattle.rdx_defs.specs.RelationChecks.{label, repeated_names}
-use Rattle.rdx_defs.specs.RelationStands.{Stand, misshaped, arrow, pattern, template, named}
-use Rattle.rdx_defs.specs.declared.relations.stands.Stand as code_stand
-use Rattle.rdx_defs.specs.declared.relations.stands.Stand.TheVariants as stands
+use Rattle.rdx_defs.specs.Inside.FormViews.{stand_of}
+use Rattle.rdx_defs.specs.StandChecks.{label, repeated_names}
+use Rattle.rdx_defs.specs.Stands.{Stand, misshaped, function, arrow, pattern, template, condition, named}
+use Rattle.rdx_defs.specs.declared.stands.collecting.Stand as code_stand
+use Rattle.rdx_defs.specs.declared.stands.collecting.Stand.TheVariants as stands
 
 -- one of these is the text x
 abbrev pub has_text : List ℕ → List (List ℕ) → Bool
@@ -78,9 +78,11 @@ module _ {K : Type 0} (text : K → List ℕ) where
 pub repeated-alike : (xs ys : List (List ℕ)) (ss : List Stand) → ((x : List ℕ) → has_text x xs ≡ has_text x ys) → repeated_names xs ss ≡ repeated_names ys ss
 repeated-alike xs ys [] h = refl
 repeated-alike xs ys (misshaped d ∷ ss) h = repeated-alike xs ys ss h
+repeated-alike xs ys (function d ∷ ss) h = repeated-alike xs ys ss h
 repeated-alike xs ys (arrow d ∷ ss) h = repeated-alike xs ys ss h
 repeated-alike xs ys (pattern bs p ∷ ss) h = repeated-alike xs ys ss h
 repeated-alike xs ys (template bs t ∷ ss) h = repeated-alike xs ys ss h
+repeated-alike xs ys (condition bs t ∷ ss) h = repeated-alike xs ys ss h
 repeated-alike xs ys (named again d ∷ ss) h =
     λ i. when (h (label d) i) d ++ repeated-alike (label d ∷ xs) (label d ∷ ys) ss (λ x. ap (λ b. bytes_eq x (label d) || b) (h x)) i
 
@@ -88,7 +90,9 @@ repeated-alike xs ys (named again d ∷ ss) h =
 pub no-name : (s : code_stand.Stand) → ((again : Bool) (d : Bor Datum) → s ≡ stands.Named again d → ⊥) → (seen : List (List ℕ)) (rest : List Stand)
     → repeated_names seen (stand_of s ∷ rest) ≡ repeated_names seen rest
 no-name (stands.Misshaped d) h seen rest = refl
+no-name (stands.Function d) h seen rest = refl
 no-name (stands.Arrow d) h seen rest = refl
 no-name (stands.Pattern d) h seen rest = refl
 no-name (stands.Template d) h seen rest = refl
+no-name (stands.Condition d) h seen rest = refl
 no-name (stands.Named again d) h seen rest = absurd (h again d refl)

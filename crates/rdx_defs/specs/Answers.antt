@@ -1,43 +1,84 @@
 -- What the readers answer.
 use Rattle.std.specs.Prelude.{◌≡◌, ℕ, List, Some, None, Result, Ok, Err}
 use Rattle.rdx_sexp.specs.Sexp.{Sexp}
-use Rattle.rdx_lang.specs.ProgramView.{relation_of}
-use Rattle.rdx_lang.specs.TemplateView.{template_of}
+use Rattle.rdx_lang.specs.ProgramView.{relation_of, metafunction_of}
+use Rattle.rdx_lang.specs.TemplateView.{template_of, host_of}
+use Rattle.rdx_lang.specs.declared.program.Metafunction.{Metafunction}
 use Rattle.rdx_lang.specs.declared.program.Relation.{Relation}
+use Rattle.rdx_lang.specs.declared.template.HostExpr.{HostExpr}
 use Rattle.rdx_lang.specs.declared.template.Template.{Template}
 use Rattle.rdx_grammar.specs.Refusal.{refusal_of}
 use Rattle.rdx_grammar.specs.declared.shape.fault.DefFault.{DefFault}
 use Rattle.rdx_grammar.specs.declared.shape.fault.DefFault.TheVariants.{Refused, NoMemory}
 use Rattle.rdx_defs.specs.Bound.{Bound}
+use Rattle.rdx_defs.specs.MetafunctionForms.{MetafunctionForm, metafunction_form}
+use Rattle.rdx_defs.specs.MetafunctionReading.{metafunction_reading}
+use Rattle.rdx_defs.specs.MetafunctionRefusal.{metafunction_refusal}
 use Rattle.rdx_defs.specs.RelationForms.{RelationForm, relation_form}
 use Rattle.rdx_defs.specs.RelationReading.{relation_reading}
 use Rattle.rdx_defs.specs.RelationRefusal.{relation_refusal}
-use Rattle.rdx_defs.specs.TemplateReading.{template_reading}
-use Rattle.rdx_defs.specs.TemplateRefusal.{template_refusal}
+use Rattle.rdx_defs.specs.Scope.{Scope}
+use Rattle.rdx_defs.specs.TemplateReading.{template_reading, host_reading}
+use Rattle.rdx_defs.specs.TemplateRefusal.{template_refusal, host_refusal}
+
+-- ---- templates
 
 -- the datum is refused so as a template, unless memory ran out
-abbrev pub IsTemplateFault : Bound → Sexp → DefFault → Type 0
-IsTemplateFault bs d (Refused r) = template_refusal bs d ≡ Some (refusal_of r)
-IsTemplateFault bs d NoMemory = Unit {0}
+abbrev pub IsTemplateFault : Scope → Bound → Sexp → DefFault → Type 0
+IsTemplateFault S bs d (Refused r) = template_refusal S bs d ≡ Some (refusal_of r)
+IsTemplateFault S bs d NoMemory = Unit {0}
 
--- the datum is this template where these names are bound, or it is refused so
-abbrev pub ReadsTemplate : Bound → Sexp → Result Template DefFault → Type 0
-ReadsTemplate bs d (Ok t) = (template_refusal bs d ≡ None) × (template_of t ≡ template_reading bs d)
-ReadsTemplate bs d (Err e) = IsTemplateFault bs d e
+-- the datum is this template in this scope, where these names are bound, or it is refused so
+abbrev pub ReadsTemplate : Scope → Bound → Sexp → Result Template DefFault → Type 0
+ReadsTemplate S bs d (Ok t) = (template_refusal S bs d ≡ None) × (template_of t ≡ template_reading S bs d)
+ReadsTemplate S bs d (Err e) = IsTemplateFault S bs d e
 
--- the relation is the one of this name that a form with these parts stands for, over the nonterminals ns
-pub record IsRelation (ns : List (List ℕ)) (x : List ℕ) (d : Sexp) (r : Relation) : Type 0 where
-  pub passes : relation_refusal ns d ≡ None
+-- ---- host expressions
+
+-- the datum is refused so as a host expression, unless memory ran out
+abbrev pub IsHostFault : Scope → Bound → Sexp → DefFault → Type 0
+IsHostFault S bs d (Refused r) = host_refusal S bs d ≡ Some (refusal_of r)
+IsHostFault S bs d NoMemory = Unit {0}
+
+-- the datum is this host expression in this scope, where these names are bound, or it is refused so
+abbrev pub ReadsHost : Scope → Bound → Sexp → Result HostExpr DefFault → Type 0
+ReadsHost S bs d (Ok h) = (host_refusal S bs d ≡ None) × (host_of h ≡ host_reading S bs d)
+ReadsHost S bs d (Err e) = IsHostFault S bs d e
+
+-- ---- metafunctions
+
+-- the metafunction is the one that a form with these parts stands for, in this scope, over the nonterminals ns
+pub record IsMetafunction (S : Scope) (ns : List (List ℕ)) (d : Sexp) (f : Metafunction) : Type 0 where
+  pub passes : metafunction_refusal S ns d ≡ None
+  pub parts : MetafunctionForm
+  pub is_form : metafunction_form d ≡ Some parts
+  pub is_read : metafunction_of f ≡ metafunction_reading S ns parts
+
+-- the datum is refused so as a metafunction, unless memory ran out
+abbrev pub IsMetafunctionFault : Scope → List (List ℕ) → Sexp → DefFault → Type 0
+IsMetafunctionFault S ns d (Refused r) = metafunction_refusal S ns d ≡ Some (refusal_of r)
+IsMetafunctionFault S ns d NoMemory = Unit {0}
+
+-- the datum is this metafunction in this scope, over the nonterminals ns, or it is refused so
+abbrev pub ReadsMetafunction : Scope → List (List ℕ) → Sexp → Result Metafunction DefFault → Type 0
+ReadsMetafunction S ns d (Ok f) = IsMetafunction S ns d f
+ReadsMetafunction S ns d (Err e) = IsMetafunctionFault S ns d e
+
+-- ---- relations
+
+-- the relation is the one of this name that a form with these parts stands for, in this scope, over the nonterminals ns
+pub record IsRelation (S : Scope) (ns : List (List ℕ)) (x : List ℕ) (d : Sexp) (r : Relation) : Type 0 where
+  pub passes : relation_refusal S ns d ≡ None
   pub parts : RelationForm
   pub is_form : relation_form d ≡ Some parts
-  pub is_read : relation_of r ≡ relation_reading ns x parts
+  pub is_read : relation_of r ≡ relation_reading S ns x parts
 
 -- the datum is refused so as a relation, unless memory ran out
-abbrev pub IsRelationFault : List (List ℕ) → Sexp → DefFault → Type 0
-IsRelationFault ns d (Refused r) = relation_refusal ns d ≡ Some (refusal_of r)
-IsRelationFault ns d NoMemory = Unit {0}
+abbrev pub IsRelationFault : Scope → List (List ℕ) → Sexp → DefFault → Type 0
+IsRelationFault S ns d (Refused r) = relation_refusal S ns d ≡ Some (refusal_of r)
+IsRelationFault S ns d NoMemory = Unit {0}
 
--- the datum is this relation over the nonterminals ns, or it is refused so
-abbrev pub ReadsRelation : List (List ℕ) → List ℕ → Sexp → Result Relation DefFault → Type 0
-ReadsRelation ns x d (Ok r) = IsRelation ns x d r
-ReadsRelation ns x d (Err e) = IsRelationFault ns d e
+-- the datum is this relation in this scope, over the nonterminals ns, or it is refused so
+abbrev pub ReadsRelation : Scope → List (List ℕ) → List ℕ → Sexp → Result Relation DefFault → Type 0
+ReadsRelation S ns x d (Ok r) = IsRelation S ns x d r
+ReadsRelation S ns x d (Err e) = IsRelationFault S ns d e

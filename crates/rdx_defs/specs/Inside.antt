@@ -1,9 +1,13 @@
+pub mod HeadViews
 pub mod PartView
 pub mod ItemParts
 pub mod PartRefusal
 pub mod Reach
-pub mod RelationViews
+pub mod Branches
+pub mod BranchReadings
+pub mod Contracts
+pub mod FormViews
 pub mod BareStands
 pub mod PartsHave
 pub mod ByNames
-pub mod PartRefusals
+pub mod FormRefusals

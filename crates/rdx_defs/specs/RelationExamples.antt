@@ -12,9 +12,14 @@ use Rattle.rdx_grammar.specs.declared.shape.fault.DefKind.TheVariants.{Shape, Du
 use Rattle.rdx_defs.specs.RelationForms.{RelationForm, relation_form}
 use Rattle.rdx_defs.specs.RelationReading.{relation_reading}
 use Rattle.rdx_defs.specs.RelationRefusal.{relation_refusal}
+use Rattle.rdx_defs.specs.Scope.{Scope}
+
+-- without a metafunction
+abbrev pub no_scope : Scope
+no_scope = record { metafunctions = [] }
 
 -- a number, wherever it stands
-abbrev number : Span → ℕ → Sexp
+abbrev pub number : Span → ℕ → Sexp
 number s n = leaf (integer (pos n)) s
 
 -- `(reduction-relation L case ...)`, from the first column on
@@ -23,14 +28,14 @@ relation behind cases = group (columns 1 behind) (word (columns 2 20) (codes "re
 
 -- the datum has these parts, passes the checks, and is this relation
 pub record MeansRelation (d : Sexp) (x : List ℕ) (R : Relation) : Type 0 where
-  pub passes : relation_refusal [] d ≡ None
+  pub passes : relation_refusal no_scope [] d ≡ None
   pub parts : RelationForm
   pub is_form : relation_form d ≡ Some parts
-  pub is_read : relation_reading [] x parts ≡ R
+  pub is_read : relation_reading no_scope [] x parts ≡ R
 
 -- the datum is refused so, in this column of the first line
 abbrev pub IsRefusedAt : Sexp → DefKind → ℕ → Option (List ℕ) → Type 0
-IsRefusedAt d k n x = relation_refusal [] d ≡ Some (record { kind = k; place = record { line = 1; column = n }; name = x })
+IsRefusedAt d k n x = relation_refusal no_scope [] d ≡ Some (record { kind = k; place = record { line = 1; column = n }; name = x })
 
 -- ---- relations
 

@@ -1,29 +1,7 @@
 -- The parts of `(reduction-relation L case ...)` and of its cases (after the Redex reference manual, "Reduction Relations").
-use Rattle.std.specs.Prelude.{ℕ, Bool, false, not, ◌&&◌, List, [], ◌∷◌, Option, Some, None, codes, bytes_eq, if◌then◌else◌}
-use Rattle.rdx_sexp.specs.Sexp.{integer, truth, text, symbol, keyword, Sexp, leaf, list}
+use Rattle.std.specs.Prelude.{ℕ, Bool, false, not, ◌&&◌, List, ◌∷◌, Option, Some, None, codes, bytes_eq, if◌then◌else◌}
+use Rattle.rdx_sexp.specs.Sexp.{keyword, Sexp, leaf}
 use Rattle.rdx_grammar.specs.Parts.{parts, is_symbol, is_word}
-
--- ---- extras
-
--- what stands behind the template of a case: `(where p t)`, the name of the case, or what is neither
-pub data ExtraForm : Type 0 where
-  such_that : Sexp → Sexp → ExtraForm
-  name : ExtraForm
-  no_extra : ExtraForm
-
--- a list of these parts as an extra
-abbrev pub extra_among : Option (List Sexp) → ExtraForm
-extra_among (Some (w ∷ p ∷ t ∷ [])) = if is_word (codes "where") w then such_that p t else no_extra
-extra_among o = no_extra
-
--- a datum as an extra; a symbol or a string is the name
-abbrev pub extra_form : Sexp → ExtraForm
-extra_form (leaf (integer n) s) = no_extra
-extra_form (leaf (truth b) s) = no_extra
-extra_form (leaf (text x) s) = name
-extra_form (leaf (symbol x) s) = name
-extra_form (leaf (keyword k) s) = no_extra
-extra_form (list ds s) = extra_among (parts (list ds s))
 
 -- ---- cases
 

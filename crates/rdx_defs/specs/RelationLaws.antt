@@ -9,22 +9,23 @@ use Rattle.rdx_grammar.specs.declared.shape.fault.DefRefusal.{DefRefusal}
 use Rattle.rdx_defs.specs.Answers.{ReadsRelation}
 use Rattle.rdx_defs.specs.RelationForms.{relation_form}
 use Rattle.rdx_defs.specs.RelationRefusal.{relation_refusal}
+use Rattle.rdx_defs.specs.Scope.{Scope}
 
--- ---- with a given name, over given nonterminals
+-- ---- with a given name, in a given scope, over given nonterminals
 
 -- a datum is one relation at most
 abbrev pub OneRelation : Type 0
-OneRelation = (ns : List (List ℕ)) (x : List ℕ) (d : Sexp) (r q : Relation) → ReadsRelation ns x d (Ok r) → ReadsRelation ns x d (Ok q) → relation_of r ≡ relation_of q
+OneRelation = (S : Scope) (ns : List (List ℕ)) (x : List ℕ) (d : Sexp) (r q : Relation) → ReadsRelation S ns x d (Ok r) → ReadsRelation S ns x d (Ok q) → relation_of r ≡ relation_of q
 
 -- a datum has one refusal as a relation at most
 abbrev pub OneRelationRefusal : Type 0
 OneRelationRefusal =
-    (ns : List (List ℕ)) (x : List ℕ) (d : Sexp) (r q : DefRefusal) → ReadsRelation ns x d (Err (Refused r)) → ReadsRelation ns x d (Err (Refused q)) → refusal_of r ≡ refusal_of q
+    (S : Scope) (ns : List (List ℕ)) (x : List ℕ) (d : Sexp) (r q : DefRefusal) → ReadsRelation S ns x d (Err (Refused r)) → ReadsRelation S ns x d (Err (Refused q)) → refusal_of r ≡ refusal_of q
 
 -- a datum that is a relation isn't refused as one
 abbrev pub NeverBothRelation : Type 0
-NeverBothRelation = (ns : List (List ℕ)) (x : List ℕ) (d : Sexp) (r : Relation) (q : DefRefusal) → ReadsRelation ns x d (Ok r) → ReadsRelation ns x d (Err (Refused q)) → ⊥
+NeverBothRelation = (S : Scope) (ns : List (List ℕ)) (x : List ℕ) (d : Sexp) (r : Relation) (q : DefRefusal) → ReadsRelation S ns x d (Ok r) → ReadsRelation S ns x d (Err (Refused q)) → ⊥
 
 -- each datum has the parts of a relation and passes the checks, or is refused as one
 abbrev pub NeverNeitherRelation : Type 0
-NeverNeitherRelation = (ns : List (List ℕ)) (d : Sexp) → ((relation_refusal ns d ≡ None) × IsSome (relation_form d)) ⊎ IsSome (relation_refusal ns d)
+NeverNeitherRelation = (S : Scope) (ns : List (List ℕ)) (d : Sexp) → ((relation_refusal S ns d ≡ None) × IsSome (relation_form d)) ⊎ IsSome (relation_refusal S ns d)

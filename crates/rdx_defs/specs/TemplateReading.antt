@@ -1,14 +1,18 @@
--- The template that a datum stands for, where these names are bound. A datum that is refused has a template too, which counts for nothing.
-use Rattle.std.specs.Prelude.{ℕ, Bool, true, false, List, Option, Some, None, if◌then◌else◌}
+-- The template or the host expression that a datum stands for, where these names are bound. A datum that is refused has one too, which counts for
+-- nothing.
+use Rattle.std.specs.Prelude.{ℕ, Bool, true, false, List, [], Option, Some, None, if◌then◌else◌}
 use Rattle.rdx_sexp.specs.Sexp.{Atom, integer, truth, text, symbol, keyword, Sexp, Sexps, leaf, list, nil, cons}
 use Rattle.rdx_term.specs.Spelling.{is_name}
 use Rattle.rdx_term.specs.Tree as tree
 use Rattle.rdx_lang.specs.Templates as model
-use Rattle.rdx_lang.specs.Templates.{Template, lit, var, fill, seq, Items}
-use Rattle.rdx_grammar.specs.Heads.{Head, naming, avoiding, prefixing, splitting, hiding, plain, Role, Roles, next, rest, is_repeated}
+use Rattle.rdx_lang.specs.Templates.{Template, lit, var, fill, call, host, seq, Items, Host, term, number, boolean, apply, both, either, Hosts, none, more}
+use Rattle.rdx_grammar.specs.Heads.{Role, Roles, item, every, word, pattern, next, rest, is_repeated}
+use Rattle.rdx_grammar.specs.Parts.{text_of}
 use Rattle.rdx_grammar.specs.Reading.{is_pattern}
 use Rattle.rdx_defs.specs.Bound.{Bound, depth_of}
-use Rattle.rdx_defs.specs.TemplateHeads.{template_head, template_roles, is_template_list}
+use Rattle.rdx_defs.specs.HostHeads.{HostHead, quoting, applying, all_of, some_of, miscounted, foreign, host_head}
+use Rattle.rdx_defs.specs.Scope.{Scope}
+use Rattle.rdx_defs.specs.TemplateHeads.{TemplateHead, filling, evaluating, splicing, calling, listing, template_head, template_roles}
 
 -- ---- symbols
 
@@ -50,24 +54,79 @@ filled_by (model.one c (model.one t (model.many u ts))) = lit tree.hole
 filled_by (model.one c (model.many t ts)) = lit tree.hole
 filled_by (model.many c ts) = lit tree.hole
 
--- a list with such a head, put together from its item templates
-abbrev pub assembled_template : Head → Items → Template
-assembled_template naming ts = seq ts
-assembled_template avoiding ts = seq ts
-assembled_template prefixing ts = seq ts
-assembled_template splitting ts = filled_by ts
-assembled_template hiding ts = seq ts
-assembled_template plain ts = seq ts
+-- the text of the head of a list
+abbrev pub head_text : Sexps → List ℕ
+head_text nil = []
+head_text (cons d ds) = text_of d
+
+-- the template of the host expression, where these are the one; others are refused
+abbrev pub hosted : Hosts → Template
+hosted none = lit tree.hole
+hosted (more h none) = host h
+hosted (more h (more g hs)) = lit tree.hole
+
+-- a list with such a head, put together from the text of that, from its item templates, and from what stands behind it as host expressions
+abbrev pub assembled_template : TemplateHead → List ℕ → Items → Hosts → Template
+assembled_template filling f ts hs = filled_by ts
+assembled_template evaluating f ts hs = hosted hs
+assembled_template splicing f ts hs = lit tree.hole
+assembled_template calling f ts hs = call f ts
+assembled_template listing f ts hs = seq ts
+
+-- ---- host expressions
+
+-- an integer or a boolean; other atoms are refused
+abbrev pub atom_host : Atom → Host
+atom_host (integer n) = number n
+atom_host (truth b) = boolean b
+atom_host (text t) = boolean false
+atom_host (symbol x) = boolean false
+atom_host (keyword k) = boolean false
+
+-- the host expression of the template, where these are the one; others are refused
+abbrev pub quoted : Items → Host
+quoted model.nil = boolean false
+quoted (model.one t model.nil) = term t
+quoted (model.one t (model.one u ts)) = boolean false
+quoted (model.one t (model.many u ts)) = boolean false
+quoted (model.many t ts) = boolean false
+
+-- a list with such a head, put together from what stands behind it, as templates and as host expressions
+abbrev pub assembled_host : HostHead → Items → Hosts → Host
+assembled_host quoting ts hs = quoted ts
+assembled_host (applying op) ts hs = apply op hs
+assembled_host all_of ts hs = both hs
+assembled_host some_of ts hs = either hs
+assembled_host miscounted ts hs = boolean false
+assembled_host foreign ts hs = boolean false
+
+-- ---- data
 
 abbrev mutual
-  -- the template of a datum where these names are bound; a list without its shape is refused
-  pub template_reading : Bound → Sexp → Template
-  template_reading bs (leaf a s) = atom_template bs a
-  template_reading bs (list ds s) =
-      if is_template_list ds then assembled_template (template_head ds) (templates_among bs (template_roles ds) ds) else lit tree.hole
+  -- the template of a datum in this scope, where these names are bound
+  pub template_reading : Scope → Bound → Sexp → Template
+  template_reading S bs (leaf a s) = atom_template bs a
+  template_reading S bs (list ds s) =
+      assembled_template (template_head S bs ds) (head_text ds) (templates_among S bs (template_roles (template_head S bs ds)) ds) (hosts_behind S bs ds)
 
   -- the item templates among items in these roles
-  pub templates_among : Bound → Roles → Sexps → Items
-  templates_among bs rs nil = model.nil
-  templates_among bs rs (cons d ds) =
-      role_template (next rs d) (is_repeated (rest rs d) ds) (template_reading bs d) (templates_among bs (rest rs d) ds)
+  pub templates_among : Scope → Bound → Roles → Sexps → Items
+  templates_among S bs rs nil = model.nil
+  templates_among S bs rs (cons d ds) =
+      role_template (next rs d) (is_repeated (rest rs d) ds) (template_reading S bs d) (templates_among S bs (rest rs d) ds)
+
+  -- the host expression of a datum
+  pub host_reading : Scope → Bound → Sexp → Host
+  host_reading S bs (leaf a s) = atom_host a
+  host_reading S bs (list ds s) =
+      assembled_host (host_head ds) (templates_among S bs (item word (every pattern)) ds) (hosts_behind S bs ds)
+
+  -- those of data
+  pub hosts_among : Scope → Bound → Sexps → Hosts
+  hosts_among S bs nil = none
+  hosts_among S bs (cons d ds) = more (host_reading S bs d) (hosts_among S bs ds)
+
+  -- those of data behind a head
+  pub hosts_behind : Scope → Bound → Sexps → Hosts
+  hosts_behind S bs nil = none
+  hosts_behind S bs (cons d ds) = hosts_among S bs ds

@@ -1,6 +1,8 @@
 //! Laws of the definitions: functions that do nothing, whose contracts are the laws.
-ghost use Rattle.rdx_defs.specs.Examples.{DepthRefused, Fills, KeywordFirst, KeywordRefused, Repeats, ShapeRefused, StandsForItself, UndrivenRefused};
-ghost use Rattle.rdx_defs.specs.Laws.{NeverBothTemplate, NeverNeitherTemplate, OneTemplate, OneTemplateRefusal};
+ghost use Rattle.rdx_defs.specs.Examples.{BareEllipsisRefused, Calls, CountRefused, DepthRefused, EscapeRefused, Evaluates, Fills, KeywordFirst, KeywordRefused, ListsBehind, Repeats, ShapeRefused, StandsForItself, UndrivenRefused};
+ghost use Rattle.rdx_defs.specs.Laws.{NeverBothHost, NeverBothTemplate, NeverNeitherHost, NeverNeitherTemplate, OneHost, OneHostRefusal, OneTemplate, OneTemplateRefusal};
+ghost use Rattle.rdx_defs.specs.MetafunctionExamples.{CallsAnother, ClosesContract, NamedClauseRefused, OtherNameRefused};
+ghost use Rattle.rdx_defs.specs.MetafunctionLaws.{NeverBothMetafunction, NeverNeitherMetafunction, OneMetafunction, OneMetafunctionRefusal};
 ghost use Rattle.rdx_defs.specs.RelationExamples.{ArrowRefused, BindsBehind, ClashRefused, ExtraRefused, NameRefused, ResultRefused};
 ghost use Rattle.rdx_defs.specs.RelationLaws.{NeverBothRelation, NeverNeitherRelation, OneRelation, OneRelationRefusal};
 
@@ -11,6 +13,24 @@ pub fn one_template()
     ensures refusal { OneTemplateRefusal }
     ensures never_both { NeverBothTemplate }
     ensures never_neither { NeverNeitherTemplate }
+{}
+
+/// Where given names are bound, a datum is one host expression at most, or has one refusal at most,
+/// and always one of both.
+pub fn one_host()
+    ensures host { OneHost }
+    ensures refusal { OneHostRefusal }
+    ensures never_both { NeverBothHost }
+    ensures never_neither { NeverNeitherHost }
+{}
+
+/// Over given nonterminals, a datum is one metafunction at most, or has one refusal at most, and
+/// always one of both.
+pub fn one_metafunction()
+    ensures metafunction { OneMetafunction }
+    ensures refusal { OneMetafunctionRefusal }
+    ensures never_both { NeverBothMetafunction }
+    ensures never_neither { NeverNeitherMetafunction }
 {}
 
 /// With a given name, over given nonterminals, a datum is one relation at most, or has one refusal
@@ -32,6 +52,12 @@ pub fn worked_examples()
     ensures shape { ShapeRefused }
     ensures depth { DepthRefused }
     ensures undriven { UndrivenRefused }
+    ensures calls { Calls }
+    ensures lists_behind { ListsBehind }
+    ensures evaluates { Evaluates }
+    ensures escape { EscapeRefused }
+    ensures count { CountRefused }
+    ensures bare_ellipsis { BareEllipsisRefused }
 {}
 
 /// Worked examples: what a datum is as a relation, and where others are refused as ones.
@@ -42,4 +68,12 @@ pub fn worked_relations()
     ensures extra { ExtraRefused }
     ensures shallow { ResultRefused }
     ensures clash { ClashRefused }
+{}
+
+/// Worked examples: what data are as metafunctions, and where others are refused as ones.
+pub fn worked_metafunctions()
+    ensures contract { ClosesContract }
+    ensures calls { CallsAnother }
+    ensures other_name { OtherNameRefused }
+    ensures named_clause { NamedClauseRefused }
 {}

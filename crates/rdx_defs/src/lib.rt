@@ -1,14 +1,28 @@
-//! Templates and relations from data.
+//! Templates, host expressions, metafunctions and relations from data.
 //!
-//! [`read_template`] gives the template that a datum is where some names are bound, and
-//! [`read_relation`] the relation that a `reduction-relation` form is over a language; or they
-//! refuse it at the first place of the check with the least number that refuses it. What they mean
-//! follows the Redex reference manual ("Terms", "Reduction Relations").
+//! [`read_template`] and [`read_host`] give the template and the host expression that a datum is
+//! where some names are bound; [`read_metafunction`] and [`read_relation`] give the metafunction that
+//! a `define-metafunction` form is, and the relation that a `reduction-relation` form is, over a
+//! language; or they refuse it at the first place of the check with the least number that refuses
+//! it. A metafunction is known in the whole file, so each of these is given a [`Scope`], which
+//! [`scope_of`] finds before any form is read. What forms mean follows the Redex reference manual
+//! ("Terms", "Other Relations", "Reduction Relations"), and host expressions the Racket reference.
 #![tactic(auto)]
 
+mod branches;
+mod extras;
 pub mod laws;
+mod metafunctions;
+mod operations;
 mod relations;
+mod scope;
+mod scopes;
+mod stands;
 mod templates;
 
+pub use metafunctions::{metafunction_name, read_metafunction};
+pub use operations::operation_text;
 pub use relations::read_relation;
-pub use templates::read_template;
+pub use scope::Scope;
+pub use scopes::scope_of;
+pub use templates::{read_host, read_template};

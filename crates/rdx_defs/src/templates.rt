@@ -1,12 +1,15 @@
-// Templates.
+// Templates and host expressions.
 
 pub(crate) mod bound;
 pub(crate) mod checks;
 pub(crate) mod driving;
 pub(crate) mod heads;
+pub(crate) mod host_heads;
 pub(crate) mod parts;
+pub(crate) mod places;
 mod reader;
 pub(crate) mod readings;
 mod refusals;
+pub(crate) mod shapes;
 
-pub use reader::read_template;
+pub use reader::{read_host, read_template};

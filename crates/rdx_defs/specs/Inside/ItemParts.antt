@@ -1,7 +1,7 @@
--- The items of list templates.
+-- The items of list templates, and the arguments of host expressions.
 use Rattle.std.specs.Prelude.{Bool, Option, Some, None, if◌then◌else◌}
 use Rattle.rdx_lang.specs.TemplateView.{Part, just, repeated}
-use Rattle.rdx_lang.specs.Templates.{Template, Items, nil, one, many}
+use Rattle.rdx_lang.specs.Templates.{Template, Items, nil, one, many, Host, Hosts, none, more}
 
 -- the item of a template, by itself or under an ellipsis
 abbrev pub item_part : Bool → Template → Part
@@ -24,3 +24,9 @@ only_items (one c (one t (one u ts))) = None
 only_items (one c (one t (many u ts))) = None
 only_items (one c (many t ts)) = None
 only_items (many c ts) = None
+
+-- the host expression of a list of one
+abbrev pub only_host : Hosts → Option Host
+only_host none = None
+only_host (more h none) = Some h
+only_host (more h (more g hs)) = None

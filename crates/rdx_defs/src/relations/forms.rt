@@ -1,21 +1,12 @@
-// The parts of forms of relations, of cases and of extras.
-ghost use Rattle.std.specs.Prelude.{◌≡◌, Some, option_map};
-ghost use Rattle.rdx_defs.specs.Inside.RelationViews.{extra_form_of, case_form_of, relation_form_of};
+// The parts of forms of relations and of cases.
+ghost use Rattle.std.specs.Prelude.{◌≡◌, option_map};
+ghost use Rattle.rdx_defs.specs.Inside.Branches.{case_branch};
+ghost use Rattle.rdx_defs.specs.Inside.FormViews.{branch_of, case_form_of, relation_form_of};
 ghost use Rattle.rdx_defs.specs.RelationForms as model;
 
+use crate::branches::{Branch, Takes};
 use rdx_grammar::shape::{is_symbol, is_word, items};
 use rdx_sexp::{Datum, Form};
-
-/// What stands behind the template of a case.
-#[derive(Clone, Copy)]
-pub(crate) enum ExtraForm<'a> {
-    /// `(where p t)`
-    SuchThat(&'a Datum, &'a Datum),
-    /// The name of the case.
-    Name,
-    /// What is neither.
-    NoExtra,
-}
 
 /// A case: `(--> p t extra ...)`, with any symbol for the arrow.
 #[derive(Clone, Copy)]
@@ -34,31 +25,6 @@ pub(crate) struct RelationForm<'a> {
     pub(crate) cases: &'a [Datum],
 }
 
-// A list of these parts as an extra.
-fn extra_among(parts: &[Datum]) -> ExtraForm<'_>
-    ensures { extra_form_of result ≡ model.extra_among (Some parts.now) }
-{
-    let [word, pattern, template] = parts else {
-        return ExtraForm::NoExtra;
-    };
-    if is_word(word, "where") {
-        ExtraForm::SuchThat(pattern, template)
-    } else {
-        ExtraForm::NoExtra
-    }
-}
-
-/// A datum as an extra; a symbol or a string is the name.
-pub(crate) fn extra_form(d: &Datum) -> ExtraForm<'_>
-    ensures { extra_form_of result ≡ model.extra_form d.now }
-{
-    match &d.form {
-        Form::Int(_) | Form::Bool(_) | Form::Key(_) => ExtraForm::NoExtra,
-        Form::Str(_) | Form::Sym(_) => ExtraForm::Name,
-        Form::List(parts) => extra_among(parts),
-    }
-}
-
 /// A datum as a case.
 pub(crate) fn case_form(d: &Datum) -> Option<CaseForm<'_>>
     ensures { option_map case_form_of result ≡ model.case_form d.now }
@@ -75,6 +41,17 @@ pub(crate) fn case_form(d: &Datum) -> Option<CaseForm<'_>>
         })
     } else {
         None
+    }
+}
+
+/// The branch of a case.
+pub(crate) fn case_branch<'a>(case: CaseForm<'a>) -> Branch<'a>
+    ensures { branch_of result ≡ case_branch (case_form_of case.entry) }
+{
+    Branch {
+        takes: Takes::One(case.pattern),
+        extras: case.extras,
+        result: case.result,
     }
 }
 
@@ -114,8 +91,8 @@ fn relation_over<'a>(language: &'a Datum, parts: &'a [Datum]) -> RelationForm<'a
     }
 }
 
-// Whether the datum may name a language.
-fn may_name(d: &Datum) -> bool
+/// Whether the datum may name a language.
+pub(crate) fn may_name(d: &Datum) -> bool
     ensures { result ≡ model.may_name d.now }
 {
     is_symbol(d) && !is_word(d, "hole")

@@ -6,11 +6,16 @@ ghost use Rattle.rdx_lang.specs.Valid.{is_valid_over};
 ghost use Rattle.rdx_grammar.specs.Nonterminals.{names_of};
 ghost use Rattle.rdx_grammar.specs.Readable.{IsReadable};
 ghost use Rattle.rdx_defs.specs.Answers.{ReadsRelation};
+ghost use Rattle.rdx_defs.specs.Scope.{has_metafunction, scope_of};
 
+use crate::Scope;
 use crate::relations::forms::relation_form;
 use crate::relations::readings::read_parts;
-use crate::relations::refusals::refuse_relation;
-use rdx_grammar::{DefFault, Names, language_names};
+use crate::relations::stands::{relation_outline, relation_stands};
+use crate::stands::refusals::refuse_parts;
+use rdx_grammar::refusal::unnamed;
+use rdx_grammar::unbuilt::has_word_to_come;
+use rdx_grammar::{DefFault, DefKind, Names, language_names};
 use rdx_lang::{CheckedLang, Relation};
 use rdx_sexp::Datum;
 use rdx_term::Name;
@@ -20,23 +25,31 @@ use std::alloc::Global;
 /// the name of that is.
 pub fn read_relation(
     alloc: Global,
+    scope: &Scope,
     language: &mut CheckedLang,
     name: &Name,
     form: &Datum,
 ) -> Result<Relation, DefFault>
     requires { IsReadable form.now }
-    ensures reads { ReadsRelation (names_of (language_in language.old)) name.now form.now result }
+    ensures reads { ReadsRelation (scope_of scope.now) (names_of (language_in language.old))
+        name.now form.now result }
     ensures same { language_in language.new ≡ language_in language.old }
     ensures valid { IfOk result (λ r.
-        IsTrue (is_valid_over (Some (language_in language.new)) (relation_of r))) }
+        IsTrue (is_valid_over (has_metafunction (scope_of scope.now))
+        (Some (language_in language.new)) (relation_of r))) }
 {
+    if has_word_to_come(form) {
+        return Err(DefFault::Refused(unnamed(DefKind::Unbuilt, form)));
+    }
+    let Some(parts) = relation_form(form) else {
+        return Err(DefFault::Refused(unnamed(DefKind::Shape, form)));
+    };
     let all = language_names(alloc, language)?;
     let names = Names::new(alloc, &all)?;
-    if let Some(refusal) = refuse_relation(alloc, &names, form)? {
+    let found = relation_stands(alloc, parts)?;
+    let outline = relation_outline(alloc, parts)?;
+    if let Some(refusal) = refuse_parts(alloc, scope, &names, &found, &outline)? {
         return Err(DefFault::Refused(refusal));
     }
-    match relation_form(form) {
-        Some(parts) => Ok(read_parts(alloc, language, &names, name, parts)?),
-        None => unreachable!(),
-    }
+    Ok(read_parts(alloc, scope, language, &names, name, parts, &outline)?)
 }

@@ -1,16 +1,21 @@
-// Which ellipses the names in a template drive.
-ghost use Rattle.std.specs.Prelude.{◌≡◌, option_map, max};
+// Which ellipses the names in a template or a host expression drive.
+ghost use Rattle.std.specs.Prelude.{◌≡◌, None, drop, option_map};
 ghost use Rattle.std.specs.Rc.{rc_str_bytes};
+ghost use Rattle.rdx_sexp.specs.Sexp.{sexps};
+ghost use Rattle.rdx_grammar.specs.HeadView.{roles_view};
 ghost use Rattle.rdx_grammar.specs.PatternChecks.{when};
 ghost use Rattle.rdx_grammar.specs.Refusal.{first, or_else};
 ghost use Rattle.rdx_defs.specs.Inside.Reach as model;
+ghost use Rattle.rdx_defs.specs.Scope.{scope_of};
 ghost use Rattle.rdx_defs.specs.TemplateChecks.{undriven_parts};
-ghost use Rattle.rdx_defs.specs.TemplateOccurrences.{template_parts};
-ghost use Rattle.rdx_defs.specs.TemplateReading.{symbol_template, template_reading};
+ghost use Rattle.rdx_defs.specs.TemplateOccurrences.{template_parts, parts_among, host_parts, host_parts_behind};
+ghost use Rattle.rdx_defs.specs.TemplateReading.{symbol_template, template_reading, templates_among, host_reading, hosts_behind};
 
+use crate::Scope;
 use crate::templates::bound::depth_of;
-use crate::templates::heads::template_roles;
-use rdx_grammar::heads::{fits, is_pattern, is_repeated, next, rest};
+use crate::templates::heads::{TemplateHead, template_head};
+use crate::templates::host_heads::{HostHead, host_head};
+use rdx_grammar::heads::{Role, Roles, is_pattern, is_repeated, next, rest};
 use rdx_sexp::{Datum, Form};
 use rdx_term::Name;
 
@@ -20,6 +25,17 @@ use rdx_term::Name;
 pub(crate) struct Driving<'a> {
     pub reach: u32,
     pub undriven: Option<&'a Datum>,
+}
+
+// So many ellipses, and no undriven item.
+fn reaching<'a>(reach: u32) -> Driving<'a>
+    ensures reach { result.reach ≡ reach }
+    ensures undriven { option_map (λ d. d.now) result.undriven ≡ None }
+{
+    Driving {
+        reach,
+        undriven: None,
+    }
 }
 
 // How many ellipses a symbol drives.
@@ -65,36 +81,104 @@ fn undriven_in<'a>(repeated: bool, item: &'a Datum, inner: Driving<'a>) -> Optio
 }
 
 /// What the names in the template of a datum drive, in one walk.
-pub(crate) fn driving_of<'a>(bound: &[(Name, u32)], d: &'a Datum) -> Driving<'a>
-    ensures reach { result.reach ≡ model.reach (template_reading bound.now d.now) }
+#[cycle(driving)]
+pub(crate) fn driving_of<'a>(scope: &Scope, bound: &[(Name, u32)], d: &'a Datum) -> Driving<'a>
+    ensures reach { result.reach
+        ≡ model.reach (template_reading (scope_of scope.now) bound.now d.now) }
     ensures undriven { option_map (λ d. d.now) result.undriven
-        ≡ first (undriven_parts bound.now (template_parts 0 d.now)) }
+        ≡ first (undriven_parts (scope_of scope.now) bound.now
+        (template_parts (scope_of scope.now) bound.now 0 d.now)) }
 {
-    let mut all = Driving {
-        reach: 0,
-        undriven: None,
-    };
     match &d.form {
-        Form::Int(_) | Form::Bool(_) | Form::Str(_) | Form::Key(_) => {}
-        Form::Sym(text) => all.reach = symbol_reach(bound, text.as_str()),
-        Form::List(items) => {
-            let mut left = template_roles(items);
-            if !fits(left, items) {
-                return all;
-            }
-            for (i, item) in items.iter().enumerate() {
-                let role = next(left, item);
-                left = rest(left, item);
-                if is_pattern(role) {
-                    let repeated = is_repeated(left, &items[i + 1..]);
-                    let inner = driving_of(bound, item);
-                    all = Driving {
-                        reach: all.reach.max(outside(repeated, inner.reach)),
-                        undriven: or_else(all.undriven, undriven_in(repeated, item, inner)),
-                    };
+        Form::Int(_) | Form::Bool(_) | Form::Str(_) | Form::Key(_) => reaching(0),
+        Form::Sym(text) => reaching(symbol_reach(bound, text.as_str())),
+        Form::List(items) => match template_head(scope, bound, items) {
+            TemplateHead::Filling => {
+                if items.len() != 3 {
+                    return reaching(0);
                 }
+                driving_of_items(scope, bound, Roles::Every(Role::Pattern), 1, items)
             }
+            TemplateHead::Evaluating => driving_of_hosts(scope, bound, items),
+            TemplateHead::Splicing => reaching(0),
+            TemplateHead::Calling(_) => driving_of_items(scope, bound, Roles::Patterns, 1, items),
+            TemplateHead::Listing => driving_of_items(scope, bound, Roles::Patterns, 0, items),
+        },
+    }
+}
+
+// What those do in the items from this one on, which stand in these roles.
+#[cycle(driving)]
+fn driving_of_items<'a>(
+    scope: &Scope,
+    bound: &[(Name, u32)],
+    roles: Roles,
+    from: usize,
+    items: &'a [Datum],
+) -> Driving<'a>
+    ensures reach { result.reach
+        ≡ model.reach_among (templates_among (scope_of scope.now) bound.now (roles_view roles)
+        (sexps (drop from items.now))) }
+    ensures undriven { option_map (λ d. d.now) result.undriven
+        ≡ first (undriven_parts (scope_of scope.now) bound.now
+        (parts_among (scope_of scope.now) bound.now 0 (roles_view roles)
+        (sexps (drop from items.now)))) }
+{
+    let mut left = roles;
+    let mut reach = 0;
+    let mut undriven = None;
+    for i in from..items.len() {
+        let item = &items[i];
+        let role = next(left, item);
+        left = rest(left, item);
+        if is_pattern(role) {
+            let repeated = is_repeated(left, &items[i + 1..]);
+            let inner = driving_of(scope, bound, item);
+            reach = reach.max(outside(repeated, inner.reach));
+            undriven = or_else(undriven, undriven_in(repeated, item, inner));
         }
     }
-    all
+    Driving { reach, undriven }
+}
+
+/// What those do in the host expression of a datum.
+#[cycle(driving)]
+pub(crate) fn driving_of_host<'a>(scope: &Scope, bound: &[(Name, u32)], d: &'a Datum) -> Driving<'a>
+    ensures reach { result.reach
+        ≡ model.reach_in (host_reading (scope_of scope.now) bound.now d.now) }
+    ensures undriven { option_map (λ d. d.now) result.undriven
+        ≡ first (undriven_parts (scope_of scope.now) bound.now
+        (host_parts (scope_of scope.now) bound.now 0 d.now)) }
+{
+    match &d.form {
+        Form::Int(_) | Form::Bool(_) | Form::Str(_) | Form::Sym(_) | Form::Key(_) => reaching(0),
+        Form::List(items) => match host_head(items) {
+            HostHead::Quoting => {
+                driving_of_items(scope, bound, Roles::Every(Role::Pattern), 1, items)
+            }
+            HostHead::Applying(_) | HostHead::AllOf | HostHead::SomeOf => {
+                driving_of_hosts(scope, bound, items)
+            }
+            HostHead::Miscounted | HostHead::Foreign => reaching(0),
+        },
+    }
+}
+
+// What those do in the host expressions behind a head.
+#[cycle(driving)]
+fn driving_of_hosts<'a>(scope: &Scope, bound: &[(Name, u32)], items: &'a [Datum]) -> Driving<'a>
+    ensures reach { result.reach
+        ≡ model.reach_in_all (hosts_behind (scope_of scope.now) bound.now (sexps items.now)) }
+    ensures undriven { option_map (λ d. d.now) result.undriven
+        ≡ first (undriven_parts (scope_of scope.now) bound.now
+        (host_parts_behind (scope_of scope.now) bound.now 0 (sexps items.now))) }
+{
+    let mut reach = 0;
+    let mut undriven = None;
+    for i in 1..items.len() {
+        let inner = driving_of_host(scope, bound, &items[i]);
+        reach = reach.max(inner.reach);
+        undriven = or_else(undriven, inner.undriven);
+    }
+    Driving { reach, undriven }
 }

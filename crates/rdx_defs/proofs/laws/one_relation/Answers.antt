@@ -1,4 +1,4 @@
-use Rattle.rdx_defs.proofs.OneRelation.{one_relation, one_relation_refusal, never_both_relation, never_neither_relation}
+use Rattle.rdx_defs.proofs.OneForm.{one_relation, one_relation_refusal, never_both_relation, never_neither_relation}
 use Rattle.rdx_defs.proofs.laws.one_relation.Goals as goal
 
 pub returns-clause-relation : goal.returns-clause-relation

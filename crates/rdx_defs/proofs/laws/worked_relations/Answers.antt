@@ -1,4 +1,4 @@
-use Rattle.rdx_defs.proofs.RelationExamples.{binds_behind, name_refused, arrow_refused, extra_refused, result_refused, clash_refused}
+use Rattle.rdx_defs.proofs.FormExamples.{binds_behind, name_refused, arrow_refused, extra_refused, result_refused, clash_refused}
 use Rattle.rdx_defs.proofs.laws.worked_relations.Goals as goal
 
 pub returns-clause-binds_behind : goal.returns-clause-binds_behind

@@ -1,89 +1,115 @@
-use Rattle.std.proofs.Common.{◌≡◌, ◌∙◌, ℕ, List, [], Some, None, true, sym, ap, subst}
+use Rattle.std.proofs.Common.{◌≡◌, ◌∙◌, ℕ, List, [], Some, None, true, sym, ap, subst, if◌then◌else◌}
 use Rattle.std.specs.Prelude.{option_map}
 use Rattle.rdx_lang.specs.Checked.{language_in}
 use Rattle.rdx_lang.specs.ProgramView.{relation_of}
 use Rattle.rdx_lang.specs.Programs.{Relation}
 use Rattle.rdx_lang.specs.Valid.{is_valid_over}
 use Rattle.rdx_grammar.specs.Nonterminals.{names_of}
-use Rattle.rdx_grammar.specs.Readable.{IsReadable}
-use Rattle.rdx_grammar.specs.Refusal.{refusal_of}
-use Rattle.rdx_defs.specs.Inside.PartsHave.{RelationHas, IsPattern}
-use Rattle.rdx_defs.specs.Inside.RelationViews.{relation_form_of}
+use Rattle.rdx_grammar.specs.Refusal.{refusal_of, unnamed}
+use Rattle.rdx_grammar.specs.Unbuilt.{unbuilt_at}
+use Rattle.rdx_grammar.specs.declared.shape.fault.DefKind.TheVariants.{Unbuilt}
+use Rattle.rdx_defs.specs.Inside.BareStands.{relation_stands}
+use Rattle.rdx_defs.specs.Inside.Branches.{Outline, relation_outline}
+use Rattle.rdx_defs.specs.Inside.FormRefusals.{form_refusal}
+use Rattle.rdx_defs.specs.Inside.FormViews.{relation_form_of, outline_of, stands_of}
+use Rattle.rdx_defs.specs.Inside.PartsHave.{OutlineHas, CanBind, IsPattern}
 use Rattle.rdx_defs.specs.RelationForms.{relation_form}
 use Rattle.rdx_defs.specs.RelationReading.{relation_reading}
 use Rattle.rdx_defs.specs.RelationRefusal.{relation_refusal}
-use Rattle.rdx_defs.proofs.ReadableParts.{form-readable}
-use Rattle.rdx_defs.proofs.RelationRefusals.{passed-form}
-use Rattle.rdx_defs.proofs.ValidRelations.{passed-relation}
+use Rattle.rdx_defs.specs.Scope.{scope_of, has_metafunction}
+use Rattle.rdx_defs.proofs.FormRefusals.{relation-refused}
+use Rattle.rdx_defs.proofs.PassedForms.{relation-early, relation-valid}
+use Rattle.rdx_defs.proofs.ReadableParts.{relation-readable}
 use Rattle.rdx_defs.proofs.relations.reader.read_relation.Goals as goal
 
-pub returns-in-Some-clause-reads : goal.returns-in-Some-clause-reads
-returns-in-Some-clause-reads c =
+pub relation_stands-requires-clause-domain : goal.relation_stands-requires-clause-domain
+relation_stands-requires-clause-domain c =
+    (relation-readable c.args.form.now (relation_form_of c.in-Some.parts) c.requires (sym c.relation_form.ensures ∙ ap (option_map relation_form_of) c.in-Some.is)).domain
+
+pub relation_stands-requires-clause-cases : goal.relation_stands-requires-clause-cases
+relation_stands-requires-clause-cases c =
+    (relation-readable c.args.form.now (relation_form_of c.in-Some.parts) c.requires (sym c.relation_form.ensures ∙ ap (option_map relation_form_of) c.in-Some.is)).cases
+
+pub refuse_parts-requires : goal.refuse_parts-requires
+refuse_parts-requires c =
+    let d = c.args.form.now in
+    let r = relation_form_of c.in-Some.parts in
+    let f : relation_form d ≡ Some r = sym c.relation_form.ensures ∙ ap (option_map relation_form_of) c.in-Some.is in
+    let q : stands_of c.deref-2.result.now ≡ relation_stands r = ap stands_of c.deref-2.ensures.value ∙ c.in_ok-found.ensures in
+    λ e. subst (λ (o : Outline). OutlineHas (CanBind c.in_ok-names.names) o) (sym c.in_ok-outline.ensures)
+    (relation-early c.in_ok-names.names d r (stands_of c.deref-2.result.now) c.requires f q e)
+
+pub returns-in-Some-2-clause-reads : goal.returns-in-Some-2-clause-reads
+returns-in-Some-2-clause-reads c =
+    let S = scope_of c.args.scope.now in
     let L = language_in c.args.language.now in
     let d = c.args.form.now in
+    let r = relation_form_of c.in-Some.parts in
+    let f : relation_form d ≡ Some r = sym c.relation_form.ensures ∙ ap (option_map relation_form_of) c.in-Some.is in
+    let u : unbuilt_at d ≡ None = ap (λ b. if b then Some (unnamed Unbuilt d) else None) (sym c.has_word_to_come.ensures ∙ c.if-has_word_to_come.false) in
     let n0 : c.in_ok-all.all.items ≡ names_of L = c.in_ok-all.ensures in
     let m : c.in_ok-names.names ≡ c.deref.result.now = c.in_ok-names.ensures in
     let n : c.in_ok-names.names ≡ names_of L = cc in
-    let r : option_map refusal_of c.in_ok-refusal.field-0 ≡ relation_refusal c.in_ok-names.names d = c.in_ok-refusal.ensures in
-    ap (λ xs. relation_refusal xs d) (sym n) ∙ sym r ∙ ap (option_map refusal_of) c.in-Some.is
+    let q : stands_of c.deref-2.result.now ≡ relation_stands r = ap stands_of c.deref-2.ensures.value ∙ c.in_ok-found.ensures in
+    let o : outline_of c.in_ok-outline.outline ≡ relation_outline r = c.in_ok-outline.ensures in
+    relation-refused S (names_of L) d r u f ∙ (λ i. form_refusal S (sym n i) (sym q i) (sym o i)) ∙ sym c.in_ok-refusal.ensures ∙ ap (option_map refusal_of) c.in-Some-2.is
 
 pub read_parts-requires-clause-parts : goal.read_parts-requires-clause-parts
 read_parts-requires-clause-parts c =
+    let S = scope_of c.args.scope.now in
     let L = language_in c.args.language.now in
     let d = c.args.form.now in
+    let r = relation_form_of c.in-Some.parts in
+    let f : relation_form d ≡ Some r = sym c.relation_form.ensures ∙ ap (option_map relation_form_of) c.in-Some.is in
+    let u : unbuilt_at d ≡ None = ap (λ b. if b then Some (unnamed Unbuilt d) else None) (sym c.has_word_to_come.ensures ∙ c.if-has_word_to_come.false) in
     let n0 : c.in_ok-all.all.items ≡ names_of L = c.in_ok-all.ensures in
     let m : c.in_ok-names.names ≡ c.deref.result.now = c.in_ok-names.ensures in
     let n : c.in_ok-names.names ≡ names_of L = cc in
-    let r : option_map refusal_of c.in_ok-refusal.field-0 ≡ relation_refusal c.in_ok-names.names d = c.in_ok-refusal.ensures in
-    let e : relation_refusal (names_of L) d ≡ None = ap (λ xs. relation_refusal xs d) (sym n) ∙ sym r ∙ ap (option_map refusal_of) c.in_default.is in
-    let form = relation_form_of c.in-Some-relation_form.parts in
-    let f : relation_form d ≡ Some form = sym c.relation_form.ensures ∙ ap (option_map relation_form_of) c.in-Some-relation_form.is in
-    subst (λ (xs : List (List ℕ)). RelationHas (IsPattern L xs) IsReadable form) (sym n) (passed-relation L d form [] c.requires f e).0
+    let q : stands_of c.deref-2.result.now ≡ relation_stands r = ap stands_of c.deref-2.ensures.value ∙ c.in_ok-found.ensures in
+    let o : outline_of c.in_ok-outline.outline ≡ relation_outline r = c.in_ok-outline.ensures in
+    let e : relation_refusal S (names_of L) d ≡ None =
+    relation-refused S (names_of L) d r u f ∙ (λ i. form_refusal S (sym n i) (sym q i) (sym o i)) ∙ sym c.in_ok-refusal.ensures ∙ ap (option_map refusal_of) c.in_default-2.is in
+    subst (λ (xs : List (List ℕ)). OutlineHas (IsPattern L xs) (outline_of c.in_ok-outline.outline)) (sym n)
+    (subst (λ (p : Outline). OutlineHas (IsPattern L (names_of L)) p) (sym o) (relation-valid S L d r [] c.requires f e).0)
 
 pub read_parts-requires-clause-named : goal.read_parts-requires-clause-named
 read_parts-requires-clause-named c =
-    let d = c.args.form.now in
-    let form = relation_form_of c.in-Some-relation_form.parts in
-    let f : relation_form d ≡ Some form = sym c.relation_form.ensures ∙ ap (option_map relation_form_of) c.in-Some-relation_form.is in
-    (form-readable d form c.requires f).language
-
-pub unreachable-requires : goal.unreachable-requires
-unreachable-requires c =
-    let L = language_in c.args.language.now in
-    let d = c.args.form.now in
-    let n0 : c.in_ok-all.all.items ≡ names_of L = c.in_ok-all.ensures in
-    let m : c.in_ok-names.names ≡ c.deref.result.now = c.in_ok-names.ensures in
-    let n : c.in_ok-names.names ≡ names_of L = cc in
-    let r : option_map refusal_of c.in_ok-refusal.field-0 ≡ relation_refusal c.in_ok-names.names d = c.in_ok-refusal.ensures in
-    let e : relation_refusal (names_of L) d ≡ None = ap (λ xs. relation_refusal xs d) (sym n) ∙ sym r ∙ ap (option_map refusal_of) c.in_default.is in
-    passed-form (names_of L) d e (sym c.relation_form.ensures ∙ ap (option_map relation_form_of) c.in-None.is)
+    (relation-readable c.args.form.now (relation_form_of c.in-Some.parts) c.requires (sym c.relation_form.ensures ∙ ap (option_map relation_form_of) c.in-Some.is)).language
 
 pub returns-clause-reads : goal.returns-clause-reads
 returns-clause-reads c =
+    let S = scope_of c.args.scope.now in
     let L = language_in c.args.language.now in
     let d = c.args.form.now in
+    let r = relation_form_of c.in-Some.parts in
+    let f : relation_form d ≡ Some r = sym c.relation_form.ensures ∙ ap (option_map relation_form_of) c.in-Some.is in
+    let u : unbuilt_at d ≡ None = ap (λ b. if b then Some (unnamed Unbuilt d) else None) (sym c.has_word_to_come.ensures ∙ c.if-has_word_to_come.false) in
     let n0 : c.in_ok-all.all.items ≡ names_of L = c.in_ok-all.ensures in
     let m : c.in_ok-names.names ≡ c.deref.result.now = c.in_ok-names.ensures in
     let n : c.in_ok-names.names ≡ names_of L = cc in
-    let r : option_map refusal_of c.in_ok-refusal.field-0 ≡ relation_refusal c.in_ok-names.names d = c.in_ok-refusal.ensures in
-    let e : relation_refusal (names_of L) d ≡ None = ap (λ xs. relation_refusal xs d) (sym n) ∙ sym r ∙ ap (option_map refusal_of) c.in_default.is in
-    let form = relation_form_of c.in-Some-relation_form.parts in
-    let f : relation_form d ≡ Some form = sym c.relation_form.ensures ∙ ap (option_map relation_form_of) c.in-Some-relation_form.is in
-    let g : relation_of c.in_ok-read_parts-in-Some-relation_form.field-0 ≡ relation_reading (names_of L) c.args.name.now form =
-    c.in_ok-read_parts-in-Some-relation_form.ensures ∙ ap (λ xs. relation_reading xs c.args.name.now form) n in
-    record { passes = e; parts = form; is_form = f; is_read = g }
+    let q : stands_of c.deref-2.result.now ≡ relation_stands r = ap stands_of c.deref-2.ensures.value ∙ c.in_ok-found.ensures in
+    let o : outline_of c.in_ok-outline.outline ≡ relation_outline r = c.in_ok-outline.ensures in
+    let e : relation_refusal S (names_of L) d ≡ None =
+    relation-refused S (names_of L) d r u f ∙ (λ i. form_refusal S (sym n i) (sym q i) (sym o i)) ∙ sym c.in_ok-refusal.ensures ∙ ap (option_map refusal_of) c.in_default-2.is in
+    let g : relation_of c.in_ok-read_parts.field-0 ≡ relation_reading S (names_of L) c.args.name.now r =
+    c.in_ok-read_parts.ensures ∙ ap (λ xs. relation_reading S xs c.args.name.now r) n in
+    record { passes = e; parts = r; is_form = f; is_read = g }
 
 pub returns-clause-valid : goal.returns-clause-valid
 returns-clause-valid c =
+    let S = scope_of c.args.scope.now in
     let L = language_in c.args.language.now in
     let d = c.args.form.now in
+    let r = relation_form_of c.in-Some.parts in
+    let f : relation_form d ≡ Some r = sym c.relation_form.ensures ∙ ap (option_map relation_form_of) c.in-Some.is in
+    let u : unbuilt_at d ≡ None = ap (λ b. if b then Some (unnamed Unbuilt d) else None) (sym c.has_word_to_come.ensures ∙ c.if-has_word_to_come.false) in
     let n0 : c.in_ok-all.all.items ≡ names_of L = c.in_ok-all.ensures in
     let m : c.in_ok-names.names ≡ c.deref.result.now = c.in_ok-names.ensures in
     let n : c.in_ok-names.names ≡ names_of L = cc in
-    let r : option_map refusal_of c.in_ok-refusal.field-0 ≡ relation_refusal c.in_ok-names.names d = c.in_ok-refusal.ensures in
-    let e : relation_refusal (names_of L) d ≡ None = ap (λ xs. relation_refusal xs d) (sym n) ∙ sym r ∙ ap (option_map refusal_of) c.in_default.is in
-    let form = relation_form_of c.in-Some-relation_form.parts in
-    let f : relation_form d ≡ Some form = sym c.relation_form.ensures ∙ ap (option_map relation_form_of) c.in-Some-relation_form.is in
-    let g : relation_of c.in_ok-read_parts-in-Some-relation_form.field-0 ≡ relation_reading (names_of L) c.args.name.now form =
-    c.in_ok-read_parts-in-Some-relation_form.ensures ∙ ap (λ xs. relation_reading xs c.args.name.now form) n in
-    subst (λ (R : Relation). is_valid_over (Some L) R ≡ true) (sym g) (passed-relation L d form c.args.name.now c.requires f e).1
+    let q : stands_of c.deref-2.result.now ≡ relation_stands r = ap stands_of c.deref-2.ensures.value ∙ c.in_ok-found.ensures in
+    let o : outline_of c.in_ok-outline.outline ≡ relation_outline r = c.in_ok-outline.ensures in
+    let e : relation_refusal S (names_of L) d ≡ None =
+    relation-refused S (names_of L) d r u f ∙ (λ i. form_refusal S (sym n i) (sym q i) (sym o i)) ∙ sym c.in_ok-refusal.ensures ∙ ap (option_map refusal_of) c.in_default-2.is in
+    let g : relation_of c.in_ok-read_parts.field-0 ≡ relation_reading S (names_of L) c.args.name.now r =
+    c.in_ok-read_parts.ensures ∙ ap (λ xs. relation_reading S xs c.args.name.now r) n in
+    subst (λ (R : Relation). is_valid_over (has_metafunction S) (Some L) R ≡ true) (sym g) (relation-valid S L d r c.args.name.now c.requires f e).1

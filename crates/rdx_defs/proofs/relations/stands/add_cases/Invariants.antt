@@ -1,6 +1,6 @@
 use Rattle.std.proofs.Common.{◌≡◌, ◌++◌, drop}
 use Rattle.rdx_defs.specs.Inside.BareStands.{cases_stand}
-use Rattle.rdx_defs.specs.Inside.RelationViews.{stands_of}
+use Rattle.rdx_defs.specs.Inside.FormViews.{stands_of}
 use Rattle.rdx_defs.proofs.relations.stands.add_cases.Given as goal
 
 abbrev pub invariant-loop-d : goal.invariant-loop-d

@@ -1,0 +1,178 @@
+-- The refusal of a form, by two groups of checks.
+use Rattle.std.proofs.Common.{◌≡◌, ◌++◌, ◌∙◌, ℕ, List, [], ◌∷◌, Option, Some, None, map, refl, sym, ap}
+use Rattle.std.specs.Prelude.{option_map}
+use Rattle.rdx_sexp.specs.Sexp.{Sexp}
+use Rattle.rdx_grammar.specs.Refusal.{Refusal, unnamed, named, first, or_else, first_refusal}
+use Rattle.rdx_grammar.specs.Unbuilt.{unbuilt_at}
+use Rattle.rdx_grammar.specs.declared.shape.fault.DefKind.TheVariants.{Shape, BadName, BadPattern, EllipsisDepth, UnknownName, EllipsisVariable, RacketEscape}
+use Rattle.rdx_grammar.proofs.Firsts.{nothing, none_of}
+use Rattle.rdx_defs.specs.Inside.BareStands as bare_stands
+use Rattle.rdx_defs.specs.Inside.Branches.{Outline, relation_outline, metafunction_outline}
+use Rattle.rdx_defs.specs.Inside.ByNames.{outline_faults}
+use Rattle.rdx_defs.specs.Inside.FormRefusals.{early_refusal, late_refusal, form_refusal}
+use Rattle.rdx_defs.specs.MetafunctionForms.{ClauseForm, clause_form, ContractForm, MetafunctionForm, metafunction_form, function_or, function_by, clauses_function, function_in}
+use Rattle.rdx_defs.specs.MetafunctionRefusal.{metafunction_refusal}
+use Rattle.rdx_defs.specs.MetafunctionStands.{clause_stands, clauses_stand, function_stands, metafunction_stands}
+use Rattle.rdx_defs.specs.RelationForms.{RelationForm, relation_form}
+use Rattle.rdx_defs.specs.RelationRefusal.{stands_refusal, relation_refusal}
+use Rattle.rdx_defs.specs.RelationStands.{relation_stands}
+use Rattle.rdx_defs.specs.Scope.{Scope}
+use Rattle.rdx_defs.specs.StandChecks.{shape_faults, shape_at, repeated_at, repeated_name_at, bad_names, bad_name_at, bad_places, bad_place_at, depth_faults, depth_fault_at, bad_arrow_at, undriven_places, undriven_at, escape_at}
+use Rattle.rdx_defs.specs.Stands.{Stand}
+use Rattle.rdx_defs.specs.declared.stands.faults.Check.{Check}
+use Rattle.rdx_defs.specs.declared.stands.faults.Check.TheVariants.{Places, Depths, Driving, Escapes}
+use Rattle.rdx_defs.proofs.BareChecks.{bare, bare-relation, bare-function, shapes-bare, repeated-bare, bad_names-bare, bad_arrows-bare}
+use Rattle.rdx_defs.proofs.NamesBound.{faults, relation-faults, function-faults}
+
+-- the first of these is that of three, or else of the others
+after_three : (a b c : Option Refusal) (os : List (Option Refusal)) → first_refusal (a ∷ b ∷ c ∷ os) ≡ or_else (first_refusal (a ∷ b ∷ c ∷ [])) (first_refusal os)
+after_three (Some a) b c os = refl
+after_three None (Some b) c os = refl
+after_three None None (Some c) os = refl
+after_three None None None os = refl
+
+-- nothing behind
+alone : {A : Type 0} (o : Option A) → or_else o None ≡ o
+alone None = refl
+alone (Some x) = refl
+
+-- ---- what stands in a form, and its outline
+
+module _ (S : Scope) (ns : List (List ℕ)) (ss rs : List Stand) (o : Outline) (same : map bare ss ≡ rs) (alike : (k : Check) → faults k S ns ss ≡ outline_faults k S ns o) where
+  -- the early checks are the same without what is bound
+  early : early_refusal ss ≡ early_refusal rs
+  early =
+      (λ i.
+      first_refusal
+      (option_map (unnamed Shape) (first (sym (shapes-bare ss) i))
+      ∷ option_map repeated_at (first (sym (repeated-bare [] ss) i))
+      ∷ option_map (named BadName) (first (sym (bad_names-bare ss) i))
+      ∷ []))
+      ∙ ap early_refusal same
+
+  -- and the late ones by the outline
+  late : first_refusal (bad_place_at S ns ss ∷ depth_fault_at S ns ss ∷ bad_arrow_at ss ∷ undriven_at S ss ∷ escape_at S ss ∷ []) ≡ late_refusal S ns rs o
+  late =
+      (λ i.
+      first_refusal
+      (option_map (unnamed BadPattern) (first (alike Places i))
+      ∷ option_map (named EllipsisDepth) (first (alike Depths i))
+      ∷ option_map (named UnknownName) (first (sym (bad_arrows-bare ss) i))
+      ∷ option_map (unnamed EllipsisVariable) (first (alike Driving i))
+      ∷ option_map (unnamed RacketEscape) (first (alike Escapes i))
+      ∷ []))
+      ∙ ap (λ (us : List Stand). late_refusal S ns us o) same
+
+  -- both together
+  form-refused : stands_refusal S ns ss ≡ form_refusal S ns rs o
+  form-refused =
+      after_three (shape_at ss) (repeated_name_at ss) (bad_name_at ss) (bad_place_at S ns ss ∷ depth_fault_at S ns ss ∷ bad_arrow_at ss ∷ undriven_at S ss ∷ escape_at S ss ∷ [])
+      ∙ (λ i. or_else (early i) (late i))
+
+-- ---- relations
+
+-- where nothing is unbuilt
+pub relation-refused : (S : Scope) (ns : List (List ℕ)) (d : Sexp) (r : RelationForm) → unbuilt_at d ≡ None → relation_form d ≡ Some r
+    → relation_refusal S ns d ≡ form_refusal S ns (bare_stands.relation_stands r) (relation_outline r)
+relation-refused S ns d r u e =
+    let ss = relation_stands ns d (Some r) in
+    (λ i. first_refusal (u i ∷ stands_refusal S ns (relation_stands ns d (e i)) ∷ []))
+    ∙ alone (stands_refusal S ns ss)
+    ∙ form-refused S ns ss (bare_stands.relation_stands r) (relation_outline r) (bare-relation ns d r) (λ k. relation-faults k S ns d r)
+
+-- without the parts of a relation
+pub no-relation : (S : Scope) (ns : List (List ℕ)) (d : Sexp) → relation_form d ≡ None → relation_refusal S ns d ≡ or_else (unbuilt_at d) (Some (unnamed Shape d))
+no-relation S ns d e i = first_refusal (unbuilt_at d ∷ stands_refusal S ns (relation_stands ns d (e i)) ∷ [])
+
+-- ---- metafunctions
+
+-- where no clause has its shape there is no contract
+pub no-contract : (m : MetafunctionForm) → function_in m ≡ None → m.contract ≡ None
+no-contract m e = by_contract m.contract e
+  where
+    by_contract : (o : Option ContractForm) → function_by o m.clauses ≡ None → o ≡ None
+    by_contract None f = refl
+    by_contract (Some c) f = absurd cc
+
+-- where nothing is unbuilt
+pub metafunction-refused : (S : Scope) (ns : List (List ℕ)) (d : Sexp) (m : MetafunctionForm) → unbuilt_at d ≡ None → metafunction_form d ≡ Some m
+    → metafunction_refusal S ns d ≡ form_refusal S ns (bare_stands.function_stands m (function_in m)) (metafunction_outline m (function_in m))
+metafunction-refused S ns d m u e =
+    let f = function_in m in
+    let ss = function_stands ns m f in
+    (λ i. first_refusal (u i ∷ stands_refusal S ns (metafunction_stands ns d (e i)) ∷ []))
+    ∙ alone (stands_refusal S ns ss)
+    ∙ form-refused S ns ss (bare_stands.function_stands m f) (metafunction_outline m f) (bare-function ns m f) (λ k. function-faults k S ns m f (no-contract m))
+
+-- without the parts of a metafunction
+pub no-metafunction : (S : Scope) (ns : List (List ℕ)) (d : Sexp) → metafunction_form d ≡ None → metafunction_refusal S ns d ≡ or_else (unbuilt_at d) (Some (unnamed Shape d))
+no-metafunction S ns d e i = first_refusal (unbuilt_at d ∷ stands_refusal S ns (metafunction_stands ns d (e i)) ∷ [])
+
+-- ---- what is not refused
+
+-- where the early checks refuse nothing, no name is bound or defined that may not be
+pub early-names : (ss : List Stand) → early_refusal ss ≡ None → bad_names ss ≡ []
+early-names ss e =
+    let shape = shape_at ss in
+    let again = repeated_name_at ss in
+    let bad = bad_name_at ss in
+    let a = none_of shape (again ∷ bad ∷ []) e in
+    let b = none_of again (bad ∷ []) a.1 in
+    nothing (named BadName) (bad_names ss) (none_of bad [] b.1).0
+
+-- what no check refuses
+pub record ArePassed (S : Scope) (ns : List (List ℕ)) (ss : List Stand) : Type 0 where
+  pub shapes : shape_faults ss ≡ []
+  pub names : bad_names ss ≡ []
+  pub places : bad_places S ns ss ≡ []
+  pub depths : depth_faults S ns ss ≡ []
+  pub driving : undriven_places S ss ≡ []
+
+-- so it is where nothing is refused
+pub stands-passed : (S : Scope) (ns : List (List ℕ)) (ss : List Stand) → stands_refusal S ns ss ≡ None → ArePassed S ns ss
+stands-passed S ns ss e =
+    let a = none_of (shape_at ss) (repeated_name_at ss ∷ bad_name_at ss ∷ bad_place_at S ns ss ∷ depth_fault_at S ns ss ∷ bad_arrow_at ss ∷ undriven_at S ss ∷ escape_at S ss ∷ []) e in
+    let b = none_of (repeated_name_at ss) (bad_name_at ss ∷ bad_place_at S ns ss ∷ depth_fault_at S ns ss ∷ bad_arrow_at ss ∷ undriven_at S ss ∷ escape_at S ss ∷ []) a.1 in
+    let c = none_of (bad_name_at ss) (bad_place_at S ns ss ∷ depth_fault_at S ns ss ∷ bad_arrow_at ss ∷ undriven_at S ss ∷ escape_at S ss ∷ []) b.1 in
+    let d = none_of (bad_place_at S ns ss) (depth_fault_at S ns ss ∷ bad_arrow_at ss ∷ undriven_at S ss ∷ escape_at S ss ∷ []) c.1 in
+    let f = none_of (depth_fault_at S ns ss) (bad_arrow_at ss ∷ undriven_at S ss ∷ escape_at S ss ∷ []) d.1 in
+    let g = none_of (bad_arrow_at ss) (undriven_at S ss ∷ escape_at S ss ∷ []) f.1 in
+    let h = none_of (undriven_at S ss) (escape_at S ss ∷ []) g.1 in
+    record {
+      shapes = nothing (unnamed Shape) (shape_faults ss) a.0;
+      names = nothing (named BadName) (bad_names ss) c.0;
+      places = nothing (unnamed BadPattern) (bad_places S ns ss) d.0;
+      depths = nothing (named EllipsisDepth) (depth_faults S ns ss) f.0;
+      driving = nothing (unnamed EllipsisVariable) (undriven_places S ss) h.0;
+    }
+
+-- a relation that is not refused
+pub relation-passed : (S : Scope) (ns : List (List ℕ)) (d : Sexp) (r : RelationForm) → relation_form d ≡ Some r → relation_refusal S ns d ≡ None → ArePassed S ns (relation_stands ns d (Some r))
+relation-passed S ns d r e f =
+    let a = none_of (unbuilt_at d) (stands_refusal S ns (relation_stands ns d (relation_form d)) ∷ []) f in
+    let b = none_of (stands_refusal S ns (relation_stands ns d (relation_form d))) [] a.1 in
+    stands-passed S ns (relation_stands ns d (Some r)) (ap (λ (o : Option RelationForm). stands_refusal S ns (relation_stands ns d o)) (sym e) ∙ b.0)
+
+-- a metafunction
+pub metafunction-passed : (S : Scope) (ns : List (List ℕ)) (d : Sexp) (m : MetafunctionForm) → metafunction_form d ≡ Some m → metafunction_refusal S ns d ≡ None
+    → ArePassed S ns (function_stands ns m (function_in m))
+metafunction-passed S ns d m e f =
+    let a = none_of (unbuilt_at d) (stands_refusal S ns (metafunction_stands ns d (metafunction_form d)) ∷ []) f in
+    let b = none_of (stands_refusal S ns (metafunction_stands ns d (metafunction_form d))) [] a.1 in
+    stands-passed S ns (function_stands ns m (function_in m)) (ap (λ (o : Option MetafunctionForm). stands_refusal S ns (metafunction_stands ns d o)) (sym e) ∙ b.0)
+
+-- a metafunction without a name is refused
+first-misshaped : (ns : List (List ℕ)) (x : List ℕ) (d : Sexp) (o : Option ClauseForm) (f : Option Sexp) (ss : List Stand) → function_or o f ≡ None → shape_faults (clause_stands ns x d o ++ ss) ≡ [] → ⊥
+first-misshaped ns x d None f ss e h = absurd cc
+first-misshaped ns x d (Some c) f ss e h = absurd cc
+
+pub some-function : (ns : List (List ℕ)) (m : MetafunctionForm) → (m.clauses ≡ [] → ⊥) → function_in m ≡ None → shape_faults (function_stands ns m None) ≡ [] → ⊥
+some-function ns m n e h = by_clauses m.clauses n (by_contract m.contract e) h
+  where
+    by_contract : (o : Option ContractForm) → function_by o m.clauses ≡ None → clauses_function m.clauses ≡ None
+    by_contract None f = f
+    by_contract (Some c) f = absurd cc
+
+    by_clauses : (ds : List Sexp) → (ds ≡ [] → ⊥) → clauses_function ds ≡ None → shape_faults (clauses_stand ns [] ds) ≡ [] → ⊥
+    by_clauses [] n f g = n refl
+    by_clauses (d ∷ ds) n f g = first-misshaped ns [] d (clause_form d) (clauses_function ds) (clauses_stand ns [] ds) f g

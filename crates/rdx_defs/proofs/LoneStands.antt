@@ -1,0 +1,45 @@
+-- Patterns that stand by themselves, and what stands in a branch.
+use Rattle.std.proofs.Common.{◌≡◌, ◌++◌, ◌∙◌, ℕ, Bool, true, false, List, [], ◌∷◌, map, refl, sym, ap, if◌then◌else◌}
+use Rattle.std.proofs.lemmas.List.{map-append}
+use Rattle.std.specs.Prelude.{Option, Some, None}
+use Rattle.rdx_sexp.specs.Sexp.{Sexp, Sexps, sexps, nil, cons}
+use Rattle.rdx_grammar.specs.Heads.{Roles, patterns as items_of_list, next, rest}
+use Rattle.rdx_grammar.specs.Occurrences.{occurrences}
+use Rattle.rdx_grammar.specs.Reading.{is_pattern}
+use Rattle.rdx_defs.specs.Inside.BareStands.{lone_pattern}
+use Rattle.rdx_defs.specs.Inside.Branches.{Branch, taken_occurrences, bound_by_taken, bound_by_branch, domain_patterns, pattern_when, patterns_among, contract_patterns}
+use Rattle.rdx_defs.specs.MetafunctionForms.{ContractForm}
+use Rattle.rdx_defs.specs.MetafunctionStands.{patterns_stand, contract_stands}
+use Rattle.rdx_defs.specs.RelationStands.{domain_stands}
+use Rattle.rdx_defs.specs.Stands.{Stand, pattern, template, names_bound, extras_stand}
+
+-- what stands in a branch
+abbrev pub branch_stands : List (List ℕ) → Bool → Branch → List Stand
+branch_stands ns again b =
+    pattern [] (taken_occurrences b.takes) ∷ template (names_bound (bound_by_branch ns b)) b.result ∷ extras_stand ns (bound_by_taken ns b.takes) again b.extras
+
+-- ---- patterns that stand by themselves
+
+-- a datum that may be a pattern, before others
+lone-first : (b : Bool) (d : Sexp) (ss : List Stand) (ps : List Sexp) → ss ≡ map lone_pattern ps
+    → (if b then pattern [] (occurrences 0 d) ∷ [] else []) ++ ss ≡ map lone_pattern (pattern_when b d ++ ps)
+lone-first true d ss ps h = ap (λ (rs : List Stand). pattern [] (occurrences 0 d) ∷ rs) h
+lone-first false d ss ps h = h
+
+-- the patterns among items
+patterns-lone : (rs : Roles) (ds : Sexps) → patterns_stand rs ds ≡ map lone_pattern (patterns_among rs ds)
+patterns-lone rs nil = refl
+patterns-lone rs (cons d ds) =
+    lone-first (is_pattern (next rs d)) d (patterns_stand (rest rs d) ds) (patterns_among (rest rs d) ds) (patterns-lone (rest rs d) ds)
+
+-- those of a contract
+pub contract-lone : (o : Option ContractForm) → contract_stands o ≡ map lone_pattern (contract_patterns o)
+contract-lone None = refl
+contract-lone (Some c) =
+    ap (λ (ss : List Stand). ss ++ lone_pattern c.value ∷ []) (patterns-lone items_of_list (sexps c.arguments))
+    ∙ sym (map-append lone_pattern (patterns_among items_of_list (sexps c.arguments)) (c.value ∷ []))
+
+-- a domain
+pub domain-lone : (o : Option Sexp) → domain_stands o ≡ map lone_pattern (domain_patterns o)
+domain-lone None = refl
+domain-lone (Some p) = refl

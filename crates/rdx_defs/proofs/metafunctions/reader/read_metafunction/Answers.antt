@@ -1,0 +1,214 @@
+use Rattle.std.proofs.Common.{◌≡◌, ◌∙◌, ℕ, List, Some, None, true, sym, ap, subst, if◌then◌else◌}
+use Rattle.std.specs.Prelude.{option_map}
+use Rattle.rdx_lang.specs.Checked.{language_in}
+use Rattle.rdx_lang.specs.ProgramView.{metafunction_of}
+use Rattle.rdx_lang.specs.Programs.{Metafunction}
+use Rattle.rdx_lang.specs.Valid.{is_valid_metafunction}
+use Rattle.rdx_grammar.specs.Nonterminals.{names_of}
+use Rattle.rdx_grammar.specs.Parts.{text_of}
+use Rattle.rdx_grammar.specs.Refusal.{refusal_of, unnamed}
+use Rattle.rdx_grammar.specs.Unbuilt.{unbuilt_at}
+use Rattle.rdx_grammar.specs.declared.shape.fault.DefKind.TheVariants.{Unbuilt}
+use Rattle.rdx_defs.specs.Inside.BareStands.{function_stands}
+use Rattle.rdx_defs.specs.Inside.Branches.{Branch, Outline, clause_branches, metafunction_outline}
+use Rattle.rdx_defs.specs.Inside.BranchReadings.{branch_metafunction}
+use Rattle.rdx_defs.specs.Inside.Contracts.{IsContractIn}
+use Rattle.rdx_defs.specs.Inside.FormRefusals.{form_refusal}
+use Rattle.rdx_defs.specs.Inside.FormViews.{metafunction_form_of, outline_of, stands_of}
+use Rattle.rdx_defs.specs.Inside.PartsHave.{AreReadable, BranchesHave, OutlineHas, CanBind, IsPattern}
+use Rattle.rdx_defs.specs.MetafunctionForms.{metafunction_form, function_in}
+use Rattle.rdx_defs.specs.MetafunctionReading.{metafunction_reading}
+use Rattle.rdx_defs.specs.MetafunctionRefusal.{metafunction_refusal}
+use Rattle.rdx_defs.specs.Scope.{scope_of, has_metafunction}
+use Rattle.rdx_defs.proofs.FormRefusals.{metafunction-refused}
+use Rattle.rdx_defs.proofs.PassedForms.{metafunction-early, has-function, metafunction-valid}
+use Rattle.rdx_defs.proofs.ReadableParts.{metafunction-readable, contract-readable}
+use Rattle.rdx_defs.proofs.metafunctions.reader.read_metafunction.Goals as goal
+
+pub function_stands-requires-clause-alone : goal.function_stands-requires-clause-alone
+function_stands-requires-clause-alone c =
+    let d = c.args.form.now in
+    let m = metafunction_form_of c.in-Some.parts in
+    let f : metafunction_form d ≡ Some m = sym c.metafunction_form.ensures ∙ ap (option_map metafunction_form_of) c.in-Some.is in
+    let k : option_map (λ x. x.now) c.function_in-function.result ≡ function_in m = c.function_in-function.ensures in
+    let o : outline_of c.in_ok-outline.outline ≡ metafunction_outline m (function_in m) = c.in_ok-outline.ensures ∙ ap (metafunction_outline m) k in
+    subst AreReadable (sym (ap (λ (z : Outline). z.alone) o)) (contract-readable m.contract (metafunction-readable d m c.requires f).contract)
+
+pub function_stands-requires-clause-clauses : goal.function_stands-requires-clause-clauses
+function_stands-requires-clause-clauses c =
+    let d = c.args.form.now in
+    let m = metafunction_form_of c.in-Some.parts in
+    let f : metafunction_form d ≡ Some m = sym c.metafunction_form.ensures ∙ ap (option_map metafunction_form_of) c.in-Some.is in
+    (metafunction-readable d m c.requires f).clauses
+
+pub refuse_parts-requires : goal.refuse_parts-requires
+refuse_parts-requires c =
+    let d = c.args.form.now in
+    let m = metafunction_form_of c.in-Some.parts in
+    let f : metafunction_form d ≡ Some m = sym c.metafunction_form.ensures ∙ ap (option_map metafunction_form_of) c.in-Some.is in
+    let k : option_map (λ x. x.now) c.function_in-function.result ≡ function_in m = c.function_in-function.ensures in
+    let o : outline_of c.in_ok-outline.outline ≡ metafunction_outline m (function_in m) = c.in_ok-outline.ensures ∙ ap (metafunction_outline m) k in
+    let q : stands_of c.deref-2.result.now ≡ function_stands m (function_in m) =
+    ap stands_of c.deref-2.ensures.value ∙ c.in_ok-found.ensures ∙ ap (function_stands m) k in
+    λ e. subst (λ (z : Outline). OutlineHas (CanBind c.in_ok-names.names) z) (sym o) (metafunction-early c.in_ok-names.names d m (stands_of c.deref-2.result.now) c.requires f q e)
+
+pub returns-in-Some-2-clause-reads : goal.returns-in-Some-2-clause-reads
+returns-in-Some-2-clause-reads c =
+    let S = scope_of c.args.scope.now in
+    let L = language_in c.args.language.now in
+    let d = c.args.form.now in
+    let m = metafunction_form_of c.in-Some.parts in
+    let f : metafunction_form d ≡ Some m = sym c.metafunction_form.ensures ∙ ap (option_map metafunction_form_of) c.in-Some.is in
+    let k : option_map (λ x. x.now) c.function_in-function.result ≡ function_in m = c.function_in-function.ensures in
+    let o : outline_of c.in_ok-outline.outline ≡ metafunction_outline m (function_in m) = c.in_ok-outline.ensures ∙ ap (metafunction_outline m) k in
+    let q : stands_of c.deref-2.result.now ≡ function_stands m (function_in m) =
+    ap stands_of c.deref-2.ensures.value ∙ c.in_ok-found.ensures ∙ ap (function_stands m) k in
+    let u : unbuilt_at d ≡ None = ap (λ b. if b then Some (unnamed Unbuilt d) else None) (sym c.has_word_to_come.ensures ∙ c.if-has_word_to_come.false) in
+    let n0 : c.in_ok-all.all.items ≡ names_of L = c.in_ok-all.ensures in
+    let n1 : c.in_ok-names.names ≡ c.deref.result.now = c.in_ok-names.ensures in
+    let n : c.in_ok-names.names ≡ names_of L = cc in
+    metafunction-refused S (names_of L) d m u f ∙ (λ i. form_refusal S (sym n i) (sym q i) (sym o i)) ∙ sym c.in_ok-refusal.ensures ∙ ap (option_map refusal_of) c.in-Some-2.is
+
+pub read_parts-requires-clause-branches : goal.read_parts-requires-clause-branches
+read_parts-requires-clause-branches c =
+    let S = scope_of c.args.scope.now in
+    let L = language_in c.args.language.now in
+    let d = c.args.form.now in
+    let m = metafunction_form_of c.in-Some.parts in
+    let f : metafunction_form d ≡ Some m = sym c.metafunction_form.ensures ∙ ap (option_map metafunction_form_of) c.in-Some.is in
+    let k : option_map (λ x. x.now) c.function_in-function.result ≡ function_in m = c.function_in-function.ensures in
+    let o : outline_of c.in_ok-outline.outline ≡ metafunction_outline m (function_in m) = c.in_ok-outline.ensures ∙ ap (metafunction_outline m) k in
+    let q : stands_of c.deref-2.result.now ≡ function_stands m (function_in m) =
+    ap stands_of c.deref-2.ensures.value ∙ c.in_ok-found.ensures ∙ ap (function_stands m) k in
+    let u : unbuilt_at d ≡ None = ap (λ b. if b then Some (unnamed Unbuilt d) else None) (sym c.has_word_to_come.ensures ∙ c.if-has_word_to_come.false) in
+    let n0 : c.in_ok-all.all.items ≡ names_of L = c.in_ok-all.ensures in
+    let n1 : c.in_ok-names.names ≡ c.deref.result.now = c.in_ok-names.ensures in
+    let n : c.in_ok-names.names ≡ names_of L = cc in
+    let e : metafunction_refusal S (names_of L) d ≡ None =
+    metafunction-refused S (names_of L) d m u f ∙ (λ i. form_refusal S (sym n i) (sym q i) (sym o i)) ∙ sym c.in_ok-refusal.ensures ∙ ap (option_map refusal_of) c.in_default-2.is in
+    let x = c.in-Some-function.name.now in
+    let p : function_in m ≡ Some x = sym k ∙ ap (option_map (λ y. y.now)) c.in-Some-function.is in
+    let v = metafunction-valid S L d m x c.requires f p e in
+    let b : (outline_of c.in_ok-outline.outline).branches ≡ clause_branches (text_of x) m.clauses = ap (λ (z : Outline). z.branches) (o ∙ ap (metafunction_outline m) p) in
+    subst (λ (xs : List (List ℕ)). BranchesHave (IsPattern L xs) (outline_of c.in_ok-outline.outline).branches) (sym n)
+    (subst (λ (bs : List Branch). BranchesHave (IsPattern L (names_of L)) bs) (sym b) v.good.branches)
+
+pub read_parts-requires-clause-contract : goal.read_parts-requires-clause-contract
+read_parts-requires-clause-contract c =
+    let S = scope_of c.args.scope.now in
+    let L = language_in c.args.language.now in
+    let d = c.args.form.now in
+    let m = metafunction_form_of c.in-Some.parts in
+    let f : metafunction_form d ≡ Some m = sym c.metafunction_form.ensures ∙ ap (option_map metafunction_form_of) c.in-Some.is in
+    let k : option_map (λ x. x.now) c.function_in-function.result ≡ function_in m = c.function_in-function.ensures in
+    let o : outline_of c.in_ok-outline.outline ≡ metafunction_outline m (function_in m) = c.in_ok-outline.ensures ∙ ap (metafunction_outline m) k in
+    let q : stands_of c.deref-2.result.now ≡ function_stands m (function_in m) =
+    ap stands_of c.deref-2.ensures.value ∙ c.in_ok-found.ensures ∙ ap (function_stands m) k in
+    let u : unbuilt_at d ≡ None = ap (λ b. if b then Some (unnamed Unbuilt d) else None) (sym c.has_word_to_come.ensures ∙ c.if-has_word_to_come.false) in
+    let n0 : c.in_ok-all.all.items ≡ names_of L = c.in_ok-all.ensures in
+    let n1 : c.in_ok-names.names ≡ c.deref.result.now = c.in_ok-names.ensures in
+    let n : c.in_ok-names.names ≡ names_of L = cc in
+    let e : metafunction_refusal S (names_of L) d ≡ None =
+    metafunction-refused S (names_of L) d m u f ∙ (λ i. form_refusal S (sym n i) (sym q i) (sym o i)) ∙ sym c.in_ok-refusal.ensures ∙ ap (option_map refusal_of) c.in_default-2.is in
+    let x = c.in-Some-function.name.now in
+    let p : function_in m ≡ Some x = sym k ∙ ap (option_map (λ y. y.now)) c.in-Some-function.is in
+    let v = metafunction-valid S L d m x c.requires f p e in
+    subst (λ (xs : List (List ℕ)). IsContractIn L xs m.contract) (sym n) v.good.contract
+
+pub read_parts-requires-clause-language : goal.read_parts-requires-clause-language
+read_parts-requires-clause-language c =
+    let d = c.args.form.now in
+    let m = metafunction_form_of c.in-Some.parts in
+    let f : metafunction_form d ≡ Some m = sym c.metafunction_form.ensures ∙ ap (option_map metafunction_form_of) c.in-Some.is in
+    (metafunction-readable d m c.requires f).language
+
+pub read_parts-requires-clause-name : goal.read_parts-requires-clause-name
+read_parts-requires-clause-name c =
+    let S = scope_of c.args.scope.now in
+    let L = language_in c.args.language.now in
+    let d = c.args.form.now in
+    let m = metafunction_form_of c.in-Some.parts in
+    let f : metafunction_form d ≡ Some m = sym c.metafunction_form.ensures ∙ ap (option_map metafunction_form_of) c.in-Some.is in
+    let k : option_map (λ x. x.now) c.function_in-function.result ≡ function_in m = c.function_in-function.ensures in
+    let o : outline_of c.in_ok-outline.outline ≡ metafunction_outline m (function_in m) = c.in_ok-outline.ensures ∙ ap (metafunction_outline m) k in
+    let q : stands_of c.deref-2.result.now ≡ function_stands m (function_in m) =
+    ap stands_of c.deref-2.ensures.value ∙ c.in_ok-found.ensures ∙ ap (function_stands m) k in
+    let u : unbuilt_at d ≡ None = ap (λ b. if b then Some (unnamed Unbuilt d) else None) (sym c.has_word_to_come.ensures ∙ c.if-has_word_to_come.false) in
+    let n0 : c.in_ok-all.all.items ≡ names_of L = c.in_ok-all.ensures in
+    let n1 : c.in_ok-names.names ≡ c.deref.result.now = c.in_ok-names.ensures in
+    let n : c.in_ok-names.names ≡ names_of L = cc in
+    let e : metafunction_refusal S (names_of L) d ≡ None =
+    metafunction-refused S (names_of L) d m u f ∙ (λ i. form_refusal S (sym n i) (sym q i) (sym o i)) ∙ sym c.in_ok-refusal.ensures ∙ ap (option_map refusal_of) c.in_default-2.is in
+    let x = c.in-Some-function.name.now in
+    let p : function_in m ≡ Some x = sym k ∙ ap (option_map (λ y. y.now)) c.in-Some-function.is in
+    let v = metafunction-valid S L d m x c.requires f p e in
+    v.named
+
+pub unreachable-requires : goal.unreachable-requires
+unreachable-requires c =
+    let S = scope_of c.args.scope.now in
+    let L = language_in c.args.language.now in
+    let d = c.args.form.now in
+    let m = metafunction_form_of c.in-Some.parts in
+    let f : metafunction_form d ≡ Some m = sym c.metafunction_form.ensures ∙ ap (option_map metafunction_form_of) c.in-Some.is in
+    let k : option_map (λ x. x.now) c.function_in-function.result ≡ function_in m = c.function_in-function.ensures in
+    let o : outline_of c.in_ok-outline.outline ≡ metafunction_outline m (function_in m) = c.in_ok-outline.ensures ∙ ap (metafunction_outline m) k in
+    let q : stands_of c.deref-2.result.now ≡ function_stands m (function_in m) =
+    ap stands_of c.deref-2.ensures.value ∙ c.in_ok-found.ensures ∙ ap (function_stands m) k in
+    let u : unbuilt_at d ≡ None = ap (λ b. if b then Some (unnamed Unbuilt d) else None) (sym c.has_word_to_come.ensures ∙ c.if-has_word_to_come.false) in
+    let n0 : c.in_ok-all.all.items ≡ names_of L = c.in_ok-all.ensures in
+    let n1 : c.in_ok-names.names ≡ c.deref.result.now = c.in_ok-names.ensures in
+    let n : c.in_ok-names.names ≡ names_of L = cc in
+    let e : metafunction_refusal S (names_of L) d ≡ None =
+    metafunction-refused S (names_of L) d m u f ∙ (λ i. form_refusal S (sym n i) (sym q i) (sym o i)) ∙ sym c.in_ok-refusal.ensures ∙ ap (option_map refusal_of) c.in_default-2.is in
+    has-function S (names_of L) d m c.requires f e (sym k ∙ ap (option_map (λ y. y.now)) c.in-None.is)
+
+pub returns-clause-reads : goal.returns-clause-reads
+returns-clause-reads c =
+    let S = scope_of c.args.scope.now in
+    let L = language_in c.args.language.now in
+    let d = c.args.form.now in
+    let m = metafunction_form_of c.in-Some.parts in
+    let f : metafunction_form d ≡ Some m = sym c.metafunction_form.ensures ∙ ap (option_map metafunction_form_of) c.in-Some.is in
+    let k : option_map (λ x. x.now) c.function_in-function.result ≡ function_in m = c.function_in-function.ensures in
+    let o : outline_of c.in_ok-outline.outline ≡ metafunction_outline m (function_in m) = c.in_ok-outline.ensures ∙ ap (metafunction_outline m) k in
+    let q : stands_of c.deref-2.result.now ≡ function_stands m (function_in m) =
+    ap stands_of c.deref-2.ensures.value ∙ c.in_ok-found.ensures ∙ ap (function_stands m) k in
+    let u : unbuilt_at d ≡ None = ap (λ b. if b then Some (unnamed Unbuilt d) else None) (sym c.has_word_to_come.ensures ∙ c.if-has_word_to_come.false) in
+    let n0 : c.in_ok-all.all.items ≡ names_of L = c.in_ok-all.ensures in
+    let n1 : c.in_ok-names.names ≡ c.deref.result.now = c.in_ok-names.ensures in
+    let n : c.in_ok-names.names ≡ names_of L = cc in
+    let e : metafunction_refusal S (names_of L) d ≡ None =
+    metafunction-refused S (names_of L) d m u f ∙ (λ i. form_refusal S (sym n i) (sym q i) (sym o i)) ∙ sym c.in_ok-refusal.ensures ∙ ap (option_map refusal_of) c.in_default-2.is in
+    let x = c.in-Some-function.name.now in
+    let p : function_in m ≡ Some x = sym k ∙ ap (option_map (λ y. y.now)) c.in-Some-function.is in
+    let v = metafunction-valid S L d m x c.requires f p e in
+    let b : (outline_of c.in_ok-outline.outline).branches ≡ clause_branches (text_of x) m.clauses = ap (λ (z : Outline). z.branches) (o ∙ ap (metafunction_outline m) p) in
+    let g : metafunction_of c.in_ok-read_parts-in-Some-function.field-0 ≡ metafunction_reading S (names_of L) m =
+    c.in_ok-read_parts-in-Some-function.ensures ∙ (λ i. branch_metafunction S (n i) m x (b i)) ∙ v.reading in
+    record { passes = e; parts = m; is_form = f; is_read = g }
+
+pub returns-clause-valid : goal.returns-clause-valid
+returns-clause-valid c =
+    let S = scope_of c.args.scope.now in
+    let L = language_in c.args.language.now in
+    let d = c.args.form.now in
+    let m = metafunction_form_of c.in-Some.parts in
+    let f : metafunction_form d ≡ Some m = sym c.metafunction_form.ensures ∙ ap (option_map metafunction_form_of) c.in-Some.is in
+    let k : option_map (λ x. x.now) c.function_in-function.result ≡ function_in m = c.function_in-function.ensures in
+    let o : outline_of c.in_ok-outline.outline ≡ metafunction_outline m (function_in m) = c.in_ok-outline.ensures ∙ ap (metafunction_outline m) k in
+    let q : stands_of c.deref-2.result.now ≡ function_stands m (function_in m) =
+    ap stands_of c.deref-2.ensures.value ∙ c.in_ok-found.ensures ∙ ap (function_stands m) k in
+    let u : unbuilt_at d ≡ None = ap (λ b. if b then Some (unnamed Unbuilt d) else None) (sym c.has_word_to_come.ensures ∙ c.if-has_word_to_come.false) in
+    let n0 : c.in_ok-all.all.items ≡ names_of L = c.in_ok-all.ensures in
+    let n1 : c.in_ok-names.names ≡ c.deref.result.now = c.in_ok-names.ensures in
+    let n : c.in_ok-names.names ≡ names_of L = cc in
+    let e : metafunction_refusal S (names_of L) d ≡ None =
+    metafunction-refused S (names_of L) d m u f ∙ (λ i. form_refusal S (sym n i) (sym q i) (sym o i)) ∙ sym c.in_ok-refusal.ensures ∙ ap (option_map refusal_of) c.in_default-2.is in
+    let x = c.in-Some-function.name.now in
+    let p : function_in m ≡ Some x = sym k ∙ ap (option_map (λ y. y.now)) c.in-Some-function.is in
+    let v = metafunction-valid S L d m x c.requires f p e in
+    let b : (outline_of c.in_ok-outline.outline).branches ≡ clause_branches (text_of x) m.clauses = ap (λ (z : Outline). z.branches) (o ∙ ap (metafunction_outline m) p) in
+    let g : metafunction_of c.in_ok-read_parts-in-Some-function.field-0 ≡ metafunction_reading S (names_of L) m =
+    c.in_ok-read_parts-in-Some-function.ensures ∙ (λ i. branch_metafunction S (n i) m x (b i)) ∙ v.reading in
+    subst (λ (M : Metafunction). is_valid_metafunction (has_metafunction S) (Some L) M ≡ true) (sym g) v.valid

@@ -1,6 +1,0 @@
-use Rattle.rdx_defs.specs.Inside.RelationViews.{stand_of}
-use Rattle.rdx_defs.proofs.RelationPartsAt.{stands-at}
-use Rattle.rdx_defs.proofs.relations.checks.first_shape_fault.Goals as goal
-
-pub shape_fault-requires : goal.shape_fault-requires
-shape_fault-requires c = stands-at stand_of c.args.found.now c.loop-s.s-index c.s-item.result c.loop-s-test.true c.s-item.is c.requires

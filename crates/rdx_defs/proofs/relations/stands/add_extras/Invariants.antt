@@ -1,7 +1,0 @@
-use Rattle.std.proofs.Common.{◌≡◌, ◌++◌, drop, false}
-use Rattle.rdx_defs.specs.Inside.BareStands.{extras_stand}
-use Rattle.rdx_defs.specs.Inside.RelationViews.{stands_of}
-use Rattle.rdx_defs.proofs.relations.stands.add_extras.Given as goal
-
-abbrev pub invariant-loop-d : goal.invariant-loop-d
-invariant-loop-d l = stands_of l.out.items ++ extras_stand l.again (drop l.d-index l.extras) ≡ stands_of l.fn.out.items ++ extras_stand false l.extras

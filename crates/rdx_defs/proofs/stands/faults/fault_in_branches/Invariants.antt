@@ -1,0 +1,11 @@
+use Rattle.std.proofs.Common.{◌≡◌, drop, map}
+use Rattle.rdx_grammar.specs.Refusal.{first}
+use Rattle.rdx_defs.specs.Inside.ByNames.{branches_faults}
+use Rattle.rdx_defs.specs.Inside.FormViews.{branch_of}
+use Rattle.rdx_defs.specs.Scope.{scope_of}
+use Rattle.rdx_defs.proofs.stands.faults.fault_in_branches.Given as goal
+
+abbrev pub invariant-loop-branch : goal.invariant-loop-branch
+invariant-loop-branch l =
+    first (branches_faults l.check (scope_of l.scope) l.names (map branch_of l.branches))
+    ≡ first (branches_faults l.check (scope_of l.scope) l.names (map branch_of (drop l.branch-index l.branches)))

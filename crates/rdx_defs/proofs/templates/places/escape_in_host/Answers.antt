@@ -1,0 +1,14 @@
+use Rattle.std.proofs.Common.{◌∙◌, ap}
+use Rattle.rdx_grammar.specs.Refusal.{first}
+use Rattle.rdx_defs.specs.Inside.PartView.{parts_of}
+use Rattle.rdx_defs.specs.Scope.{scope_of}
+use Rattle.rdx_defs.specs.TemplateChecks.{escapes}
+use Rattle.rdx_defs.specs.TemplateOccurrences.{host_parts}
+use Rattle.rdx_defs.proofs.Unrepeated.{escapes_unrepeated}
+use Rattle.rdx_defs.proofs.templates.places.escape_in_host.Goals as goal
+
+pub returns : goal.returns
+returns c =
+    let found = ap parts_of c.deref.ensures.value ∙ c.in_ok-found.ensures in
+    let ps = host_parts (scope_of c.args.scope.now) c.args.bound.now 0 c.args.d.now in
+    c.first_escape.ensures ∙ (ap (λ xs. first (escapes xs)) found ∙ ap first (escapes_unrepeated ps))

@@ -1,0 +1,14 @@
+use Rattle.std.proofs.Common.{◌∙◌, ap}
+use Rattle.rdx_grammar.specs.Refusal.{first}
+use Rattle.rdx_defs.specs.Inside.PartView.{parts_of}
+use Rattle.rdx_defs.specs.Scope.{scope_of}
+use Rattle.rdx_defs.specs.TemplateChecks.{shallow_parts}
+use Rattle.rdx_defs.specs.TemplateOccurrences.{template_parts}
+use Rattle.rdx_defs.proofs.Unrepeated.{shallow_unrepeated}
+use Rattle.rdx_defs.proofs.templates.places.shallow_in_template.Goals as goal
+
+pub returns : goal.returns
+returns c =
+    let found = ap parts_of c.deref.ensures.value ∙ c.in_ok-found.ensures in
+    let ps = template_parts (scope_of c.args.scope.now) c.args.bound.now 0 c.args.d.now in
+    c.first_shallow_part.ensures ∙ (ap (λ xs. first (shallow_parts c.args.bound.now xs)) found ∙ ap first (shallow_unrepeated c.args.bound.now ps))

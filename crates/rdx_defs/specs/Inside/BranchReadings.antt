@@ -1,0 +1,47 @@
+-- What the cases of a relation and the clauses of a metafunction stand for, by their branches.
+use Rattle.std.specs.Prelude.{ℕ, List, map, option_map}
+use Rattle.rdx_sexp.specs.Sexp.{Sexp}
+use Rattle.rdx_lang.specs.Programs.{Clause, Metafunction, Rule}
+use Rattle.rdx_grammar.specs.Parts.{text_of}
+use Rattle.rdx_defs.specs.ExtraReading.{extras_reading}
+use Rattle.rdx_defs.specs.Inside.Branches.{Branch, bound_by_taken, bound_by_branch, taken_reading}
+use Rattle.rdx_defs.specs.MetafunctionForms.{MetafunctionForm}
+use Rattle.rdx_defs.specs.MetafunctionReading.{contract_reading}
+use Rattle.rdx_defs.specs.RelationReading.{first_name}
+use Rattle.rdx_defs.specs.Scope.{Scope}
+use Rattle.rdx_defs.specs.Stands.{names_bound}
+use Rattle.rdx_defs.specs.TemplateReading.{template_reading}
+
+-- the rule of a case
+abbrev pub branch_rule : Scope → List (List ℕ) → Branch → Rule
+branch_rule S ns b = record {
+  name = first_name b.extras;
+  pattern = taken_reading ns b.takes;
+  extras = extras_reading S ns (bound_by_taken ns b.takes) b.extras;
+  result = template_reading S (names_bound (bound_by_branch ns b)) b.result;
+}
+
+-- of cases
+abbrev pub branch_rules : Scope → List (List ℕ) → List Branch → List Rule
+branch_rules S ns bs = map (branch_rule S ns) bs
+
+-- the clause
+abbrev pub branch_clause : Scope → List (List ℕ) → Branch → Clause
+branch_clause S ns b = record {
+  arguments = taken_reading ns b.takes;
+  extras = extras_reading S ns (bound_by_taken ns b.takes) b.extras;
+  result = template_reading S (names_bound (bound_by_branch ns b)) b.result;
+}
+
+-- of clauses
+abbrev pub branch_clauses : Scope → List (List ℕ) → List Branch → List Clause
+branch_clauses S ns bs = map (branch_clause S ns) bs
+
+-- the metafunction of this name that a form with these parts and these branches stands for
+abbrev pub branch_metafunction : Scope → List (List ℕ) → MetafunctionForm → Sexp → List Branch → Metafunction
+branch_metafunction S ns m f bs = record {
+  name = text_of f;
+  language = text_of m.language;
+  contract = option_map (contract_reading ns) m.contract;
+  clauses = branch_clauses S ns bs;
+}

@@ -1,0 +1,58 @@
+-- What stands in a form of a metafunction.
+use Rattle.std.specs.Prelude.{ℕ, true, List, [], ◌∷◌, ◌++◌, Option, Some, None, bytes_eq, if◌then◌else◌}
+use Rattle.rdx_sexp.specs.Sexp.{Sexp, Sexps, sexps, nil, cons}
+use Rattle.rdx_grammar.specs.Heads.{Roles, patterns as items_of_list, next, rest}
+use Rattle.rdx_grammar.specs.Occurrences.{occurrences}
+use Rattle.rdx_grammar.specs.Parts.{text_of}
+use Rattle.rdx_grammar.specs.PatternChecks as patterns
+use Rattle.rdx_grammar.specs.Reading.{is_pattern}
+use Rattle.rdx_defs.specs.MetafunctionForms.{ClauseForm, clause_form, ContractForm, MetafunctionForm, function_in}
+use Rattle.rdx_defs.specs.Stands.{Stand, misshaped, function, pattern, template, argument_occurrences, bound_among, names_bound, bound_by_extras, extras_stand}
+
+-- ---- clauses
+
+-- the symbols that bind names in the arguments of a clause
+abbrev pub bound_by_arguments : List (List ℕ) → ClauseForm → List patterns.Bound
+bound_by_arguments ns c = bound_among ns (argument_occurrences c.arguments)
+
+-- in its arguments and its extras
+abbrev pub bound_by_clause : List (List ℕ) → ClauseForm → List patterns.Bound
+bound_by_clause ns c = bound_by_arguments ns c ++ bound_by_extras ns c.extras
+
+-- what stands in the clause d of the metafunction x; a clause of another one has not its shape
+abbrev pub clause_stands : List (List ℕ) → List ℕ → Sexp → Option ClauseForm → List Stand
+clause_stands ns x d None = misshaped d ∷ []
+clause_stands ns x d (Some c) =
+    if bytes_eq (text_of c.function) x
+    then pattern [] (argument_occurrences c.arguments) ∷ template (names_bound (bound_by_clause ns c)) c.result
+    ∷ extras_stand ns (bound_by_arguments ns c) true c.extras
+    else misshaped d ∷ []
+
+-- what stands in clauses
+abbrev pub clauses_stand : List (List ℕ) → List ℕ → List Sexp → List Stand
+clauses_stand ns x [] = []
+clauses_stand ns x (d ∷ ds) = clause_stands ns x d (clause_form d) ++ clauses_stand ns x ds
+
+-- ---- contracts: each pattern stands by itself
+
+-- the patterns among items in these roles
+abbrev pub patterns_stand : Roles → Sexps → List Stand
+patterns_stand rs nil = []
+patterns_stand rs (cons d ds) = (if is_pattern (next rs d) then pattern [] (occurrences 0 d) ∷ [] else []) ++ patterns_stand (rest rs d) ds
+
+-- what stands in a contract
+abbrev pub contract_stands : Option ContractForm → List Stand
+contract_stands None = []
+contract_stands (Some c) = patterns_stand items_of_list (sexps c.arguments) ++ pattern [] (occurrences 0 c.value) ∷ []
+
+-- ---- forms
+
+-- what stands in a form with these parts, where its metafunction has this name; without one no clause has its shape
+abbrev pub function_stands : List (List ℕ) → MetafunctionForm → Option Sexp → List Stand
+function_stands ns m None = clauses_stand ns [] m.clauses
+function_stands ns m (Some f) = function f ∷ contract_stands m.contract ++ clauses_stand ns (text_of f) m.clauses
+
+-- what stands in the form d, which has these parts
+abbrev pub metafunction_stands : List (List ℕ) → Sexp → Option MetafunctionForm → List Stand
+metafunction_stands ns d None = misshaped d ∷ []
+metafunction_stands ns d (Some m) = function_stands ns m (function_in m)

@@ -1,0 +1,57 @@
+// Metafunctions over languages.
+ghost use Rattle.std.specs.Prelude.{◌≡◌, Some, IfOk, IsTrue};
+ghost use Rattle.rdx_lang.specs.Checked.{language_in};
+ghost use Rattle.rdx_lang.specs.ProgramView.{metafunction_of};
+ghost use Rattle.rdx_lang.specs.Valid.{is_valid_metafunction};
+ghost use Rattle.rdx_grammar.specs.Nonterminals.{names_of};
+ghost use Rattle.rdx_grammar.specs.Readable.{IsReadable};
+ghost use Rattle.rdx_defs.specs.Answers.{ReadsMetafunction};
+ghost use Rattle.rdx_defs.specs.Scope.{has_metafunction, scope_of};
+
+use crate::Scope;
+use crate::metafunctions::forms::{function_in, metafunction_form};
+use crate::metafunctions::readings::read_parts;
+use crate::metafunctions::stands::{function_stands, metafunction_outline};
+use crate::stands::refusals::refuse_parts;
+use rdx_grammar::refusal::unnamed;
+use rdx_grammar::unbuilt::has_word_to_come;
+use rdx_grammar::{DefFault, DefKind, Names, language_names};
+use rdx_lang::{CheckedLang, Metafunction};
+use rdx_sexp::Datum;
+use std::alloc::Global;
+
+/// The metafunction that a `define-metafunction` form stands for over a language, whatever the name
+/// of that is.
+pub fn read_metafunction(
+    alloc: Global,
+    scope: &Scope,
+    language: &mut CheckedLang,
+    form: &Datum,
+) -> Result<Metafunction, DefFault>
+    requires { IsReadable form.now }
+    ensures reads { ReadsMetafunction (scope_of scope.now) (names_of (language_in language.old))
+        form.now result }
+    ensures same { language_in language.new ≡ language_in language.old }
+    ensures valid { IfOk result (λ f.
+        IsTrue (is_valid_metafunction (has_metafunction (scope_of scope.now))
+        (Some (language_in language.new)) (metafunction_of f))) }
+{
+    if has_word_to_come(form) {
+        return Err(DefFault::Refused(unnamed(DefKind::Unbuilt, form)));
+    }
+    let Some(parts) = metafunction_form(form) else {
+        return Err(DefFault::Refused(unnamed(DefKind::Shape, form)));
+    };
+    let all = language_names(alloc, language)?;
+    let names = Names::new(alloc, &all)?;
+    let function = function_in(parts);
+    let outline = metafunction_outline(alloc, parts, function)?;
+    let found = function_stands(alloc, parts, function, &outline)?;
+    if let Some(refusal) = refuse_parts(alloc, scope, &names, &found, &outline)? {
+        return Err(DefFault::Refused(refusal));
+    }
+    match function {
+        Some(name) => Ok(read_parts(alloc, scope, language, &names, parts, name, &outline)?),
+        None => unreachable!(),
+    }
+}

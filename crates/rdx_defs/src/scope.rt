@@ -1,0 +1,10 @@
+// What the whole file defines.
+
+use rdx_term::Name;
+
+/// What the forms of a file define in all of it, be it before them or behind.
+#[derive(Drop)]
+pub struct Scope {
+    /// The names of metafunctions, in the order of their forms.
+    pub metafunctions: Vec<Name>,
+}

@@ -1,0 +1,123 @@
+// Why a form of a relation or a metafunction is refused.
+ghost use Rattle.std.specs.Prelude.{◌≡◌, None, IfOk, option_map};
+ghost use Rattle.rdx_grammar.specs.Refusal.{refusal_of};
+ghost use Rattle.rdx_term.specs.Spelling.{is_symbol_spelling};
+ghost use Rattle.rdx_defs.specs.Inside.FormRefusals as inside;
+ghost use Rattle.rdx_defs.specs.Inside.FormViews.{outline_of, stands_of};
+ghost use Rattle.rdx_defs.specs.Inside.PartsHave.{CanBind, OutlineHas};
+ghost use Rattle.rdx_defs.specs.Scope.{scope_of};
+ghost use Rattle.rdx_defs.specs.StandChecks as model;
+
+use crate::Scope;
+use crate::branches::Outline;
+use crate::stands::checks::{
+    first_bad_arrow, first_bad_name, first_repeated, first_shape_fault, label,
+};
+use crate::stands::collecting::Stand;
+use crate::stands::faults::{Check, first_fault};
+use rdx_grammar::refusal::{named, named_at, unnamed};
+use rdx_grammar::{DefKind, DefRefusal, Names};
+use rdx_sexp::Datum;
+use rdx_term::printing::print_string;
+use rdx_term::{Name, NoMemory};
+use std::alloc::Global;
+use std::rc::RcStr;
+
+// Whether a text is spelled like a symbol: a name is, and so is `hole`.
+fn is_like_symbol(alloc: Global, text: &str) -> Result<bool, NoMemory>
+    ensures { IfOk result (λ b. b ≡ is_symbol_spelling text.now) }
+{
+    if text == "hole" {
+        return Ok(true);
+    }
+    let name = Name::new(RcStr::from_str(alloc, text)?);
+    Ok(name.is_some())
+}
+
+// The refusal of a second case with one name, which is printed as a symbol or a string.
+fn repeated_at(alloc: Global, d: &Datum) -> Result<DefRefusal, NoMemory>
+    ensures { IfOk result (λ r. refusal_of r ≡ model.repeated_at d.now) }
+{
+    let name = label(d);
+    if is_like_symbol(alloc, name)? {
+        return named_at(alloc, DefKind::Duplicate, d, name);
+    }
+    let mut printed = Vec::new(alloc);
+    print_string(name.as_bytes(), &mut printed)?;
+    match std::str::from_utf8(&printed) {
+        Ok(name) => named_at(alloc, DefKind::Duplicate, d, name),
+        Err(_) => unreachable!(),
+    }
+}
+
+// The refusal by the checks of shape and of names, if one refuses what stands in a form.
+fn refuse_early(alloc: Global, found: &[Stand]) -> Result<Option<DefRefusal>, NoMemory>
+    ensures { IfOk result (λ r.
+        option_map refusal_of r ≡ inside.early_refusal (stands_of found.now)) }
+{
+    if let Some(d) = first_shape_fault(found) {
+        return Ok(Some(unnamed(DefKind::Shape, d)));
+    }
+    if let Some(d) = first_repeated(alloc, found)? {
+        return Ok(Some(repeated_at(alloc, d)?));
+    }
+    if let Some(d) = first_bad_name(found) {
+        return Ok(Some(named(alloc, DefKind::BadName, d)?));
+    }
+    Ok(None)
+}
+
+// The refusal by the checks of depths, arrows, ellipses and escapes, if one refuses a form of this
+// outline, in which these stand.
+fn refuse_late(
+    alloc: Global,
+    scope: &Scope,
+    names: &Names,
+    found: &[Stand],
+    outline: &Outline,
+) -> Result<Option<DefRefusal>, NoMemory>
+    requires { OutlineHas (CanBind names.now) (outline_of outline.now) }
+    ensures { IfOk result (λ r.
+        option_map refusal_of r
+        ≡ inside.late_refusal (scope_of scope.now) names.now (stands_of found.now)
+        (outline_of outline.now)) }
+{
+    if let Some(d) = first_fault(alloc, Check::Places, scope, names, outline)? {
+        return Ok(Some(unnamed(DefKind::BadPattern, d)));
+    }
+    if let Some(d) = first_fault(alloc, Check::Depths, scope, names, outline)? {
+        return Ok(Some(named(alloc, DefKind::EllipsisDepth, d)?));
+    }
+    if let Some(d) = first_bad_arrow(found) {
+        return Ok(Some(named(alloc, DefKind::UnknownName, d)?));
+    }
+    if let Some(d) = first_fault(alloc, Check::Driving, scope, names, outline)? {
+        return Ok(Some(unnamed(DefKind::EllipsisVariable, d)));
+    }
+    if let Some(d) = first_fault(alloc, Check::Escapes, scope, names, outline)? {
+        return Ok(Some(unnamed(DefKind::RacketEscape, d)));
+    }
+    Ok(None)
+}
+
+/// The refusal by the check with the least number that refuses a form of this outline, in which these
+/// stand, in a file of this scope, over these nonterminals.
+pub(crate) fn refuse_parts(
+    alloc: Global,
+    scope: &Scope,
+    names: &Names,
+    found: &[Stand],
+    outline: &Outline,
+) -> Result<Option<DefRefusal>, NoMemory>
+    requires { inside.early_refusal (stands_of found.now) ≡ None
+        → OutlineHas (CanBind names.now) (outline_of outline.now) }
+    ensures { IfOk result (λ r.
+        option_map refusal_of r
+        ≡ inside.form_refusal (scope_of scope.now) names.now (stands_of found.now)
+        (outline_of outline.now)) }
+{
+    if let Some(refusal) = refuse_early(alloc, found)? {
+        return Ok(Some(refusal));
+    }
+    refuse_late(alloc, scope, names, found, outline)
+}

@@ -1,0 +1,139 @@
+// The first place in a template or a host expression at which a check behind the first refuses it.
+ghost use Rattle.std.specs.Prelude.{◌≡◌, IfOk, option_map};
+ghost use Rattle.rdx_grammar.specs.Readable.{IsReadable};
+ghost use Rattle.rdx_grammar.specs.Refusal.{first};
+ghost use Rattle.rdx_defs.specs.Inside.PartView.{parts_of, unrepeated};
+ghost use Rattle.rdx_defs.specs.Scope.{scope_of};
+ghost use Rattle.rdx_defs.specs.TemplateChecks as model;
+ghost use Rattle.rdx_defs.specs.TemplateOccurrences.{template_parts, host_parts};
+
+use crate::Scope;
+use crate::templates::checks::{first_bad_part, first_escape, first_shallow_part};
+use crate::templates::parts::{TemplatePart, add_host, add_template};
+use rdx_sexp::Datum;
+use rdx_term::{Name, NoMemory};
+use std::alloc::Global;
+
+/// What stands in a template, without the items that an ellipsis repeats.
+pub(crate) fn in_template<'a>(
+    alloc: Global,
+    scope: &Scope,
+    bound: &[(Name, u32)],
+    d: &'a Datum,
+) -> Result<Vec<TemplatePart<'a>>, NoMemory>
+    requires { IsReadable d.now }
+    ensures { IfOk result (λ found. parts_of found.items
+        ≡ unrepeated (template_parts (scope_of scope.now) bound.now 0 d.now)) }
+{
+    let mut found = Vec::new(alloc);
+    add_template(scope, bound, 0, d, &mut found)?;
+    Ok(found)
+}
+
+/// What stands in a host expression, without the items that an ellipsis repeats.
+pub(crate) fn in_host<'a>(
+    alloc: Global,
+    scope: &Scope,
+    bound: &[(Name, u32)],
+    d: &'a Datum,
+) -> Result<Vec<TemplatePart<'a>>, NoMemory>
+    requires { IsReadable d.now }
+    ensures { IfOk result (λ found. parts_of found.items
+        ≡ unrepeated (host_parts (scope_of scope.now) bound.now 0 d.now)) }
+{
+    let mut found = Vec::new(alloc);
+    add_host(scope, bound, 0, d, &mut found)?;
+    Ok(found)
+}
+
+/// The first part of a template that means nothing.
+pub(crate) fn bad_in_template<'a>(
+    alloc: Global,
+    scope: &Scope,
+    bound: &[(Name, u32)],
+    d: &'a Datum,
+) -> Result<Option<&'a Datum>, NoMemory>
+    requires { IsReadable d.now }
+    ensures { IfOk result (λ r. option_map (λ d. d.now) r
+        ≡ first (model.bad_parts (template_parts (scope_of scope.now) bound.now 0 d.now))) }
+{
+    let found = in_template(alloc, scope, bound, d)?;
+    Ok(first_bad_part(&found))
+}
+
+/// The first part of a host expression that means nothing.
+pub(crate) fn bad_in_host<'a>(
+    alloc: Global,
+    scope: &Scope,
+    bound: &[(Name, u32)],
+    d: &'a Datum,
+) -> Result<Option<&'a Datum>, NoMemory>
+    requires { IsReadable d.now }
+    ensures { IfOk result (λ r. option_map (λ d. d.now) r
+        ≡ first (model.bad_parts (host_parts (scope_of scope.now) bound.now 0 d.now))) }
+{
+    let found = in_host(alloc, scope, bound, d)?;
+    Ok(first_bad_part(&found))
+}
+
+/// The first name in a template that stands under fewer ellipses than its depth.
+pub(crate) fn shallow_in_template<'a>(
+    alloc: Global,
+    scope: &Scope,
+    bound: &[(Name, u32)],
+    d: &'a Datum,
+) -> Result<Option<&'a Datum>, NoMemory>
+    requires { IsReadable d.now }
+    ensures { IfOk result (λ r. option_map (λ d. d.now) r
+        ≡ first (model.shallow_parts bound.now
+        (template_parts (scope_of scope.now) bound.now 0 d.now))) }
+{
+    let found = in_template(alloc, scope, bound, d)?;
+    Ok(first_shallow_part(bound, &found))
+}
+
+/// The first name in a host expression that stands under fewer ellipses than its depth.
+pub(crate) fn shallow_in_host<'a>(
+    alloc: Global,
+    scope: &Scope,
+    bound: &[(Name, u32)],
+    d: &'a Datum,
+) -> Result<Option<&'a Datum>, NoMemory>
+    requires { IsReadable d.now }
+    ensures { IfOk result (λ r. option_map (λ d. d.now) r
+        ≡ first (model.shallow_parts bound.now
+        (host_parts (scope_of scope.now) bound.now 0 d.now))) }
+{
+    let found = in_host(alloc, scope, bound, d)?;
+    Ok(first_shallow_part(bound, &found))
+}
+
+/// The first part of a template that would ask Racket.
+pub(crate) fn escape_in_template<'a>(
+    alloc: Global,
+    scope: &Scope,
+    bound: &[(Name, u32)],
+    d: &'a Datum,
+) -> Result<Option<&'a Datum>, NoMemory>
+    requires { IsReadable d.now }
+    ensures { IfOk result (λ r. option_map (λ d. d.now) r
+        ≡ first (model.escapes (template_parts (scope_of scope.now) bound.now 0 d.now))) }
+{
+    let found = in_template(alloc, scope, bound, d)?;
+    Ok(first_escape(&found))
+}
+
+/// The first part of a host expression that would ask Racket.
+pub(crate) fn escape_in_host<'a>(
+    alloc: Global,
+    scope: &Scope,
+    bound: &[(Name, u32)],
+    d: &'a Datum,
+) -> Result<Option<&'a Datum>, NoMemory>
+    requires { IsReadable d.now }
+    ensures { IfOk result (λ r. option_map (λ d. d.now) r
+        ≡ first (model.escapes (host_parts (scope_of scope.now) bound.now 0 d.now))) }
+{
+    let found = in_host(alloc, scope, bound, d)?;
+    Ok(first_escape(&found))
+}
