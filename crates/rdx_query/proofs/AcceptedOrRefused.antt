@@ -1,5 +1,5 @@
 -- Each form of a file is accepted or refused, and so is the file.
-use Rattle.std.proofs.Common.{◌≡◌, ℕ, ◌⊎◌, inl, inr, List, [], ◌∷◌, Option, Some, None, refl, ◌∙◌, ap}
+use Rattle.std.proofs.Common.{◌≡◌, ℕ, ◌⊎◌, inl, inr, List, [], ◌∷◌, Option, Some, None, refl, ◌∙◌, ap, subst}
 use Rattle.std.specs.Prelude.{option_map}
 use Rattle.rdx_sexp.specs.Sexp.{Sexp}
 use Rattle.rdx_lang.specs.Edges.{IsFree}
@@ -13,23 +13,28 @@ use Rattle.rdx_grammar.specs.Refusal.{Refusal, unnamed, or_else}
 use Rattle.rdx_grammar.specs.Unbuilt.{unbuilt_at}
 use Rattle.rdx_grammar.specs.Refused.{recursion_at}
 use Rattle.rdx_grammar.specs.declared.shape.fault.DefKind.TheVariants.{Shape, RacketEscape}
+use Rattle.rdx_defs.specs.MetafunctionForms.{MetafunctionForm, metafunction_form}
+use Rattle.rdx_defs.specs.MetafunctionReading.{metafunction_reading}
 use Rattle.rdx_defs.specs.RelationForms.{RelationForm, relation_form}
 use Rattle.rdx_defs.specs.RelationReading.{relation_reading}
 use Rattle.rdx_defs.specs.RelationStands.{relation_stands}
-use Rattle.rdx_query.specs.Definitions.{Defined, language, relation}
-use Rattle.rdx_query.specs.File.{Defines, Asks, IsRefusedForm, by_check, by_recursion, Accepts, accepts_none, accepts_definition, accepts_query, Refuses, refuses_here, refuses_behind_definition, refuses_behind_query}
-use Rattle.rdx_query.specs.FormKinds.{DefinitionKind, QueryKind, FormKind, defines, asks, form_kind}
+use Rattle.rdx_defs.specs.Scope.{Scope}
+use Rattle.rdx_query.specs.Definitions.{Defined, language, metafunction, relation, IsSound}
+use Rattle.rdx_query.specs.File.{Defines, Asks, IsPassedOver, IsRefusedForm, by_check, by_recursion, by_late_check, Accepts, accepts_none, accepts_definition, accepts_query, accepts_passed, Refuses, refuses_here, refuses_behind_definition, refuses_behind_query, refuses_behind_passed, known_before, IsFile}
+use Rattle.rdx_query.specs.FormKinds.{DefinitionKind, QueryKind, FormKind, defines, asks, passes, to_come, form_kind}
 use Rattle.rdx_query.specs.FormKinds as kind
-use Rattle.rdx_query.specs.Forms.{form_refusal, form_definition, refusal_by_kind, definition_by_kind, query_by_kind, definition_refusal, definition_of, question_refusal, asked_query}
-use Rattle.rdx_query.specs.HostForms.{template_in, host_reading, value_shape_at}
-use Rattle.rdx_query.specs.Known.{Known, nothing, with_definition}
+use Rattle.rdx_query.specs.Forms.{form_refusal, late_refusal, form_definition, refusal_by_kind, definition_by_kind, query_by_kind, is_passed_kind, definition_refusal, definition_of, question_refusal, asked_query}
+use Rattle.rdx_query.specs.HostForms.{host_of_datum, value_query}
+use Rattle.rdx_query.specs.Known.{Known, with_definition}
 use Rattle.rdx_query.specs.LanguageForms.{base_name, named_base, language_refusal, plain_language, extended_language}
 use Rattle.rdx_query.specs.Laws.{AreAccepted, AreRefused}
 use Rattle.rdx_query.specs.MatchForms.{QueryParts, query_parts, query_refusal, query_over}
-use Rattle.rdx_query.specs.Queries.{Query, matches, whether, splits, value, reducts, tagged}
+use Rattle.rdx_query.specs.MetafunctionForms.{function_names, function_refusal_by, defined_function}
+use Rattle.rdx_query.specs.Queries.{Query, matches, whether, splits, reducts, tagged}
 use Rattle.rdx_query.specs.RelationForms as forms
 use Rattle.rdx_query.specs.RelationForms.{DefineParts, define_parts, relation_names, define_refusal_over, define_refusal_by, defined_relation}
 use Rattle.rdx_query.specs.StepForms.{StepParts, step_parts, steps_refusal}
+use Rattle.rdx_query.proofs.OneReading.{accepts-scope}
 
 -- there is a value
 record HasValue (A : Type 0) (o : Option A) : Type 0 where
@@ -64,7 +69,12 @@ list-parts K d q ns (Some r) e = record { value = r; is = refl }
 relation-parts : (K : Known) (d : Sexp) (o : Option DefineParts) → define_refusal_by K d o ≡ None → HasValue Relation (forms.relation_among K o)
 relation-parts K d None e = absurd (not_passed (unbuilt_at d) (unnamed RacketEscape d) e)
 relation-parts K d (Some q) e =
-    mapped (relation_reading (relation_names K q) (text_of q.name)) (relation_form q.body) (list-parts K d q (relation_names K q) (relation_form q.body) e)
+    mapped (relation_reading K.scope (relation_names K q) (text_of q.name)) (relation_form q.body) (list-parts K d q (relation_names K q) (relation_form q.body) e)
+
+-- so does one that defines a metafunction
+function-parts : (K : Known) (d : Sexp) (o : Option MetafunctionForm) → function_refusal_by K d o ≡ None → HasValue MetafunctionForm o
+function-parts K d None e = absurd (not_passed (unbuilt_at d) (unnamed Shape d) e)
+function-parts K d (Some m) e = record { value = m; is = refl }
 
 -- so it defines something
 definition-means : (K : Known) (d : Sexp) (k : DefinitionKind) → definition_refusal K d k ≡ None → HasValue Defined (definition_of K d k)
@@ -73,6 +83,9 @@ definition-means K d kind.language e =
 definition-means K d kind.extension e =
     let base = named_base K (base_name d) in
     mapped language (extended_language K d) (mapped (language_over base) (extension_form d) (language-parts K base (base_name d) d (extension_form d) e))
+definition-means K d kind.metafunction e =
+    mapped metafunction (defined_function K d)
+    (mapped (metafunction_reading K.scope (function_names K (metafunction_form d))) (metafunction_form d) (function-parts K d (metafunction_form d) e))
 definition-means K d kind.relation e = mapped relation (defined_relation K d) (relation-parts K d (define_parts d) e)
 
 -- a query has the parts of one
@@ -85,20 +98,16 @@ step-parts : (K : Known) (d : Sexp) (q : Option StepParts) → steps_refusal K d
 step-parts K d None e = absurd (not_passed (unbuilt_at d) (unnamed Shape d) e)
 step-parts K d (Some q) e = record { value = q; is = refl }
 
--- and a form that is a host expression
-template-part : (d : Sexp) (o : Option Sexp) (p : Option Refusal) → or_else (unbuilt_at d) (or_else (value_shape_at d o) p) ≡ None → HasValue Sexp o
-template-part d None p e = absurd (not_passed (unbuilt_at d) (unnamed Shape d) e)
-template-part d (Some t) p e = record { value = t; is = refl }
-
+-- so it asks something, as a host expression does anyway
 question-means : (K : Known) (d : Sexp) (k : QueryKind) → question_refusal K d k ≡ None → HasValue Query (asked_query K d k)
 question-means K d kind.matches e = mapped (query_over K matches) (query_parts d) (query-parts K d (query_parts d) e)
 question-means K d kind.whether e = mapped (query_over K whether) (query_parts d) (query-parts K d (query_parts d) e)
 question-means K d kind.splits e = mapped (query_over K splits) (query_parts d) (query-parts K d (query_parts d) e)
-question-means K d kind.value e = mapped (λ t. value (host_reading (Some t))) (template_in d) (template-part d (template_in d) _ e)
+question-means K d kind.value e = record { value = value_query K d; is = refl }
 question-means K d kind.reducts e =
-    mapped (λ (q : StepParts). reducts (text_of q.relation) (host_reading (template_in q.host))) (step_parts d) (step-parts K d (step_parts d) e)
+    mapped (λ (q : StepParts). reducts (text_of q.relation) (host_of_datum K q.host)) (step_parts d) (step-parts K d (step_parts d) e)
 question-means K d kind.tagged e =
-    mapped (λ (q : StepParts). tagged (text_of q.relation) (host_reading (template_in q.host))) (step_parts d) (step-parts K d (step_parts d) e)
+    mapped (λ (q : StepParts). tagged (text_of q.relation) (host_of_datum K q.host)) (step_parts d) (step-parts K d (step_parts d) e)
 
 -- ---- forms
 
@@ -106,11 +115,17 @@ question-means K d kind.tagged e =
 data Outcome (K : Known) (d : Sexp) : Type 0 where
   defined : (x : Defined) → Defines K d x → Outcome K d
   asked : (q : Query) → Asks K d q → Outcome K d
+  passed : IsPassedOver K d → Outcome K d
   refused : (r : Refusal) → IsRefusedForm K d r → Outcome K d
+
+-- what the form defines is sound, so it passes the check behind that, or the form is refused
+by_late : (K : Known) (d : Sexp) (x : Defined) → form_refusal K d ≡ None → form_definition K d ≡ Some x → IsSound x → (o : Option Refusal) → late_refusal d ≡ o → Outcome K d
+by_late K d x p m s None e = defined x (record { passes = p; means = m; sound = s; passes_late = e })
+by_late K d x p m s (Some r) e = refused r (by_late_check x p m s e)
 
 -- a language that the form defines is free of left recursion, or the form is refused
 by_freedom : (K : Known) (d : Sexp) (L : Language) → form_refusal K d ≡ None → form_definition K d ≡ Some (language L) → IsFree L ⊎ HasFirstRecursive L → Outcome K d
-by_freedom K d L p m (inl f) = defined (language L) (record { passes = p; means = m; sound = f })
+by_freedom K d L p m (inl f) = by_late K d (language L) p m f (late_refusal d) refl
 by_freedom K d L p m (inr h) = refused (recursion_at d h.nonterminal) (by_recursion L h.nonterminal p m h.is_first refl)
 
 -- ---- files
@@ -137,11 +152,22 @@ behind_query : (K : Known) (d : Sexp) (ds : List Sexp) (q : Query) → Asks K d 
 behind_query K d ds q a (inl b) = inl (record { known = b.known; queries = q ∷ b.queries; accepted = accepts_query a b.accepted })
 behind_query K d ds q a (inr b) = inr (record { refusal = b.refusal; refused = refuses_behind_query a b.refused })
 
+-- one that is passed over
+behind_passed : (K : Known) (d : Sexp) (ds : List Sexp) → IsPassedOver K d → AcceptedBehind K ds ⊎ RefusedBehind K ds → AcceptedBehind K (d ∷ ds) ⊎ RefusedBehind K (d ∷ ds)
+behind_passed K d ds a (inl b) = inl (record { known = b.known; queries = b.queries; accepted = accepts_passed a b.accepted })
+behind_passed K d ds a (inr b) = inr (record { refusal = b.refusal; refused = refuses_behind_passed a b.refused })
+
 -- one form, and then the others, whatever is known behind it
 by_outcome : (K : Known) (d : Sexp) (ds : List Sexp) → Outcome K d → ((J : Known) → AcceptedBehind J ds ⊎ RefusedBehind J ds) → AcceptedBehind K (d ∷ ds) ⊎ RefusedBehind K (d ∷ ds)
 by_outcome K d ds (defined x a) f = behind_definition K d ds x a (f (with_definition K x))
 by_outcome K d ds (asked q a) f = behind_query K d ds q a (f K)
+by_outcome K d ds (passed a) f = behind_passed K d ds a (f K)
 by_outcome K d ds (refused r a) f = inr (record { refusal = r; refused = refuses_here a })
+
+-- what is accepted is a file
+is_file : (ds : List Sexp) (J : Known) (qs : List Query) → Accepts (known_before ds) ds J qs → IsFile ds J.program qs
+is_file ds J qs a =
+    subst (λ (S : Scope). Accepts (known_before ds) ds (record { scope = S; program = J.program }) qs) (accepts-scope (known_before ds) ds J qs a) a
 
 -- ---- what becomes of a form and of a file, where each language is free of left recursion or has a first recursive nonterminal
 
@@ -149,17 +175,19 @@ module _ (decided : FreeOrRecursive) where
   -- what a form defines is sound, or the form is refused
   by_soundness : (K : Known) (d : Sexp) (x : Defined) → form_refusal K d ≡ None → form_definition K d ≡ Some x → Outcome K d
   by_soundness K d (language L) p m = by_freedom K d L p m (decided L)
-  by_soundness K d (relation R) p m = defined (relation R) (record { passes = p; means = m; sound = tt })
+  by_soundness K d (metafunction F) p m = by_late K d (metafunction F) p m tt (late_refusal d) refl
+  by_soundness K d (relation R) p m = by_late K d (relation R) p m tt (late_refusal d) refl
 
   -- a form that passes its checks
-  by_kind : (K : Known) (d : Sexp) (k : Option FormKind) → form_kind d ≡ k → refusal_by_kind K d k ≡ None → Outcome K d
-  by_kind K d None f e = absurd cc
-  by_kind K d (Some (defines k)) f e =
+  by_kind : (K : Known) (d : Sexp) (k : FormKind) → form_kind d ≡ k → refusal_by_kind K d k ≡ None → Outcome K d
+  by_kind K d (defines k) f e =
       let m = definition-means K d k e in
       by_soundness K d m.value (ap (refusal_by_kind K d) f ∙ e) (ap (definition_by_kind K d) f ∙ m.is)
-  by_kind K d (Some (asks k)) f e =
+  by_kind K d (asks k) f e =
       let m = question-means K d k e in
       asked m.value (record { passes = ap (refusal_by_kind K d) f ∙ e; means = ap (query_by_kind K d) f ∙ m.is })
+  by_kind K d (passes k) f e = passed (record { passes = ap (refusal_by_kind K d) f ∙ e; means = ap is_passed_kind f })
+  by_kind K d to_come f e = absurd cc
 
   -- a form
   by_checks : (K : Known) (d : Sexp) (o : Option Refusal) → form_refusal K d ≡ o → Outcome K d
@@ -173,8 +201,8 @@ module _ (decided : FreeOrRecursive) where
 
   -- a file is
   pub accepted_or_refused : (ds : List Sexp) → AreAccepted ds ⊎ AreRefused ds
-  accepted_or_refused ds = whole (behind ds nothing)
+  accepted_or_refused ds = whole (behind ds (known_before ds))
     where
-      whole : AcceptedBehind nothing ds ⊎ RefusedBehind nothing ds → AreAccepted ds ⊎ AreRefused ds
-      whole (inl a) = inl (record { known = a.known; queries = a.queries; accepted = a.accepted })
+      whole : AcceptedBehind (known_before ds) ds ⊎ RefusedBehind (known_before ds) ds → AreAccepted ds ⊎ AreRefused ds
+      whole (inl a) = inl (record { program = a.known.program; queries = a.queries; accepted = is_file ds a.known a.queries a.accepted })
       whole (inr r) = inr (record { refusal = r.refusal; refused = r.refused })

@@ -20,21 +20,25 @@ use Rattle.rdx_lang.specs.Rules.{Match, MatchItems, SplitItems, IsAlternative, m
 use Rattle.rdx_lang.specs.declared.pattern.Kind.TheVariants.{Any}
 use Rattle.rdx_lang.specs.declared.pattern.Ref.{Ref}
 use Rattle.rdx_lang.specs.declared.pattern.Ref.TheVariants.{Nt}
-use Rattle.rdx_lang.specs.Programs.{Relation, Rule}
+use Rattle.rdx_lang.specs.Programs.{Clause, Metafunction, Program, Relation, Rule}
 use Rattle.rdx_lang.specs.Templates as template
-use Rattle.rdx_lang.specs.Templates.{Host, term}
+use Rattle.rdx_lang.specs.Templates.{Host, term, apply, more, none}
+use Rattle.rdx_lang.specs.declared.operation.HostOp.TheVariants.{Add}
 use Rattle.rdx_lang.proofs.Examples.{listed as listing}
 use Rattle.rdx_eval.specs.Answers.{value, goes, lists, not_context}
-use Rattle.rdx_eval.specs.Calls.{Calls, calls_at, height}
+use Rattle.rdx_eval.specs.Calls.{Calls}
+use Rattle.rdx_eval.specs.Heights.{calls_at, height}
+use Rattle.rdx_eval.specs.Metafunctions.{one_of}
 use Rattle.rdx_eval.specs.Making.{listed, filled, filled_no_context}
+use Rattle.rdx_defs.specs.Scope.{Scope}
 use Rattle.rdx_reduce.specs.Relations.{AreSteps}
 use Rattle.rdx_reduce.specs.Steps.{Step, RuleSteps}
 use Rattle.rdx_query.specs.AnswerText.{matches_text, splits_text, value_line, reducts_text, steps_text, fault_line}
 use Rattle.rdx_query.specs.Answering.{HostValue, over_value, over_fault, no_answers, more_answers}
 use Rattle.rdx_query.specs.Definitions.{language}
-use Rattle.rdx_query.specs.Examples.{defines_L, marked_pair, AnswersInOrder, WholeAnswer, Inherited, OneSplit, FilledTerm, FaultAnswered, OneReductTwoSteps, OwnHole, OneHole, NoOwnHole, NestedSequences, OwnHoleInSequence, LengthInDecimal, FirstRefusedForm, EarlierLanguagesOnly, TakenName, HostExpression, FewItems, LeftRecursion}
-use Rattle.rdx_query.specs.File.{Defines, by_check, by_recursion, accepts_none, accepts_definition, accepts_query, refuses_here, refuses_behind_definition}
-use Rattle.rdx_query.specs.Known.{Known, nothing}
+use Rattle.rdx_query.specs.Examples.{defines_L, marked_pair, AnswersInOrder, WholeAnswer, Inherited, OneSplit, FilledTerm, FaultAnswered, OneReductTwoSteps, OwnHole, OneHole, NoOwnHole, NestedSequences, OwnHoleInSequence, LengthInDecimal, FirstRefusedForm, EarlierLanguagesOnly, TakenName, HostExpression, OtherForm, Sum, Wanted, OtherModule, KnownBefore, FewItems, LeftRecursion}
+use Rattle.rdx_query.specs.File.{Defines, by_check, by_recursion, accepts_none, accepts_definition, accepts_query, accepts_passed, refuses_here, refuses_behind_definition}
+use Rattle.rdx_query.specs.Known.{empty_program, nothing_in}
 use Rattle.rdx_query.specs.Queries.{matches, whether, splits, value as itself, reducts, tagged}
 use Rattle.rdx_query.specs.StepAnswers.{reducts_in, AreReducts, named_steps, reducts_found, steps_found}
 
@@ -88,9 +92,9 @@ free : (x : List ℕ) (ns : List ℕ) → IsFree (literal_language x ns)
 free x ns y (at_once (edge_nt a)) = not_literal ns y (among_literals x ns y (nt y) a)
 free x ns y (further (edge_nt {p = p} a) r) = none_from x ns ns p (nt y) (among_literals x ns y p a) r
 
--- the forms define them
-defines : (s : Span) → Defines nothing (defines_L s) (language L)
-defines s = record { passes = refl; means = refl; sound = free (codes "L") (1 ∷ []) }
+-- the first form defines L, whatever the file defines
+defines : (S : Scope) (s : Span) → Defines (nothing_in S) (defines_L s) (language L)
+defines S s = record { passes = refl; means = refl; sound = free (codes "L") (1 ∷ []); passes_late = refl }
 
 -- ---- listings
 
@@ -313,9 +317,9 @@ length_in_decimal = sym (λ i. codes "..._a" ++ codes " = " ++ two_digit i)
 
 -- ---- what host expressions make
 
--- what L is
-abbrev known_L : Known
-known_L = record { languages = L ∷ []; relations = [] }
+-- L alone
+abbrev program_L : Program
+program_L = record { languages = L ∷ []; metafunctions = []; relations = [] }
 
 -- a literal makes itself
 abbrev literal : ℕ → Host
@@ -325,19 +329,19 @@ literal n = term (template.lit (tree.integer (pos n)))
 abbrev pair_template : Host
 pair_template = term (template.seq (template.one (template.lit (tree.integer (pos 1))) (template.one (template.lit (tree.integer (pos 2))) template.nil)))
 
-pair_made : (K : Known) → HostValue K pair_template (value pair)
-pair_made K = goes (goes (goes refl refl) (goes (goes (goes refl refl) (goes refl refl)) refl)) (listed (record { shallow = omega arith; small = omega arith }))
+pair_made : (P : Program) → HostValue P pair_template (value pair)
+pair_made P = goes (goes (goes refl refl) (goes (goes (goes refl refl) (goes refl refl)) refl)) (listed (record { shallow = omega arith; small = omega arith }))
 
 -- `(1 hole)`
 abbrev split_template : template.Template
 split_template = template.seq (template.one (template.lit (tree.integer (pos 1))) (template.one (template.lit tree.hole) template.nil))
 
-split_made : (K : Known) → HostValue K (term split_template) (value split_term)
-split_made K = goes (goes (goes refl refl) (goes (goes (goes refl refl) (goes refl refl)) refl)) (listed (record { shallow = omega arith; small = omega arith }))
+split_made : (P : Program) → HostValue P (term split_template) (value split_term)
+split_made P = goes (goes (goes refl refl) (goes (goes (goes refl refl) (goes refl refl)) refl)) (listed (record { shallow = omega arith; small = omega arith }))
 
 -- `(in-hole (1 hole) 2)`
-filled_made : (K : Known) → HostValue K (term (template.fill split_template (template.lit (tree.integer (pos 2))))) (value pair)
-filled_made K = goes (split_made K) (goes refl (filled refl (record { shallow = omega arith; small = omega arith })))
+filled_made : (P : Program) → HostValue P (term (template.fill split_template (template.lit (tree.integer (pos 2))))) (value pair)
+filled_made P = goes (split_made P) (goes refl (filled refl (record { shallow = omega arith; small = omega arith })))
 
 -- `(in-hole 1 2)`
 abbrev unfilled : Host
@@ -353,9 +357,9 @@ rule_named x = record { name = Some x; pattern = lit (tree.integer (pos 1)); ext
 abbrev R : Relation
 R = record { name = codes "R"; language = codes "L"; domain = None; rules = rule_named (codes "a") ∷ rule_named (codes "b c") ∷ [] }
 
--- what L and R are
-abbrev known_R : Known
-known_R = record { languages = L ∷ []; relations = R ∷ [] }
+-- L and R
+abbrev program_R : Program
+program_R = record { languages = L ∷ []; metafunctions = []; relations = R ∷ [] }
 
 -- the step by the rule at this place
 abbrev step : ℕ → Step
@@ -369,9 +373,9 @@ one_taken : (C : Calls) (i : ℕ) (x : List ℕ) → RuleSteps L C (tree.integer
 one_taken C i x = goes (goes (lists second_listing) refl) (goes (goes (goes refl refl) refl) (goes refl refl))
 
 -- and these are all
-taken : AreSteps known_R R (tree.integer (pos 1)) (value both_steps)
+taken : AreSteps program_R R (tree.integer (pos 1)) (value both_steps)
 taken =
-    let C : Calls = calls_at known_R height in
+    let C : Calls = calls_at program_R height in
     goes (goes (one_taken C 0 (codes "a")) (goes (goes (one_taken C 1 (codes "b c")) (goes refl refl)) refl))
     (lists (listing both_steps ((refl, tt), (tt, tt)) (here refl, (there (here refl), tt)) (λ s i. i)))
 
@@ -397,13 +401,13 @@ steps_printed = λ i. codes "steps" ++ codes " " ++ two_digit i ++ codes "\n"
 pub answers_in_order : AnswersInOrder
 unfolding chars
 answers_in_order s = record {
-  known = known_L;
+  program = program_L;
   queries = matches (codes "L") pattern pair_template ∷ matches (codes "L") (lit (tree.integer (pos 1))) (literal 1) ∷ [];
   accepted =
-      accepts_definition (defines s) (accepts_query (record { passes = refl; means = refl }) (accepts_query (record { passes = refl; means = refl }) accepts_none));
+      accepts_definition (defines _ s) (accepts_query (record { passes = refl; means = refl }) (accepts_query (record { passes = refl; means = refl }) accepts_none));
   answers =
       more_answers (codes "match 1\n  any_x = 2, any_y = 1\n") (codes "match 1\n  -\n") true true
-      (over_value pair (pair_made known_L)
+      (over_value pair (pair_made program_L)
       (record { found = both ∷ []; finds = record { language = L; known = refl; listing = first_listing }; printed = first_printed; is_met = refl }))
       (more_answers (codes "match 1\n  -\n") [] true true
       (over_value (tree.integer (pos 1)) refl
@@ -411,7 +415,7 @@ answers_in_order s = record {
 }
 
 pub first_refused_form : FirstRefusedForm
-first_refused_form s m = refuses_behind_definition (defines s) (refuses_here (by_check refl))
+first_refused_form s m = refuses_behind_definition (defines _ s) (refuses_here (by_check refl))
 
 pub earlier_languages_only : EarlierLanguagesOnly
 earlier_languages_only s l = refuses_here (by_check refl)
@@ -419,10 +423,10 @@ earlier_languages_only s l = refuses_here (by_check refl)
 pub whole_answer : WholeAnswer
 unfolding chars
 whole_answer s = record {
-  known = known_L;
+  program = program_L;
   queries = whether (codes "L") named_e (literal 1) ∷ whether (codes "L") named_e (literal 2) ∷ [];
   accepted =
-      accepts_definition (defines s) (accepts_query (record { passes = refl; means = refl }) (accepts_query (record { passes = refl; means = refl }) accepts_none));
+      accepts_definition (defines _ s) (accepts_query (record { passes = refl; means = refl }) (accepts_query (record { passes = refl; means = refl }) accepts_none));
   answers =
       more_answers (codes "matches #t\n") (codes "matches #f\n") true true
       (over_value (tree.integer (pos 1)) refl
@@ -435,11 +439,11 @@ whole_answer s = record {
 pub inherited : Inherited
 unfolding chars
 inherited s = record {
-  known = record { languages = L ∷ M ∷ []; relations = [] };
+  program = record { languages = L ∷ M ∷ []; metafunctions = []; relations = [] };
   queries = whether (codes "M") named_e (literal 1) ∷ [];
   accepted =
-      accepts_definition (defines s)
-      (accepts_definition (record { passes = refl; means = refl; sound = free (codes "M") (1 ∷ []) }) (accepts_query (record { passes = refl; means = refl }) accepts_none));
+      accepts_definition (defines _ s)
+      (accepts_definition (record { passes = refl; means = refl; sound = free (codes "M") (1 ∷ []); passes_late = refl }) (accepts_query (record { passes = refl; means = refl }) accepts_none));
   answers =
       more_answers (codes "matches #t\n") [] true true
       (over_value (tree.integer (pos 1)) refl
@@ -449,12 +453,12 @@ inherited s = record {
 pub one_split : OneSplit
 unfolding chars
 one_split s = record {
-  known = known_L;
+  program = program_L;
   queries = splits (codes "L") split_pattern (term split_template) ∷ [];
-  accepted = accepts_definition (defines s) (accepts_query (record { passes = refl; means = refl }) accepts_none);
+  accepted = accepts_definition (defines _ s) (accepts_query (record { passes = refl; means = refl }) accepts_none);
   answers =
       more_answers (codes "splits 1\n  (hole hole) at [0] is 1 with any = hole\n") [] true true
-      (over_value split_term (split_made known_L)
+      (over_value split_term (split_made program_L)
       (record { found = split ∷ []; finds = record { language = L; known = refl; listing = split_listing }; printed = split_printed; is_met = refl })) no_answers;
 }
 
@@ -464,10 +468,10 @@ value_printed = λ i. codes "value " ++ (codes "(" ++ (one_digit i ++ (codes " "
 pub filled_term : FilledTerm
 unfolding chars
 filled_term s = record {
-  known = nothing;
+  program = empty_program;
   queries = itself (term (template.fill split_template (template.lit (tree.integer (pos 2))))) ∷ [];
   accepted = accepts_query (record { passes = refl; means = refl }) accepts_none;
-  answers = more_answers (codes "value (1 2)\n") [] true true (over_value pair (filled_made nothing) (record { printed = value_printed; is_met = refl })) no_answers;
+  answers = more_answers (codes "value (1 2)\n") [] true true (over_value pair (filled_made empty_program) (record { printed = value_printed; is_met = refl })) no_answers;
 }
 
 fault_printed : codes "fault NotContext 0\n" ≡ fault_line (not_context 0)
@@ -478,7 +482,7 @@ one_printed = λ i. codes "value " ++ one_digit i ++ codes "\n"
 
 pub fault_answered : FaultAnswered
 fault_answered s = record {
-  known = nothing;
+  program = empty_program;
   queries = itself unfilled ∷ itself (literal 1) ∷ [];
   accepted = accepts_query (record { passes = refl; means = refl }) (accepts_query (record { passes = refl; means = refl }) accepts_none);
   answers =
@@ -490,11 +494,11 @@ fault_answered s = record {
 pub one_reduct_two_steps : OneReductTwoSteps
 unfolding chars
 one_reduct_two_steps s = record {
-  known = known_R;
+  program = program_R;
   queries = reducts (codes "R") (literal 1) ∷ tagged (codes "R") (literal 1) ∷ [];
   accepted =
-      accepts_definition (defines s)
-      (accepts_definition (record { passes = refl; means = refl; sound = tt })
+      accepts_definition (defines _ s)
+      (accepts_definition (record { passes = refl; means = refl; sound = tt; passes_late = refl })
       (accepts_query (record { passes = refl; means = refl }) (accepts_query (record { passes = refl; means = refl }) accepts_none)));
   answers =
       more_answers (codes "reducts 1\n  2\n") (codes "steps 2\n  a 2\n  \"b c\" 2\n") true true
@@ -506,10 +510,101 @@ one_reduct_two_steps s = record {
 }
 
 pub taken_name : TakenName
-taken_name s l = refuses_behind_definition (defines s) (refuses_here (by_check refl))
+taken_name s l = refuses_behind_definition (defines _ s) (refuses_here (by_check refl))
 
 pub host_expression : HostExpression
-host_expression s = refuses_here (by_check refl)
+host_expression s h = refuses_behind_definition (defines _ s) (refuses_here (by_check refl))
+
+pub other_form : OtherForm
+other_form s = refuses_here (by_check refl)
+
+-- `(+ 1 2)`
+abbrev sum_of_two : Host
+sum_of_two = apply Add (more (template.number (pos 1)) (more (template.number (pos 2)) none))
+
+sum_made : (P : Program) → HostValue P sum_of_two (value (tree.integer (pos 3)))
+sum_made P = goes (goes (goes refl refl) (goes (goes (goes refl refl) (goes refl refl)) refl)) refl
+
+three_printed : codes "value 3\n" ≡ value_line (tree.integer (pos 3))
+three_printed = λ i. codes "value " ++ three_digit i ++ codes "\n"
+
+pub sum : Sum
+sum s = record {
+  program = empty_program;
+  queries = itself sum_of_two ∷ [];
+  accepted = accepts_query (record { passes = refl; means = refl }) accepts_none;
+  answers =
+      more_answers (codes "value 3\n") [] true true
+      (over_value (tree.integer (pos 3)) (sum_made empty_program) (record { printed = three_printed; is_met = refl })) no_answers;
+}
+
+pub wanted : Wanted
+wanted s = record {
+  program = empty_program;
+  queries = [];
+  accepted = accepts_passed (record { passes = refl; means = refl }) accepts_none;
+  answers = no_answers;
+}
+
+pub other_module : OtherModule
+other_module s m = refuses_here (by_check refl)
+
+-- ---- the value of f
+
+-- `((f 1) 2)`
+abbrev clause_of_f : Clause
+clause_of_f = record { arguments = seq (one (lit (tree.integer (pos 1))) nil); extras = []; result = template.lit (tree.integer (pos 2)) }
+
+-- what the form defines
+abbrev f : Metafunction
+f = record { name = codes "f"; language = codes "L"; contract = None; clauses = clause_of_f ∷ [] }
+
+-- L and f
+abbrev program_f : Program
+program_f = record { languages = L ∷ []; metafunctions = f ∷ []; relations = [] }
+
+-- `(f 1)`
+abbrev call_of_f : Host
+call_of_f = term (template.call (codes "f") (template.one (template.lit (tree.integer (pos 1))) template.nil))
+
+-- its arguments
+abbrev arguments_of_f : tree.Tree
+arguments_of_f = tree.list None (tree.cons (tree.integer (pos 1)) tree.nil)
+
+-- nothing joined with nothing
+nothing_at_all : IsJoin [] [] []
+nothing_at_all = record { map = tt; sound = λ p i. inl i; left = λ p i. i; right = λ p i. i }
+
+-- they are taken by no name
+only_no_names : (b : Binding) → Match L clause_of_f.arguments arguments_of_f b → b ≡ []
+only_no_names b (match_seq (match_one (match_lit e) match_none j)) = one_join [] [] b [] j nothing_at_all
+
+taken_by_f : Matches L clause_of_f.arguments arguments_of_f ([] ∷ [])
+taken_by_f = one_alone [] (match_seq (match_one (match_lit refl) match_none nothing_at_all)) only_no_names
+
+-- its value is 2
+value_of_f : HostValue program_f call_of_f (value (tree.integer (pos 2)))
+unfolding calls_at
+value_of_f =
+    goes (goes (goes (goes refl refl) (goes refl refl)) (listed (record { shallow = omega arith; small = omega arith })))
+    (goes (goes (lists taken_by_f) refl)
+    (goes (goes (goes refl refl) (goes refl refl)) (one_of (one_alone (tree.integer (pos 2)) (here refl) (λ t i. only_member t (tree.integer (pos 2)) i)))))
+
+two_printed : codes "value 2\n" ≡ value_line (tree.integer (pos 2))
+two_printed = λ i. codes "value " ++ two_digit i ++ codes "\n"
+
+pub known_before : KnownBefore
+unfolding chars
+known_before s = record {
+  program = program_f;
+  queries = itself call_of_f ∷ [];
+  accepted =
+      accepts_query (record { passes = refl; means = refl })
+      (accepts_definition (defines _ s) (accepts_definition (record { passes = refl; means = refl; sound = tt; passes_late = refl }) accepts_none));
+  answers =
+      more_answers (codes "value 2\n") [] true true
+      (over_value (tree.integer (pos 2)) value_of_f (record { printed = two_printed; is_met = refl })) no_answers;
+}
 
 pub few_items : FewItems
 few_items s = refuses_here (by_check refl)

@@ -10,15 +10,15 @@ use Rattle.rdx_grammar.specs.Parts.{parts, text_of, is_word, is_symbol}
 use Rattle.rdx_grammar.specs.declared.shape.fault.DefFault.{DefFault}
 use Rattle.rdx_grammar.specs.declared.shape.fault.DefFault.TheVariants.{Refused, NoMemory}
 use Rattle.rdx_query.specs.Definitions.{language}
-use Rattle.rdx_query.specs.File.{by_check, by_recursion}
+use Rattle.rdx_query.specs.File.{by_check, by_recursion, by_late_check}
 use Rattle.rdx_query.specs.FormKinds.{defines, form_kind}
 use Rattle.rdx_query.specs.FormKinds as kind
-use Rattle.rdx_query.specs.Forms.{form_refusal, refusal_by_kind, form_definition, definition_by_kind}
-use Rattle.rdx_query.specs.Inside.Defining.{language_by_check, language_by_recursion, DefinesOver, DefinesBy, IsNamed}
+use Rattle.rdx_query.specs.Forms.{form_refusal, refusal_by_kind, late_refusal, late_refusal_by_kind, form_definition, definition_by_kind}
+use Rattle.rdx_query.specs.Inside.Defining.{language_by_check, language_by_recursion, language_by_escape, DefinesOver, DefinesBy, IsNamed}
 use Rattle.rdx_query.specs.Inside.PartViews.{second_among}
 use Rattle.rdx_lang.specs.Programs.{language_named}
 use Rattle.rdx_query.specs.Known.{Known, or_empty}
-use Rattle.rdx_query.specs.LanguageForms.{base_name, named_base, unknown_at, unknown_by, language_refusal}
+use Rattle.rdx_query.specs.LanguageForms.{base_name, named_base, unknown_at, unknown_by, language_refusal, language_escape}
 
 -- ---- the name of the language that is defined
 
@@ -62,29 +62,37 @@ extension_form-named d g e = named_extension (codes "define-extended-language") 
 -- ---- the language that is extended
 
 -- a language that is known is the base
-pub named_base-known : (K : Known) (l : Sexp) (L : Language) → language_named K (text_of l) ≡ Some L → named_base K (Some l) ≡ L
+pub named_base-known : (K : Known) (l : Sexp) (L : Language) → language_named K.program (text_of l) ≡ Some L → named_base K (Some l) ≡ L
 named_base-known K l L e = ap or_empty e
 
 -- and the check of unknown languages lets it pass
-pub unknown_at-known : (K : Known) (l : Sexp) (L : Language) → language_named K (text_of l) ≡ Some L → unknown_at K (Some l) ≡ None
+pub unknown_at-known : (K : Known) (l : Sexp) (L : Language) → language_named K.program (text_of l) ≡ Some L → unknown_at K (Some l) ≡ None
 unknown_at-known K l L e = ap (λ o. unknown_by o l) e
 
 -- ---- forms by their kinds
 
 -- what the parts of a form say of the form
-by_parts : (K : Known) (base : Language) (l0 : Option Sexp) (d : Sexp) (g : Option GrammarForm) (x : Result CheckedLang DefFault) → form_refusal K d ≡ language_refusal K base l0 d g → form_definition K d ≡ option_map language (option_map (language_over base) g) → DefinesOver K base l0 d g x → DefinesBy K d x
-by_parts K base l0 d g (Ok c) e f a = record { passes = e ∙ a.passes; means = f ∙ ap (option_map language) a.means; sound = a.free }
-by_parts K base l0 d g (Err NoMemory) e f a = tt
-by_parts K base l0 d g (Err (Refused r)) e f (language_by_check h) = by_check (e ∙ h)
-by_parts K base l0 d g (Err (Refused r)) e f (language_by_recursion L x h k i j) = by_recursion L x (e ∙ h) (f ∙ ap (option_map language) k) i j
+by_parts : (K : Known) (base : Language) (l0 : Option Sexp) (d : Sexp) (g : Option GrammarForm) (x : Result CheckedLang DefFault) → form_refusal K d ≡ language_refusal K base l0 d g → form_definition K d ≡ option_map language (option_map (language_over base) g) → late_refusal d ≡ language_escape d g → DefinesOver K base l0 d g x → DefinesBy K d x
+by_parts K base l0 d g (Ok c) e f l a = record {
+  passes = e ∙ a.passes;
+  means = f ∙ ap (option_map language) a.means;
+  sound = a.free;
+  passes_late = l ∙ a.passes_late;
+}
+by_parts K base l0 d g (Err NoMemory) e f l a = tt
+by_parts K base l0 d g (Err (Refused r)) e f l (language_by_check h) = by_check (e ∙ h)
+by_parts K base l0 d g (Err (Refused r)) e f l (language_by_recursion L x h k i j) = by_recursion L x (e ∙ h) (f ∙ ap (option_map language) k) i j
+by_parts K base l0 d g (Err (Refused r)) e f l (language_by_escape L h k i j) = by_late_check (language L) (e ∙ h) (f ∙ ap (option_map language) k) i (l ∙ j)
 
 -- what is said of its parts is said of a `define-language` form
-pub by_language : (K : Known) (d : Sexp) (x : Result CheckedLang DefFault) → form_kind d ≡ Some (defines kind.language) → DefinesOver K empty_language None d (language_form d) x → DefinesBy K d x
-by_language K d x e a = by_parts K empty_language None d (language_form d) x (ap (refusal_by_kind K d) e) (ap (definition_by_kind K d) e) a
+pub by_language : (K : Known) (d : Sexp) (x : Result CheckedLang DefFault) → form_kind d ≡ defines kind.language → DefinesOver K empty_language None d (language_form d) x → DefinesBy K d x
+by_language K d x e a =
+    by_parts K empty_language None d (language_form d) x (ap (refusal_by_kind K d) e) (ap (definition_by_kind K d) e) (ap (late_refusal_by_kind d) e) a
 
 -- what is said of its parts, over the base that it names, is said of a `define-extended-language` form
-pub by_extension : (K : Known) (base : Language) (l0 : Option Sexp) (d : Sexp) (x : Result CheckedLang DefFault) → form_kind d ≡ Some (defines kind.extension) → base_name d ≡ l0 → named_base K l0 ≡ base → DefinesOver K base l0 d (extension_form d) x → DefinesBy K d x
+pub by_extension : (K : Known) (base : Language) (l0 : Option Sexp) (d : Sexp) (x : Result CheckedLang DefFault) → form_kind d ≡ defines kind.extension → base_name d ≡ l0 → named_base K l0 ≡ base → DefinesOver K base l0 d (extension_form d) x → DefinesBy K d x
 by_extension K base l0 d x e f h a =
     by_parts K base l0 d (extension_form d) x
     (ap (refusal_by_kind K d) e ∙ λ i. language_refusal K ((ap (named_base K) f ∙ h) i) (f i) d (extension_form d))
-    (ap (definition_by_kind K d) e ∙ λ i. option_map language (option_map (language_over ((ap (named_base K) f ∙ h) i)) (extension_form d))) a
+    (ap (definition_by_kind K d) e ∙ λ i. option_map language (option_map (language_over ((ap (named_base K) f ∙ h) i)) (extension_form d)))
+    (ap (late_refusal_by_kind d) e) a

@@ -1,14 +1,13 @@
 -- The parts of a form can be read where the form can, and are built where it is.
 use Rattle.std.proofs.Common.{◌≡◌, ◌<◌, Bool, true, false, List, [], ◌∷◌, Option, Some, None, refl, subst, arith}
-use Rattle.std.specs.Prelude.{◌||◌, codes, if◌then◌else◌}
+use Rattle.std.specs.Prelude.{◌||◌, if◌then◌else◌}
 use Rattle.rdx_sexp.specs.Sexp.{Sexp, Sexps, leaf, list, nil, cons}
 use Rattle.rdx_sexp.specs.Size.{sexps_depth, AreSpelled}
-use Rattle.rdx_grammar.specs.Parts.{listed, parts, is_symbol, is_word}
+use Rattle.rdx_grammar.specs.Parts.{listed, parts, is_symbol}
 use Rattle.rdx_grammar.specs.Readable.{IsReadable}
 use Rattle.rdx_grammar.specs.Refusal.{unnamed}
 use Rattle.rdx_grammar.specs.Unbuilt.{has_word_to_come, have_word_to_come, unbuilt_at}
 use Rattle.rdx_grammar.specs.declared.shape.fault.DefKind.TheVariants.{Unbuilt}
-use Rattle.rdx_query.specs.HostForms.{template_among, template_in}
 use Rattle.rdx_query.specs.MatchForms.{QueryParts, query_among, query_parts}
 use Rattle.rdx_query.specs.RelationForms.{DefineParts, begins_relation, define_among, define_parts}
 use Rattle.rdx_query.specs.StepForms.{StepParts, steps_among, step_parts}
@@ -57,31 +56,6 @@ pub unbuilt_at-built : (d : Sexp) → has_word_to_come d ≡ false → unbuilt_a
 unbuilt_at-built d e = λ i. if e i then Some (unnamed Unbuilt d) else None
 
 -- ---- the parts of forms are their items
-
--- the datum, where a test lets it pass
-passed : (b : Bool) (t u : Sexp) → (if b then Some t else None) ≡ Some u → t ≡ u
-passed true t u e = cc
-passed false t u e = absurd cc
-
--- the two items of a host expression
-pub record HostItems (o : Option (List Sexp)) (t : Sexp) : Type 0 where
-  pub head : Sexp
-  pub are : o ≡ Some (head ∷ t ∷ [])
-
-host-items : (o : Option (List Sexp)) (t : Sexp) → template_among o ≡ Some t → HostItems o t
-host-items None t e = absurd cc
-host-items (Some []) t e = absurd cc
-host-items (Some (h ∷ [])) t e = absurd cc
-host-items (Some (h ∷ u ∷ [])) t e = subst (HostItems (Some (h ∷ u ∷ []))) (passed (is_word (codes "term") h) u t e) (record { head = h; are = refl })
-host-items (Some (h ∷ u ∷ x ∷ xs)) t e = absurd cc
-
--- its template can be read
-pub template-readable : (d t : Sexp) → template_in d ≡ Some t → IsReadable d → IsReadable t
-template-readable d t e z = let h = host-items (parts d) t e in (parts-readable d (h.head ∷ t ∷ []) h.are z).1.0
-
--- and is built
-pub template-built : (d t : Sexp) → template_in d ≡ Some t → has_word_to_come d ≡ false → has_word_to_come t ≡ false
-template-built d t e b = let h = host-items (parts d) t e in (parts-built d (h.head ∷ t ∷ []) h.are b).1.0
 
 -- the four items of a query
 pub record QueryItems (o : Option (List Sexp)) (q : QueryParts) : Type 0 where

@@ -1,15 +1,16 @@
 -- Steps of a file, as the code takes them.
 use Rattle.std.proofs.Common.{◌≡◌, ◌++◌, List, [], ◌∷◌, Result, Ok, Err, map, refl, ◌∙◌, ap}
 use Rattle.std.proofs.lemmas.List.{map-append}
-use Rattle.rdx_lang.specs.declared.program.Program.{Program}
 use Rattle.rdx_sexp.specs.Sexp.{Sexp}
 use Rattle.rdx_grammar.specs.declared.shape.fault.DefFault.{DefFault}
 use Rattle.rdx_query.specs.File.{Asks}
-use Rattle.rdx_query.specs.Inside.Steps.{Step, step_defines, step_asks, StepsBy, IsAdded, AddsBy}
+use Rattle.rdx_query.specs.Inside.KnownView.{known_of}
+use Rattle.rdx_query.specs.Inside.Steps.{Step, step_defines, step_asks, step_passes, StepsBy, IsAdded, AddsBy, PassesBy}
 use Rattle.rdx_query.specs.Known.{Known}
 use Rattle.rdx_query.specs.Queries as model
-use Rattle.rdx_query.specs.Views.{known_of, query_of}
+use Rattle.rdx_query.specs.Views.{query_of}
 use Rattle.rdx_query.specs.declared.file.Query.{Query}
+use Rattle.rdx_query.specs.declared.known.Known as code_known
 
 -- what is added is a step
 added_step : (K J : Known) (qs : List model.Query) (d : Sexp) → IsAdded K d J → Step K qs d J qs
@@ -20,6 +21,11 @@ pub adds_step : {A : Type 0} (K J : Known) (qs : List model.Query) (d : Sexp) (x
 adds_step K J qs d (Ok y) a = added_step K J qs d a
 adds_step K J qs d (Err e) a = a
 
+-- so is what is answered to one that is passed over
+pub passes_step : {A : Type 0} (K : Known) (qs : List model.Query) (d : Sexp) (x : Result A DefFault) → PassesBy d x → StepsBy K qs d x K qs
+passes_step K qs d (Ok y) a = step_passes (a K) refl refl
+passes_step K qs d (Err e) a = a K
+
 -- a query is added
-pub query_step : (p r : Program) (us vs : List Query) (q : Query) (d : Sexp) → known_of r ≡ known_of p → vs ≡ us ++ q ∷ [] → Asks (known_of p) d (query_of q) → Step (known_of p) (map query_of us) d (known_of r) (map query_of vs)
+pub query_step : (p r : code_known.Known) (us vs : List Query) (q : Query) (d : Sexp) → known_of r ≡ known_of p → vs ≡ us ++ q ∷ [] → Asks (known_of p) d (query_of q) → Step (known_of p) (map query_of us) d (known_of r) (map query_of vs)
 query_step p r us vs q d s e a = step_asks (query_of q) a s (ap (map query_of) e ∙ map-append query_of us (q ∷ []))

@@ -10,14 +10,14 @@ use Rattle.rdx_grammar.specs.Forms.{GrammarForm}
 use Rattle.rdx_grammar.specs.Languages.{language_over}
 use Rattle.rdx_grammar.specs.Parts.{text_of}
 use Rattle.rdx_grammar.specs.Refusal.{Refusal, refusal_of, unnamed, named, or_else, first_refusal}
-use Rattle.rdx_grammar.specs.Refused.{by_check, by_recursion, shape_at, duplicate_at, bad_name_at, bad_pattern_at, depth_clash_at, names_over, refusal_over}
+use Rattle.rdx_grammar.specs.Refused.{by_check, by_recursion, by_escape, shape_at, duplicate_at, bad_name_at, bad_pattern_at, depth_clash_at, names_over, refusal_over}
 use Rattle.rdx_grammar.specs.Stands.{form_stands}
 use Rattle.rdx_grammar.specs.Unbuilt.{has_word_to_come, unbuilt_at}
 use Rattle.rdx_grammar.specs.declared.shape.fault.DefFault.{DefFault}
 use Rattle.rdx_grammar.specs.declared.shape.fault.DefFault.TheVariants.{Refused, NoMemory}
-use Rattle.rdx_grammar.specs.declared.shape.fault.DefKind.TheVariants.{Unbuilt, Shape, UnknownLanguage, Duplicate, BadName, BadPattern, EllipsisDepth}
+use Rattle.rdx_grammar.specs.declared.shape.fault.DefKind.TheVariants.{Unbuilt, Shape, UnknownLanguage, Duplicate, BadName, BadPattern, EllipsisDepth, RacketEscape}
 use Rattle.rdx_grammar.specs.declared.shape.fault.DefRefusal.{DefRefusal}
-use Rattle.rdx_query.specs.Inside.Defining.{IsLanguageFault, language_by_check, language_by_recursion, DefinesOver, IsNamed, taken_at_item}
+use Rattle.rdx_query.specs.Inside.Defining.{IsLanguageFault, language_by_check, language_by_recursion, language_by_escape, DefinesOver, IsNamed, taken_at_item}
 use Rattle.rdx_query.specs.Inside.Earlier.{number, earlier, IsFirstFault, IsUnless}
 use Rattle.rdx_query.specs.Inside.PartViews.{second_item}
 use Rattle.rdx_query.specs.Known.{Known, is_taken}
@@ -27,7 +27,7 @@ use Rattle.rdx_query.proofs.CheckNumbers.{HasNumber, Checks, AreChecks, refused,
 -- ---- numbers
 
 -- of the check of unbuilt words
-unbuilt-number : (b : Bool) (d : Sexp) → HasNumber 0 (if b then Some (unnamed Unbuilt d) else None)
+pub unbuilt-number : (b : Bool) (d : Sexp) → HasNumber 0 (if b then Some (unnamed Unbuilt d) else None)
 unbuilt-number true d r e = unnamed-number Unbuilt (Some d) r e
 unbuilt-number false d r e = absurd cc
 
@@ -38,7 +38,7 @@ unknown_by-number (Some L) l r e = absurd cc
 
 pub unknown-number : (K : Known) (o : Option Sexp) → HasNumber 2 (unknown_at K o)
 unknown-number K None r e = absurd cc
-unknown-number K (Some l) r e = unknown_by-number (language_named K (text_of l)) l r e
+unknown-number K (Some l) r e = unknown_by-number (language_named K.program (text_of l)) l r e
 
 -- of that of a name that is taken
 taken_by-number : (b : Bool) (x : Sexp) → HasNumber 3 (if b then Some (named Duplicate x) else None)
@@ -48,7 +48,7 @@ taken_by-number false x r e = absurd cc
 pub taken-number : (K : Known) (x : Sexp) → HasNumber 3 (name_taken_at K x)
 taken-number K x = taken_by-number (is_taken K (text_of x)) x
 
-item-number : (K : Known) (o : Option Sexp) → HasNumber 3 (taken_at_item K o)
+pub item-number : (K : Known) (o : Option Sexp) → HasNumber 3 (taken_at_item K o)
 item-number K None r e = absurd cc
 item-number K (Some x) r e = taken-number K x r e
 
@@ -127,7 +127,7 @@ behind_name K base d g =
     ∷ depth_clash_at (names_over base g) (form_stands d g) ∷ [])
 
 -- the refusal of its base's name comes before those of the base, whatever that is
-unknown-refusal : (K : Known) (base other : Language) (l : Sexp) (d : Sexp) (g : Option GrammarForm) → language_named K (text_of l) ≡ None → language_refusal K base (Some l) d g ≡ earlier (Some (named UnknownLanguage l)) (refusal_over other d g)
+unknown-refusal : (K : Known) (base other : Language) (l : Sexp) (d : Sexp) (g : Option GrammarForm) → language_named K.program (text_of l) ≡ None → language_refusal K base (Some l) d g ≡ earlier (Some (named UnknownLanguage l)) (refusal_over other d g)
 unknown-refusal K base other l d g u =
     let names : AreChecks 0 ((2, Some (named UnknownLanguage l)) ∷ []) = (omega arith, (named-number UnknownLanguage (Some l), tt)) in
     (λ i. or_else (unbuilt_at d) (or_else (shape_at (form_stands d g)) (or_else (unknown_by (u i) l) (behind_name K base d g))))
@@ -146,6 +146,10 @@ first-fault K base other l0 d g r (Err (Refused p)) (Refused q) h (by_recursion 
     let seven : number (refusal_of p).kind ≡ 7 = ap (λ (s : Refusal). number s.kind) i in
     let none : earlier (Some (refusal_of r)) (Some (refusal_of p)) ≡ Some (refusal_of r) = ap Some (earlier_of-first (refusal_of r) (refusal_of p) (omega (arith, h, seven))) in
     language_by_check (f ∙ ap (earlier (Some (refusal_of r))) b ∙ sym none ∙ k (Some (refusal_of p)) refl)
+first-fault K base other l0 d g r (Err (Refused p)) (Refused q) h (by_escape ps b c m i) f k =
+    let ten : number (refusal_of p).kind ≡ 10 = unnamed-number RacketEscape _ (refusal_of p) i in
+    let none : earlier (Some (refusal_of r)) (Some (refusal_of p)) ≡ Some (refusal_of r) = ap Some (earlier_of-first (refusal_of r) (refusal_of p) (omega (arith, h, ten))) in
+    language_by_check (f ∙ ap (earlier (Some (refusal_of r))) b ∙ sym none ∙ k (Some (refusal_of p)) refl)
 
 -- where the checks are the same, so is what they say
 as_read : (K : Known) (base : Language) (l0 : Option Sexp) (d : Sexp) (g : Option GrammarForm) (x : Result CheckedLang DefFault) → language_refusal K base l0 d g ≡ refusal_over base d g → ReadsForm base d g x → DefinesOver K base l0 d g x
@@ -153,11 +157,14 @@ as_read K base l0 d g (Ok c) e a = record {
   passes = e ∙ a.passes;
   means = ap (option_map (language_over base)) a.are ∙ ap Some (sym a.reads);
   free = a.free;
+  passes_late = a.asks_nothing;
 }
 as_read K base l0 d g (Err NoMemory) e a = tt
 as_read K base l0 d g (Err (Refused r)) e (by_check f) = language_by_check (e ∙ f)
 as_read K base l0 d g (Err (Refused r)) e (by_recursion ps x f h k i) =
     language_by_recursion (language_over base ps) x (e ∙ f) (ap (option_map (language_over base)) h) k i
+as_read K base l0 d g (Err (Refused r)) e (by_escape ps f h k i) =
+    language_by_escape (language_over base ps) (e ∙ f) (ap (option_map (language_over base)) h) k i
 
 -- the answer where the base is known, by what is said of the name
 pub known-answer : (K : Known) (base : Language) (l0 : Option Sexp) (d : Sexp) (g : Option GrammarForm) (t : Option DefRefusal) (x y : Result CheckedLang DefFault) → IsNamed d g → unknown_at K l0 ≡ None
@@ -171,7 +178,7 @@ known-answer K base l0 d g (Some r) x (Err e) n u t a k =
     (known-refusal K base l0 d g n u ∙ ap (λ (o : Option Refusal). earlier o (refusal_over base d g)) (sym t)) k
 
 -- the answer where it is unknown
-pub unknown-answer : (K : Known) (base other : Language) (l : Sexp) (d : Sexp) (g : Option GrammarForm) (r : DefRefusal) (x : Result CheckedLang DefFault) (e : DefFault) → language_named K (text_of l) ≡ None
+pub unknown-answer : (K : Known) (base other : Language) (l : Sexp) (d : Sexp) (g : Option GrammarForm) (r : DefRefusal) (x : Result CheckedLang DefFault) (e : DefFault) → language_named K.program (text_of l) ≡ None
     → refusal_of r ≡ named UnknownLanguage l → ReadsForm other d g x → IsFirstFault r x e → DefinesOver K base (Some l) d g (Err e)
 unknown-answer K base other l d g r x e u m a k =
     let two : number (refusal_of r).kind ≡ 2 = ap (λ (s : Refusal). number s.kind) m in

@@ -8,8 +8,10 @@ pub mod Contexts
 pub mod CheckNumbers
 pub mod FormParts
 pub mod HostChecks
+pub mod ClauseStands
 pub mod LanguageChecks
 pub mod RelationChecks
+pub mod MetafunctionChecks
 pub mod FormNames
 pub mod QueryChecks
 pub mod StepChecks

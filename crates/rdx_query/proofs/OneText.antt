@@ -7,8 +7,9 @@ use Rattle.rdx_lang.specs.Laws.{OneListing, OneSplitsListing}
 use Rattle.rdx_lang.specs.Listing.{Matches, Splits}
 use Rattle.rdx_lang.specs.Members.{In}
 use Rattle.rdx_lang.specs.Patterns.{Pattern, Language}
-use Rattle.rdx_lang.specs.Programs.{Relation, Rule, language_named}
-use Rattle.rdx_lang.specs.Templates.{Host, term}
+use Rattle.rdx_lang.specs.Programs.{Program, Relation, Rule, language_named}
+use Rattle.rdx_lang.specs.Templates.{Host}
+use Rattle.rdx_lang.specs.Templates as template
 use Rattle.rdx_lang.proofs.OrderLaws.{one_listing as one_ascending}
 use Rattle.rdx_sexp.specs.Sexp.{Sexp}
 use Rattle.rdx_term.specs.Model.TotalOrder.{tree_cmp-total}
@@ -16,14 +17,15 @@ use Rattle.rdx_term.specs.Order.{tree_cmp}
 use Rattle.rdx_term.specs.Tree.{Tree}
 use Rattle.rdx_eval.specs.Answers.{Answer, Fault, fault}
 use Rattle.rdx_eval.specs.Answers as evaluation
-use Rattle.rdx_eval.specs.Calls.{calls_at, height}
+use Rattle.rdx_eval.specs.Heights.{calls_at, height}
 use Rattle.rdx_eval.specs.Laws.{Once, OneTerm}
 use Rattle.rdx_reduce.specs.Laws.{OneStepping}
 use Rattle.rdx_reduce.specs.Relations.{StepsOver, AreSteps}
 use Rattle.rdx_reduce.specs.Steps.{Step}
 use Rattle.rdx_query.specs.AnswerText.{matches_text, whether_text, splits_text, reducts_text, fault_line}
 use Rattle.rdx_query.specs.Answering.{HostValue, Over, over_value, over_fault, IsValueAnswer, IsAnswer, AreAnswers, no_answers, more_answers, Writes}
-use Rattle.rdx_query.specs.Known.{Known, nothing}
+use Rattle.rdx_query.specs.Known.{Known}
+use Rattle.rdx_query.specs.File.{known_before}
 use Rattle.rdx_query.specs.MatchAnswers.{Finds, FindsSplits, IsMatchesAnswer, IsWhetherAnswer, IsSplitsAnswer}
 use Rattle.rdx_query.specs.Queries.{Query, matches, whether, splits, value, reducts, tagged}
 use Rattle.rdx_query.specs.StepAnswers.{reducts_in, WritesReducts, reducts_found, no_reducts, WritesSteps, steps_found, no_steps, IsReductsAnswer, IsTaggedAnswer}
@@ -73,32 +75,32 @@ module _ (one_listing : OneListing) (one_splits : OneSplitsListing) (one_term : 
   -- ---- matches and splits
 
   -- one listing is found at most
-  one_found : (K : Known) (name : List ℕ) (p : Pattern) (t : Tree) (bs cs : List Binding) → Finds K name p t bs → Finds K name p t cs → bs ≡ cs
-  one_found K name p t bs cs a b =
+  one_found : (P : Program) (name : List ℕ) (p : Pattern) (t : Tree) (bs cs : List Binding) → Finds P name p t bs → Finds P name p t cs → bs ≡ cs
+  one_found P name p t bs cs a b =
       let k : a.language ≡ b.language = let e = a.known in let f = b.known in cc in
       one_listing b.language p t bs cs (subst (λ (L : Language). Matches L p t bs) k a.listing) b.listing
 
   -- and one of splits
-  one_found_splits : (K : Known) (name : List ℕ) (p : Pattern) (t : Tree) (ds es : List Decomposition) → FindsSplits K name p t ds → FindsSplits K name p t es → ds ≡ es
-  one_found_splits K name p t ds es a b =
+  one_found_splits : (P : Program) (name : List ℕ) (p : Pattern) (t : Tree) (ds es : List Decomposition) → FindsSplits P name p t ds → FindsSplits P name p t es → ds ≡ es
+  one_found_splits P name p t ds es a b =
       let k : a.language ≡ b.language = let e = a.known in let f = b.known in cc in
       one_splits b.language p t ds es (subst (λ (L : Language). Splits L p t ds) k a.listing) b.listing
 
-  once-matches : (K : Known) (name : List ℕ) (p : Pattern) (t : Tree) → OnceWritten (IsMatchesAnswer K name p t)
-  once-matches K name p t text other m n a b = record {
-    text = a.printed ∙ ap matches_text (one_found K name p t a.found b.found a.finds b.finds) ∙ sym b.printed;
+  once-matches : (P : Program) (name : List ℕ) (p : Pattern) (t : Tree) → OnceWritten (IsMatchesAnswer P name p t)
+  once-matches P name p t text other m n a b = record {
+    text = a.printed ∙ ap matches_text (one_found P name p t a.found b.found a.finds b.finds) ∙ sym b.printed;
     met = a.is_met ∙ sym b.is_met;
   }
 
-  once-whether : (K : Known) (name : List ℕ) (p : Pattern) (t : Tree) → OnceWritten (IsWhetherAnswer K name p t)
-  once-whether K name p t text other m n a b = record {
-    text = a.printed ∙ ap whether_text (one_found K name p t a.found b.found a.finds b.finds) ∙ sym b.printed;
+  once-whether : (P : Program) (name : List ℕ) (p : Pattern) (t : Tree) → OnceWritten (IsWhetherAnswer P name p t)
+  once-whether P name p t text other m n a b = record {
+    text = a.printed ∙ ap whether_text (one_found P name p t a.found b.found a.finds b.finds) ∙ sym b.printed;
     met = a.is_met ∙ sym b.is_met;
   }
 
-  once-splits : (K : Known) (name : List ℕ) (p : Pattern) (t : Tree) → OnceWritten (IsSplitsAnswer K name p t)
-  once-splits K name p t text other m n a b = record {
-    text = a.printed ∙ ap splits_text (one_found_splits K name p t a.found b.found a.finds b.finds) ∙ sym b.printed;
+  once-splits : (P : Program) (name : List ℕ) (p : Pattern) (t : Tree) → OnceWritten (IsSplitsAnswer P name p t)
+  once-splits P name p t text other m n a b = record {
+    text = a.printed ∙ ap splits_text (one_found_splits P name p t a.found b.found a.finds b.finds) ∙ sym b.printed;
     met = a.is_met ∙ sym b.is_met;
   }
 
@@ -110,66 +112,67 @@ module _ (one_listing : OneListing) (one_splits : OneSplitsListing) (one_term : 
   -- ---- steps
 
   -- a relation has one listing of its steps at most, or one fault
-  once-over : (K : Known) (o : Option Language) (t : Tree) (rs : List Rule) → Once (StepsOver o (calls_at K height) t rs)
-  once-over K None t rs a b h k = absurd h
-  once-over K (Some L) t rs a b h k = one_stepping L K height t rs a b h k
+  once-over : (P : Program) (o : Option Language) (t : Tree) (rs : List Rule) → Once (StepsOver o (calls_at P height) t rs)
+  once-over P None t rs a b h k = absurd h
+  once-over P (Some L) t rs a b h k = one_stepping L P height t rs a b h k
 
   -- of what is known by one name
-  one_relation : (K : Known) (name : List ℕ) (t : Tree) (R S : Relation) (a b : Answer (List Step)) → R ≡ S → AreSteps K R t a → AreSteps K S t b → a ≡ b
-  one_relation K name t R S a b e h k =
-      once-over K (language_named K S.language) t S.rules a b (subst (λ (Q : Relation). AreSteps K Q t a) e h) k
+  one_relation : (P : Program) (name : List ℕ) (t : Tree) (R S : Relation) (a b : Answer (List Step)) → R ≡ S → AreSteps P R t a → AreSteps P S t b → a ≡ b
+  one_relation P name t R S a b e h k =
+      once-over P (language_named P S.language) t S.rules a b (subst (λ (Q : Relation). AreSteps P Q t a) e h) k
 
-  once-by-reducts : (K : Known) (name : List ℕ) (t : Tree) → OnceWritten (IsReductsAnswer K name t)
-  once-by-reducts K name t text other m n a b =
+  once-by-reducts : (P : Program) (name : List ℕ) (t : Tree) → OnceWritten (IsReductsAnswer P name t)
+  once-by-reducts P name t text other m n a b =
       let k : a.relation ≡ b.relation = let e = a.known in let f = b.known in cc in
-      let s : a.answer ≡ b.answer = one_relation K name t a.relation b.relation a.answer b.answer k a.steps b.steps in
+      let s : a.answer ≡ b.answer = one_relation P name t a.relation b.relation a.answer b.answer k a.steps b.steps in
       once-reducts b.answer text other m n (subst (λ (r : Answer (List Step)). WritesReducts r text m) s a.written) b.written
 
-  once-by-steps : (K : Known) (name : List ℕ) (t : Tree) → OnceWritten (IsTaggedAnswer K name t)
-  once-by-steps K name t text other m n a b =
+  once-by-steps : (P : Program) (name : List ℕ) (t : Tree) → OnceWritten (IsTaggedAnswer P name t)
+  once-by-steps P name t text other m n a b =
       let k : a.relation ≡ b.relation = let e = a.known in let f = b.known in cc in
-      let s : a.answer ≡ b.answer = one_relation K name t a.relation b.relation a.answer b.answer k a.steps b.steps in
+      let s : a.answer ≡ b.answer = one_relation P name t a.relation b.relation a.answer b.answer k a.steps b.steps in
       once-steps b.relation.rules b.answer text other m n
       (subst (λ (r : Answer (List Step)). WritesSteps b.relation.rules r text m) s (subst (λ (R : Relation). WritesSteps R.rules a.answer text m) k a.written)) b.written
 
   -- ---- queries
 
   -- a host expression makes one term, or has one fault
-  once-host : (K : Known) (h : Host) → Once (HostValue K h)
-  once-host K (term t) = one_term K height no_names t
+  once-host : (P : Program) (h : Host) → Once (HostValue P h)
+  once-host P h = one_term P height no_names (template.host h)
 
   -- what is written over it is one text
-  over-once : (K : Known) (h : Host) (W : Tree → List ℕ → Bool → Type 0) → ((t : Tree) → OnceWritten (W t)) → OnceWritten (Over K h W)
-  over-once K h W f text other m n (over_value t v a) (over_value u w b) =
-      let e : t ≡ u = same_value t u (once-host K h (evaluation.value t) (evaluation.value u) v w) in
+  over-once : (P : Program) (h : Host) (W : Tree → List ℕ → Bool → Type 0) → ((t : Tree) → OnceWritten (W t)) → OnceWritten (Over P h W)
+  over-once P h W f text other m n (over_value t v a) (over_value u w b) =
+      let e : t ≡ u = same_value t u (once-host P h (evaluation.value t) (evaluation.value u) v w) in
       f u text other m n (subst (λ (x : Tree). W x text m) e a) b
-  over-once K h W f text other m n (over_value t v a) (over_fault p w e c) =
-      no_value p t (once-host K h (fault p) (evaluation.value t) w v)
-  over-once K h W f text other m n (over_fault p v e c) (over_value t w b) =
-      no_value p t (once-host K h (fault p) (evaluation.value t) v w)
-  over-once K h W f text other m n (over_fault p v e c) (over_fault q w g d) = record {
-    text = e ∙ ap fault_line (same_fault p q (once-host K h (fault p) (fault q) v w)) ∙ sym g;
+  over-once P h W f text other m n (over_value t v a) (over_fault p w e c) =
+      no_value p t (once-host P h (fault p) (evaluation.value t) w v)
+  over-once P h W f text other m n (over_fault p v e c) (over_value t w b) =
+      no_value p t (once-host P h (fault p) (evaluation.value t) v w)
+  over-once P h W f text other m n (over_fault p v e c) (over_fault q w g d) = record {
+    text = e ∙ ap fault_line (same_fault p q (once-host P h (fault p) (fault q) v w)) ∙ sym g;
     met = c ∙ sym d;
   }
 
   -- a query has one answer at most
-  one_answer : (K : Known) (q : Query) → OnceWritten (IsAnswer K q)
-  one_answer K (matches name p h) = over-once K h (IsMatchesAnswer K name p) (once-matches K name p)
-  one_answer K (whether name p h) = over-once K h (IsWhetherAnswer K name p) (once-whether K name p)
-  one_answer K (splits name p h) = over-once K h (IsSplitsAnswer K name p) (once-splits K name p)
-  one_answer K (value h) = over-once K h IsValueAnswer once-value
-  one_answer K (reducts name h) = over-once K h (IsReductsAnswer K name) (once-by-reducts K name)
-  one_answer K (tagged name h) = over-once K h (IsTaggedAnswer K name) (once-by-steps K name)
+  one_answer : (P : Program) (q : Query) → OnceWritten (IsAnswer P q)
+  one_answer P (matches name p h) = over-once P h (IsMatchesAnswer P name p) (once-matches P name p)
+  one_answer P (whether name p h) = over-once P h (IsWhetherAnswer P name p) (once-whether P name p)
+  one_answer P (splits name p h) = over-once P h (IsSplitsAnswer P name p) (once-splits P name p)
+  one_answer P (value h) = over-once P h IsValueAnswer once-value
+  one_answer P (reducts name h) = over-once P h (IsReductsAnswer P name) (once-by-reducts P name)
+  one_answer P (tagged name h) = over-once P h (IsTaggedAnswer P name) (once-by-steps P name)
 
   -- queries have one text at most
-  answers-one : (K : Known) (qs : List Query) → OnceWritten (AreAnswers K qs)
-  answers-one K [] t u m n no_answers no_answers = record { text = refl; met = refl }
-  answers-one K (q ∷ qs) t u m n (more_answers text texts met all_met a more) (more_answers other others same all_same b rest) =
-      both text other texts others met same all_met all_same (one_answer K q text other met same a b) (answers-one K qs texts others all_met all_same more rest)
+  answers-one : (P : Program) (qs : List Query) → OnceWritten (AreAnswers P qs)
+  answers-one P [] t u m n no_answers no_answers = record { text = refl; met = refl }
+  answers-one P (q ∷ qs) t u m n (more_answers text texts met all_met a more) (more_answers other others same all_same b rest) =
+      both text other texts others met same all_met all_same (one_answer P q text other met same a b) (answers-one P qs texts others all_met all_same more rest)
 
   -- data write one text at most
   pub writes-one : (ds : List Sexp) → OnceWritten (Writes ds)
   writes-one ds t u m n a b =
-      let s = accepts-one nothing ds a.known b.known a.queries b.queries a.accepted b.accepted in
-      answers-one b.known b.queries t u m n
-      (subst (λ (qs : List Query). AreAnswers b.known qs t m) s.queries (subst (λ (K : Known). AreAnswers K a.queries t m) s.known a.answers)) b.answers
+      let s = accepts-one (known_before ds) ds _ _ a.queries b.queries a.accepted b.accepted in
+      let e : a.program ≡ b.program = ap (λ (K : Known). K.program) s.known in
+      answers-one b.program b.queries t u m n
+      (subst (λ (qs : List Query). AreAnswers b.program qs t m) s.queries (subst (λ (P : Program). AreAnswers P a.queries t m) e a.answers)) b.answers

@@ -4,9 +4,8 @@ use Rattle.std.specs.Prelude.{option_map, bytes_eq}
 use Rattle.std.specs.Cmp.Lexicographic.{bytes_decides}
 use Rattle.rdx_sexp.specs.Sexp.{Sexp}
 use Rattle.rdx_lang.specs.Checked.{pattern_in}
-use Rattle.rdx_lang.specs.Patterns.{Pattern, Language}
-use Rattle.rdx_lang.specs.Programs.{language_among, language_named}
-use Rattle.rdx_lang.specs.Templates.{Host}
+use Rattle.rdx_lang.specs.Patterns.{Language}
+use Rattle.rdx_lang.specs.Programs.{Program, language_among, language_named}
 use Rattle.rdx_lang.specs.TemplateView.{host_of}
 use Rattle.rdx_lang.specs.declared.checked.CheckedPat.{CheckedPat}
 use Rattle.rdx_lang.specs.declared.template.HostExpr.{HostExpr}
@@ -14,31 +13,32 @@ use Rattle.rdx_grammar.specs.Answers.{ReadsPattern}
 use Rattle.rdx_grammar.specs.Nonterminals.{names_of}
 use Rattle.rdx_grammar.specs.Occurrences.{occurrences}
 use Rattle.rdx_grammar.specs.Parts.{text_of}
+use Rattle.rdx_grammar.specs.PatternChecks as patterns
 use Rattle.rdx_grammar.specs.PatternChecks.{keyword_faults, bad_occurrences}
-use Rattle.rdx_grammar.specs.PatternRefusal.{keyword_at, bad_binder_at, bad_occurrence_at, depth_clash_at, pattern_refusal}
+use Rattle.rdx_grammar.specs.PatternRefusal.{keyword_at, bad_binder_at, bad_occurrence_at, depth_clash_at, escape_at, pattern_refusal}
 use Rattle.rdx_grammar.specs.Reading.{reading}
 use Rattle.rdx_grammar.specs.Readable.{IsReadable}
 use Rattle.rdx_grammar.specs.Refusal.{Refusal, refusal_of, unnamed, named, or_else, first}
 use Rattle.rdx_grammar.specs.Unbuilt.{has_word_to_come}
 use Rattle.rdx_grammar.specs.declared.shape.fault.DefFault.{DefFault}
 use Rattle.rdx_grammar.specs.declared.shape.fault.DefFault.TheVariants.{Refused, NoMemory}
-use Rattle.rdx_grammar.specs.declared.shape.fault.DefKind.TheVariants.{Shape, UnknownLanguage, BadName, BadPattern, EllipsisDepth}
+use Rattle.rdx_grammar.specs.declared.shape.fault.DefKind.TheVariants.{Shape, UnknownLanguage, BadName, BadPattern, EllipsisDepth, RacketEscape}
 use Rattle.rdx_grammar.specs.declared.shape.fault.DefRefusal.{DefRefusal}
 use Rattle.rdx_grammar.specs.declared.patterns.position.Position.TheVariants as position
-use Rattle.rdx_defs.specs.TemplateChecks.{template_keywords, bad_parts}
-use Rattle.rdx_defs.specs.TemplateOccurrences.{template_parts}
-use Rattle.rdx_defs.specs.TemplateRefusal.{template_refusal}
-use Rattle.rdx_query.specs.HostForms.{template_in, host_at, host_parts, host_reading, undriven_at}
+use Rattle.rdx_defs.specs.Answers.{ReadsHost}
+use Rattle.rdx_defs.specs.TemplateChecks.{bad_parts, escapes}
+use Rattle.rdx_defs.specs.TemplateRefusal.{host_refusal}
+use Rattle.rdx_defs.specs.TemplateShapes.{host_shapes}
+use Rattle.rdx_query.specs.HostForms.{parts_of_host}
 use Rattle.rdx_query.specs.Known.{Known, or_empty}
 use Rattle.rdx_query.specs.LanguageForms.{named_base, unknown_at, unknown_by}
-use Rattle.rdx_query.specs.MatchForms.{QueryParts, query_parts, query_shape_at, query_refusal, query_over, bad_query_at}
-use Rattle.rdx_query.specs.Queries.{Query}
-use Rattle.rdx_query.specs.Inside.Asking.{ReadsHost, IsFit, IsAsked}
+use Rattle.rdx_query.specs.MatchForms.{QueryParts, query_parts, query_shape_at, query_refusal, query_over, bad_query_at, undriven_host_at, query_escape_at}
+use Rattle.rdx_query.specs.Inside.Asking.{IsFit, IsAsked}
 use Rattle.rdx_query.specs.Inside.Earlier.{earlier, IsFaultAt, IsRefusedBy, IsFirstFault}
 use Rattle.rdx_query.proofs.CheckNumbers.{or_none, Checks, AreChecks, refused, merge, merged, merge-checks, unnamed-number, named-number}
 use Rattle.rdx_query.proofs.LanguageChecks.{unknown-number}
-use Rattle.rdx_query.proofs.FormParts.{unbuilt_at-built, template-readable, template-built, query-items, parts-readable, parts-built}
-use Rattle.rdx_query.proofs.HostChecks.{template_checks, template-checks, template-refusal, host-refused}
+use Rattle.rdx_query.proofs.FormParts.{unbuilt_at-built, query-items, parts-readable, parts-built}
+use Rattle.rdx_query.proofs.HostChecks.{host_checks, host-checks, host-refusal, host-refused}
 
 -- ---- the checks of a pattern
 
@@ -49,12 +49,24 @@ pattern_checks ns p =
     ∷ (4, bad_binder_at (occurrences 0 p))
     ∷ (5, bad_occurrence_at ns (occurrences 0 p))
     ∷ (6, depth_clash_at ns (occurrences 0 p))
+    ∷ (10, escape_at (occurrences 0 p))
     ∷ []
 
 -- their numbers ascend
 pattern-checks : (ns : List (List ℕ)) (p : Sexp) → AreChecks 0 (pattern_checks ns p)
-pattern-checks ns p =
-    (omega arith, (unnamed-number Shape _, (omega arith, (named-number BadName _, (omega arith, (unnamed-number BadPattern _, (omega arith, (named-number EllipsisDepth _, tt))))))))
+pattern-checks ns p = (
+  omega arith,
+  (
+    unnamed-number Shape _,
+    (
+      omega arith,
+      (
+        named-number BadName _,
+        (omega arith, (unnamed-number BadPattern _, (omega arith, (named-number EllipsisDepth _, (omega arith, (unnamed-number RacketEscape _, tt)))))),
+      ),
+    ),
+  ),
+)
 
 -- they refuse it, where it is built
 pattern-refusal : (ns : List (List ℕ)) (p : Sexp) → has_word_to_come p ≡ false → pattern_refusal ns p ≡ refused (pattern_checks ns p)
@@ -75,111 +87,114 @@ both-first f (x ∷ xs) ys o = refl
 
 -- ---- the checks of a query that has its shape
 
-module _ (K : Known) (d l p t : Sexp) (f : IsFit d l p t) where
+module _ (K : Known) (d : Sexp) (q : QueryParts) (f : IsFit d q) where
   -- the nonterminals of its language
   abbrev names : List (List ℕ)
-  names = names_of (named_base K (Some l))
+  names = names_of (named_base K (Some q.language))
 
   -- the check of its language
   abbrev language_check : Checks
-  language_check = (2, unknown_at K (Some l)) ∷ []
+  language_check = (2, unknown_at K (Some q.language)) ∷ []
 
   -- it is refused by these
-  chain : query_refusal K d (query_parts d) ≡ refused (merge language_check (merge (pattern_checks names p) (template_checks t)))
+  chain : query_refusal K d (query_parts d) ≡ refused (merge language_check (merge (pattern_checks names q.pattern) (host_checks K.scope q.host)))
   chain =
-      let os = occurrences 0 p in
-      let ps = template_parts 0 t in
-      let q : QueryParts = record { language = l; pattern = p; host = f.host } in
-      let last : Option Refusal = or_else (depth_clash_at names os) (or_else (undriven_at ps) None) in
-      let bad : Option Refusal = or_else (bad_query_at names os ps) last in
-      let behind : Option Refusal = or_else (unknown_at K (Some l)) (or_else (bad_binder_at os) bad) in
+      let os = occurrences 0 q.pattern in
+      let ps = parts_of_host K q.host in
+      let escapes_last : Option Refusal = or_else (query_escape_at os ps) None in
+      let bad_last : Option Refusal = or_else (depth_clash_at names os) (or_else (undriven_host_at K ps) escapes_last) in
+      let unknown_last : Option Refusal = or_else (unknown_at K (Some q.language)) (or_else (bad_binder_at os) (or_else (bad_query_at names os ps) bad_last)) in
+      let behind : Option Refusal → Option Refusal = λ o. or_else (depth_clash_at names os) (or_else (undriven_host_at K ps) o) in
+      let before : Option Refusal → Option Refusal = λ o.
+      or_else (keyword_at os) (or_else (option_map (unnamed Shape) (first (host_shapes q.host))) (or_else (unknown_at K (Some q.language)) (or_else (bad_binder_at os) o)))
+      in
+      let between : Option Refusal → Option Refusal = λ o.
+      or_else (bad_occurrence_at names os) (or_else (option_map (unnamed BadPattern) (first (bad_parts ps))) o)
+      in
       ap (query_refusal K d) f.parts
-      ∙ (λ i. or_else (unbuilt_at-built d f.built i) (or_else (host_at d (f.template i))
-      (or_else (query_shape_at d (if f.symbol i then Some q else None)) (or_else (unknown_at K (Some l)) (or_else (bad_binder_at os)
-      (or_else (bad_query_at names os (host_parts (f.template i))) (or_else (depth_clash_at names os) (or_else (undriven_at (host_parts (f.template i))) None))))))))
-      ∙ (λ i. or_else (option_map (unnamed Shape) (first (keyword_faults os ++ template_keywords (host_parts (f.template i))))) behind)
-      ∙ both-first (unnamed Shape) (keyword_faults os) (template_keywords ps) behind
-      ∙ ap (λ o. or_else (keyword_at os) (or_else (option_map (unnamed Shape) (first (template_keywords ps))) (or_else (unknown_at K (Some l)) (or_else (bad_binder_at os) o))))
-      (both-first (unnamed BadPattern) (bad_occurrences names os) (bad_parts ps) last)
+      ∙ (λ i. or_else (unbuilt_at-built d f.built i) (or_else (query_shape_at d (if f.symbol i then Some q else None)) unknown_last))
+      ∙ both-first (unnamed Shape) (keyword_faults os) (host_shapes q.host) unknown_last
+      ∙ ap before (both-first (unnamed BadPattern) (bad_occurrences names os) (bad_parts ps) bad_last)
+      ∙ ap (λ o. before (between (behind o))) (both-first (unnamed RacketEscape) (patterns.escapes os) (escapes ps) None)
 
   -- no word to come stands in the pattern
-  pattern-built : has_word_to_come p ≡ false
+  pattern-built : has_word_to_come q.pattern ≡ false
   pattern-built =
-      let k = query-items d (record { language = l; pattern = p; host = f.host }) f.parts in
-      (parts-built d (k.head ∷ l ∷ p ∷ f.host ∷ []) k.are f.built).1.1.0
+      let k = query-items d q f.parts in
+      (parts-built d (k.head ∷ q.language ∷ q.pattern ∷ q.host ∷ []) k.are f.built).1.1.0
 
-  -- nor in the template
-  host-built : has_word_to_come t ≡ false
+  -- nor in the host expression
+  host-built : has_word_to_come q.host ≡ false
   host-built =
-      let k = query-items d (record { language = l; pattern = p; host = f.host }) f.parts in
-      template-built f.host t f.template (parts-built d (k.head ∷ l ∷ p ∷ f.host ∷ []) k.are f.built).1.1.1.0
+      let k = query-items d q f.parts in
+      (parts-built d (k.head ∷ q.language ∷ q.pattern ∷ q.host ∷ []) k.are f.built).1.1.1.0
 
   -- the pattern can be read
-  pub pattern-readable : IsReadable d → IsReadable p
+  pub pattern-readable : IsReadable d → IsReadable q.pattern
   pattern-readable z =
-      let k = query-items d (record { language = l; pattern = p; host = f.host }) f.parts in
-      (parts-readable d (k.head ∷ l ∷ p ∷ f.host ∷ []) k.are z).1.1.0
+      let k = query-items d q f.parts in
+      (parts-readable d (k.head ∷ q.language ∷ q.pattern ∷ q.host ∷ []) k.are z).1.1.0
 
-  -- and so can the template
-  pub host-readable : IsReadable d → IsReadable t
+  -- and so can the host expression
+  pub host-readable : IsReadable d → IsReadable q.host
   host-readable z =
-      let k = query-items d (record { language = l; pattern = p; host = f.host }) f.parts in
-      template-readable f.host t f.template (parts-readable d (k.head ∷ l ∷ p ∷ f.host ∷ []) k.are z).1.1.1.0
+      let k = query-items d q f.parts in
+      (parts-readable d (k.head ∷ q.language ∷ q.pattern ∷ q.host ∷ []) k.are z).1.1.1.0
 
   -- the refusal of its parts that is reported
-  parts-refusal : query_refusal K d (query_parts d) ≡ earlier (unknown_at K (Some l)) (earlier (pattern_refusal names p) (template_refusal [] t))
+  parts-refusal : query_refusal K d (query_parts d) ≡ earlier (unknown_at K (Some q.language)) (earlier (pattern_refusal names q.pattern) (host_refusal K.scope [] q.host))
   parts-refusal =
-      let ps = pattern-checks names p in
-      let ts = template-checks t in
-      let ls : AreChecks 0 language_check = (omega arith, (unknown-number K (Some l), tt)) in
+      let ps = pattern-checks names q.pattern in
+      let hs = host-checks K.scope q.host in
+      let ls : AreChecks 0 language_check = (omega arith, (unknown-number K (Some q.language), tt)) in
+      let all = merge (pattern_checks names q.pattern) (host_checks K.scope q.host) in
       chain
-      ∙ merged 0 language_check (merge (pattern_checks names p) (template_checks t)) ls (merge-checks 0 (pattern_checks names p) (template_checks t) ps ts)
-      ∙ (λ i. earlier (or_none (unknown_at K (Some l)) i) (merged 0 (pattern_checks names p) (template_checks t) ps ts i))
-      ∙ (λ i. earlier (unknown_at K (Some l)) (earlier (sym (pattern-refusal names p pattern-built) i) (sym (template-refusal t host-built) i)))
+      ∙ merged 0 language_check all ls (merge-checks 0 (pattern_checks names q.pattern) (host_checks K.scope q.host) ps hs)
+      ∙ (λ i. earlier (or_none (unknown_at K (Some q.language)) i) (merged 0 (pattern_checks names q.pattern) (host_checks K.scope q.host) ps hs i))
+      ∙ (λ i. earlier (unknown_at K (Some q.language)) (earlier (sym (pattern-refusal names q.pattern pattern-built) i) (sym (host-refusal K.scope q.host host-built) i)))
 
   -- ---- the language is unknown
 
   -- the refusal of the language's name, or an earlier one of the parts
-  pub unknown-fault : {A : Type 0} (ns : List (List ℕ)) (r : DefRefusal) (x : Result CheckedPat DefFault) (y : Result HostExpr DefFault) (z : Result A DefFault) (e : DefFault) → language_named K (text_of l) ≡ None → ns ≡ []
-      → refusal_of r ≡ named UnknownLanguage l → ReadsPattern ns p x → ReadsHost t y → ((o q : Option Refusal) → IsRefusedBy o x → IsRefusedBy q y → IsRefusedBy (earlier o q) z) → IsFirstFault r z e
+  pub unknown-fault : {A : Type 0} (ns : List (List ℕ)) (r : DefRefusal) (x : Result CheckedPat DefFault) (y : Result HostExpr DefFault) (z : Result A DefFault) (e : DefFault) → language_named K.program (text_of q.language) ≡ None → ns ≡ []
+      → refusal_of r ≡ named UnknownLanguage q.language → ReadsPattern ns q.pattern x → ReadsHost K.scope [] q.host y → ((o p : Option Refusal) → IsRefusedBy o x → IsRefusedBy p y → IsRefusedBy (earlier o p) z) → IsFirstFault r z e
       → IsFaultAt (query_refusal K d (query_parts d)) e
   unknown-fault ns r x y z e n m i a b g h =
-      let whole : query_refusal K d (query_parts d) ≡ earlier (Some (refusal_of r)) (earlier (pattern_refusal ns p) (template_refusal [] t)) =
+      let host = host_refusal K.scope [] q.host in
+      let whole : query_refusal K d (query_parts d) ≡ earlier (Some (refusal_of r)) (earlier (pattern_refusal ns q.pattern) host) =
       parts-refusal
-      ∙ (λ j. earlier (unknown_by (n j) l) (earlier (pattern_refusal (names_of (or_empty (n j))) p) (template_refusal [] t)))
-      ∙ (λ j. earlier (Some (sym i j)) (earlier (pattern_refusal (sym m j) p) (template_refusal [] t)))
+      ∙ (λ j. earlier (unknown_by (n j) q.language) (earlier (pattern_refusal (names_of (or_empty (n j))) q.pattern) host))
+      ∙ (λ j. earlier (Some (sym i j)) (earlier (pattern_refusal (sym m j) q.pattern) host))
       in
       subst (λ (o : Option Refusal). IsFaultAt o e) (sym whole)
-      (h (earlier (pattern_refusal ns p) (template_refusal [] t)) (g (pattern_refusal ns p) (template_refusal [] t) (pattern-refused ns p x a) (host-refused t y b)))
+      (h (earlier (pattern_refusal ns q.pattern) host) (g (pattern_refusal ns q.pattern) host (pattern-refused ns q.pattern x a) (host-refused K.scope q.host y b)))
 
   -- ---- the language L is known
 
-  module _ (L : Language) (k : language_named K (text_of l) ≡ Some L) where
+  module _ (L : Language) (k : language_named K.program (text_of q.language) ≡ Some L) where
     -- it is refused where its parts are
-    known-refusal : query_refusal K d (query_parts d) ≡ earlier (pattern_refusal (names_of L) p) (template_refusal [] t)
-    known-refusal = parts-refusal ∙ λ i. earlier (unknown_by (k i) l) (earlier (pattern_refusal (names_of (or_empty (k i))) p) (template_refusal [] t))
+    known-refusal : query_refusal K d (query_parts d) ≡ earlier (pattern_refusal (names_of L) q.pattern) (host_refusal K.scope [] q.host)
+    known-refusal =
+        parts-refusal ∙ λ i. earlier (unknown_by (k i) q.language) (earlier (pattern_refusal (names_of (or_empty (k i))) q.pattern) (host_refusal K.scope [] q.host))
 
     -- a fault of the parts
-    pub parts-fault : (x : Result CheckedPat DefFault) (y : Result HostExpr DefFault) (e : DefFault) → ReadsPattern (names_of L) p x → ReadsHost t y
-        → ((o q : Option Refusal) → IsRefusedBy o x → IsRefusedBy q y → IsFaultAt (earlier o q) e)
+    pub parts-fault : (x : Result CheckedPat DefFault) (y : Result HostExpr DefFault) (e : DefFault) → ReadsPattern (names_of L) q.pattern x → ReadsHost K.scope [] q.host y
+        → ((o p : Option Refusal) → IsRefusedBy o x → IsRefusedBy p y → IsFaultAt (earlier o p) e)
         → IsFaultAt (query_refusal K d (query_parts d)) e
     parts-fault x y e a b g =
         subst (λ (o : Option Refusal). IsFaultAt o e) (sym known-refusal)
-        (g (pattern_refusal (names_of L) p) (template_refusal [] t) (pattern-refused (names_of L) p x a) (host-refused t y b))
+        (g (pattern_refusal (names_of L) q.pattern) (host_refusal K.scope [] q.host) (pattern-refused (names_of L) q.pattern x a) (host-refused K.scope q.host y b))
 
     -- the parts are read
-    pub parts-asked : (c : CheckedPat) (h : HostExpr) (name : List ℕ) → ReadsPattern (names_of L) p (Ok c) → ReadsHost t (Ok h) → name ≡ text_of l → IsAsked K d name (pattern_in c) (host_of h)
+    pub parts-asked : (c : CheckedPat) (h : HostExpr) (name : List ℕ) → ReadsPattern (names_of L) q.pattern (Ok c) → ReadsHost K.scope [] q.host (Ok h) → name ≡ text_of q.language → IsAsked K d name (pattern_in c) (host_of h)
     parts-asked c h name a b n = record {
       passes = known-refusal ∙ λ i. earlier (a.0 i) (b.0 i);
       means = λ kind. ap (option_map (query_over K kind)) f.parts
-          ∙ λ i. Some (kind (sym n i) (pattern_path i) (host_path kind i));
+          ∙ λ i. Some (kind (sym n i) (pattern_path i) (sym b.1 i));
     }
       where
-        pattern_path : reading (names_of (named_base K (Some l))) position.Query p ≡ pattern_in c
-        pattern_path = ap (λ (o : Option Language). reading (names_of (or_empty o)) position.Query p) k ∙ sym a.1
-
-        host_path : (kind : List ℕ → Pattern → Host → Query) → host_reading (template_in f.host) ≡ host_of h
-        host_path kind = ap host_reading f.template ∙ sym b.1
+        pattern_path : reading (names_of (named_base K (Some q.language))) position.Query q.pattern ≡ pattern_in c
+        pattern_path = ap (λ (o : Option Language). reading (names_of (or_empty o)) position.Query q.pattern) k ∙ sym a.1
 
 -- ---- names
 
@@ -193,6 +208,6 @@ language_among-name : (Ls : List Language) (x : List ℕ) (M : Language) → lan
 language_among-name [] x M e = absurd cc
 language_among-name (L ∷ Ls) x M e = named-by (bytes_eq L.name x) L M x (language_among Ls x) refl (language_among-name Ls x M) e
 
--- so it is with what is known
-pub language_named-name : (K : Known) (x : List ℕ) (M : Language) → language_named K x ≡ Some M → M.name ≡ x
-language_named-name K x M e = language_among-name K.languages x M e
+-- so it is in a program
+pub language_named-name : (P : Program) (x : List ℕ) (M : Language) → language_named P x ≡ Some M → M.name ≡ x
+language_named-name P x M e = language_among-name P.languages x M e

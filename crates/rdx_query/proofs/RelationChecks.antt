@@ -9,27 +9,29 @@ use Rattle.rdx_grammar.specs.Names.{begins_with_dots, is_bad_name}
 use Rattle.rdx_grammar.specs.Nonterminals.{names_of}
 use Rattle.rdx_grammar.specs.Parts.{parts, is_symbol, text_of}
 use Rattle.rdx_grammar.specs.Readable.{IsReadable}
-use Rattle.rdx_grammar.specs.Refusal.{Refusal, refusal_of, unnamed, named, or_else, first, first_refusal}
+use Rattle.rdx_grammar.specs.Refusal.{Refusal, refusal_of, named, or_else, first_refusal}
 use Rattle.rdx_grammar.specs.Unbuilt.{has_word_to_come}
 use Rattle.rdx_grammar.specs.declared.shape.fault.DefFault.{DefFault}
 use Rattle.rdx_grammar.specs.declared.shape.fault.DefFault.TheVariants.{Refused, NoMemory}
-use Rattle.rdx_grammar.specs.declared.shape.fault.DefKind.TheVariants.{Shape, BadName, BadPattern, EllipsisDepth, UnknownName, EllipsisVariable}
+use Rattle.rdx_grammar.specs.declared.shape.fault.DefKind.TheVariants.{Shape, BadName, BadPattern, EllipsisDepth, UnknownName, EllipsisVariable, RacketEscape}
 use Rattle.rdx_grammar.specs.declared.shape.fault.DefRefusal.{DefRefusal}
 use Rattle.rdx_defs.specs.Answers.{ReadsRelation}
-use Rattle.rdx_defs.specs.RelationChecks.{shape_faults, repeated_names, bad_names, bad_places, depth_faults, bad_arrows, undriven_places}
 use Rattle.rdx_defs.specs.RelationForms.{RelationForm, is_keyword, may_name, relation_among, relation_over, relation_form}
 use Rattle.rdx_defs.specs.RelationReading.{relation_reading}
-use Rattle.rdx_defs.specs.RelationRefusal.{repeated_at, stands_refusal, relation_refusal}
-use Rattle.rdx_defs.specs.RelationStands.{Stand, relation_stands}
+use Rattle.rdx_defs.specs.RelationRefusal.{stands_refusal, relation_refusal}
+use Rattle.rdx_defs.specs.RelationStands.{relation_stands}
+use Rattle.rdx_defs.specs.Scope.{Scope}
+use Rattle.rdx_defs.specs.StandChecks.{shape_at, repeated_at, repeated_name_at, bad_name_at, bad_place_at, depth_fault_at, bad_arrow_at, undriven_at, escape_at}
+use Rattle.rdx_defs.specs.Stands.{Stand}
 use Rattle.rdx_query.specs.Definitions as defined
 use Rattle.rdx_query.specs.File.{by_check}
 use Rattle.rdx_query.specs.FormKinds as kind
 use Rattle.rdx_query.specs.FormKinds.{defines, form_kind}
-use Rattle.rdx_query.specs.Forms.{refusal_by_kind, definition_by_kind}
+use Rattle.rdx_query.specs.Forms.{refusal_by_kind, late_refusal_by_kind, definition_by_kind}
 use Rattle.rdx_query.specs.Known.{Known}
 use Rattle.rdx_query.specs.LanguageForms.{named_base, unknown_at, name_taken_at}
 use Rattle.rdx_query.specs.RelationForms as forms
-use Rattle.rdx_query.specs.RelationForms.{DefineParts, define_parts, bad_name_at, define_refusal, define_refusal_by, defined_relation}
+use Rattle.rdx_query.specs.RelationForms.{DefineParts, define_parts, bad_relation_at, define_refusal, define_refusal_by, defined_relation}
 use Rattle.rdx_query.specs.Inside.Defining.{parts_refusal, parts_relation, RelatesOver, RelatesBy}
 use Rattle.rdx_query.specs.Inside.Earlier.{number, earlier, IsFaultAt, IsRefusedBy, IsUnless}
 use Rattle.rdx_query.specs.Inside.PartViews.{Defining, defining_by, is_more, second_among, may_name_item, language_item}
@@ -84,19 +86,20 @@ repeated-number (Some d) r e = let f : repeated_at d ≡ r = cc in ap (λ (q : R
 -- ---- the checks
 
 -- those of the list
-abbrev list_checks : List (List ℕ) → List Stand → Checks
-list_checks ns ss =
-    (1, option_map (unnamed Shape) (first (shape_faults ss)))
-    ∷ (3, option_map repeated_at (first (repeated_names [] ss)))
-    ∷ (4, option_map (named BadName) (first (bad_names ss)))
-    ∷ (5, option_map (unnamed BadPattern) (first (bad_places ns ss)))
-    ∷ (6, option_map (named EllipsisDepth) (first (depth_faults ns ss)))
-    ∷ (8, option_map (named UnknownName) (first (bad_arrows ss)))
-    ∷ (9, option_map (unnamed EllipsisVariable) (first (undriven_places ss)))
+abbrev list_checks : Scope → List (List ℕ) → List Stand → Checks
+list_checks S ns ss =
+    (1, shape_at ss)
+    ∷ (3, repeated_name_at ss)
+    ∷ (4, bad_name_at ss)
+    ∷ (5, bad_place_at S ns ss)
+    ∷ (6, depth_fault_at S ns ss)
+    ∷ (8, bad_arrow_at ss)
+    ∷ (9, undriven_at S ss)
+    ∷ (10, escape_at S ss)
     ∷ []
 
-list-checks : (ns : List (List ℕ)) (ss : List Stand) → AreChecks 0 (list_checks ns ss)
-list-checks ns ss = (
+list-checks : (S : Scope) (ns : List (List ℕ)) (ss : List Stand) → AreChecks 0 (list_checks S ns ss)
+list-checks S ns ss = (
   omega arith,
   (
     unnamed-number Shape _,
@@ -116,7 +119,10 @@ list-checks ns ss = (
                   omega arith,
                   (
                     named-number EllipsisDepth _,
-                    (omega arith, (named-number UnknownName _, (omega arith, (unnamed-number EllipsisVariable _, tt)))),
+                    (
+                      omega arith,
+                      (named-number UnknownName _, (omega arith, (unnamed-number EllipsisVariable _, (omega arith, (unnamed-number RacketEscape _, tt))))),
+                    ),
                   ),
                 ),
               ),
@@ -130,7 +136,7 @@ list-checks ns ss = (
 
 -- those of the names
 abbrev name_checks : Known → Option Sexp → Sexp → Checks
-name_checks K o x = (2, unknown_at K o) ∷ (3, name_taken_at K x) ∷ (4, bad_name_at x) ∷ []
+name_checks K o x = (2, unknown_at K o) ∷ (3, name_taken_at K x) ∷ (4, bad_relation_at x) ∷ []
 
 name-checks : (K : Known) (o : Option Sexp) (x : Sexp) → AreChecks 0 (name_checks K o x)
 name-checks K o x =
@@ -139,10 +145,10 @@ name-checks K o x =
 -- ---- what is read of the parts
 
 -- what is read of the list is refused so
-relation-refused : (ns : List (List ℕ)) (y : List ℕ) (body : Sexp) (x : Result Relation DefFault) → ReadsRelation ns y body x → IsRefusedBy (relation_refusal ns body) x
-relation-refused ns y body (Ok r) a = a.passes
-relation-refused ns y body (Err (Refused r)) a = a
-relation-refused ns y body (Err NoMemory) a = tt
+relation-refused : (S : Scope) (ns : List (List ℕ)) (y : List ℕ) (body : Sexp) (x : Result Relation DefFault) → ReadsRelation S ns y body x → IsRefusedBy (relation_refusal S ns body) x
+relation-refused S ns y body (Ok r) a = a.passes
+relation-refused S ns y body (Err (Refused r)) a = a
+relation-refused S ns y body (Err NoMemory) a = tt
 
 -- a name that is not refused may be one
 good_name : (b : Bool) (x : Sexp) → (let o : Option Refusal = if b then Some (named BadName x) else None in o) ≡ None → b ≡ false
@@ -152,38 +158,38 @@ good_name false x e = refl
 module _ (K : Known) (x body : Sexp) where
   -- what is refused of the names
   abbrev names_refusal : Option Refusal
-  names_refusal = first_refusal (unknown_at K (language_item body) ∷ name_taken_at K x ∷ bad_name_at x ∷ [])
+  names_refusal = first_refusal (unknown_at K (language_item body) ∷ name_taken_at K x ∷ bad_relation_at x ∷ [])
 
   -- the nonterminals of the language
   abbrev language_names : List (List ℕ)
   language_names = names_of (named_base K (language_item body))
 
   -- no name is refused
-  as_read : (y : List ℕ) (r : Result Relation DefFault) → names_refusal ≡ None → (is_bad_name (text_of x) ≡ false → y ≡ text_of x) → ReadsRelation language_names y body r → RelatesOver K x body r
+  as_read : (y : List ℕ) (r : Result Relation DefFault) → names_refusal ≡ None → (is_bad_name (text_of x) ≡ false → y ≡ text_of x) → ReadsRelation K.scope language_names y body r → RelatesOver K x body r
   as_read y (Ok r) e f a =
-      let late = (none_of (name_taken_at K x) (bad_name_at x ∷ []) (none_of (unknown_at K (language_item body)) (name_taken_at K x ∷ bad_name_at x ∷ []) e).1).1 in
-      let name : y ≡ text_of x = f (good_name (is_bad_name (text_of x)) x (none_of (bad_name_at x) [] late).0) in (
+      let late = (none_of (name_taken_at K x) (bad_relation_at x ∷ []) (none_of (unknown_at K (language_item body)) (name_taken_at K x ∷ bad_relation_at x ∷ []) e).1).1 in
+      let name : y ≡ text_of x = f (good_name (is_bad_name (text_of x)) x (none_of (bad_relation_at x) [] late).0) in (
         λ i. earlier (e i) (a.passes i),
-        ap (λ z. option_map (relation_reading language_names z) (relation_form body)) (sym name) ∙ ap (option_map (relation_reading language_names y)) a.is_form ∙ ap Some (sym a.is_read),
+        ap (λ z. option_map (relation_reading K.scope language_names z) (relation_form body)) (sym name) ∙ ap (option_map (relation_reading K.scope language_names y)) a.is_form ∙ ap Some (sym a.is_read),
       )
-  as_read y (Err (Refused r)) e f a = ap (λ (o : Option Refusal). earlier o (relation_refusal language_names body)) e ∙ a
+  as_read y (Err (Refused r)) e f a = ap (λ (o : Option Refusal). earlier o (relation_refusal K.scope language_names body)) e ∙ a
   as_read y (Err NoMemory) e f a = tt
 
   -- the answer, by what is said of the names
   pub relates-over : (o : Option Sexp) (y : List ℕ) (t : Option DefRefusal) (r z : Result Relation DefFault) → o ≡ language_item body
-      → option_map refusal_of t ≡ first_refusal (unknown_at K o ∷ name_taken_at K x ∷ bad_name_at x ∷ []) → (is_bad_name (text_of x) ≡ false → y ≡ text_of x)
-      → ReadsRelation (names_of (named_base K o)) y body r → IsUnless t r z → RelatesOver K x body z
+      → option_map refusal_of t ≡ first_refusal (unknown_at K o ∷ name_taken_at K x ∷ bad_relation_at x ∷ []) → (is_bad_name (text_of x) ≡ false → y ≡ text_of x)
+      → ReadsRelation K.scope (names_of (named_base K o)) y body r → IsUnless t r z → RelatesOver K x body z
   relates-over o y t r z e f g a k =
       by_names t z
-      (f ∙ ap (λ (l : Option Sexp). first_refusal (unknown_at K l ∷ name_taken_at K x ∷ bad_name_at x ∷ [])) e)
-      (subst (λ (l : Option Sexp). ReadsRelation (names_of (named_base K l)) y body r) e a) k
+      (f ∙ ap (λ (l : Option Sexp). first_refusal (unknown_at K l ∷ name_taken_at K x ∷ bad_relation_at x ∷ [])) e)
+      (subst (λ (l : Option Sexp). ReadsRelation K.scope (names_of (named_base K l)) y body r) e a) k
     where
-      by_names : (t : Option DefRefusal) (z : Result Relation DefFault) → option_map refusal_of t ≡ names_refusal → ReadsRelation language_names y body r → IsUnless t r z → RelatesOver K x body z
+      by_names : (t : Option DefRefusal) (z : Result Relation DefFault) → option_map refusal_of t ≡ names_refusal → ReadsRelation K.scope language_names y body r → IsUnless t r z → RelatesOver K x body z
       by_names None z f a k = subst (RelatesOver K x body) (sym k) (as_read y r (sym f) g a)
       by_names (Some q) (Ok v) f a k = absurd k
       by_names (Some q) (Err e) f a k =
-          subst (λ (o : Option Refusal). IsFaultAt (earlier o (relation_refusal language_names body)) e) f
-          (k (relation_refusal language_names body) (relation-refused language_names y body r a))
+          subst (λ (o : Option Refusal). IsFaultAt (earlier o (relation_refusal K.scope language_names body)) e) f
+          (k (relation_refusal K.scope language_names body) (relation-refused K.scope language_names y body r a))
 
 -- ---- the parts, as the code has them
 
@@ -250,37 +256,38 @@ module _ (K : Known) (d x body : Sexp) (e : define_parts d ≡ Some (record { na
   body-built = let k = define-items d its_parts e in (parts-built d (k.head ∷ x ∷ body ∷ []) k.are b).1.1.0
 
   -- the list is refused by its checks
-  body-refusal : relation_refusal names body ≡ refused (list_checks names stands)
+  body-refusal : relation_refusal K.scope names body ≡ refused (list_checks K.scope names stands)
   body-refusal =
-      (λ i. or_else (unbuilt_at-built body body-built i) (or_else (stands_refusal names stands) None))
-      ∙ or_none (refused (list_checks names stands))
+      (λ i. or_else (unbuilt_at-built body body-built i) (or_else (stands_refusal K.scope names stands) None))
+      ∙ or_none (refused (list_checks K.scope names stands))
 
   -- the form is refused by those of the names and of the list
-  chain : define_refusal K d ≡ refused (merge (name_checks K (language_item body) x) (list_checks names stands))
+  chain : define_refusal K d ≡ refused (merge (name_checks K (language_item body) x) (list_checks K.scope names stands))
   chain =
       ap (define_refusal_by K d) e
       ∙ λ i. or_else (unbuilt_at-built d b i) (refused (merge (name_checks K (language-item body i) x)
-      (list_checks (names_of (named_base K (language-item body i))) (relation_stands (names_of (named_base K (language-item body i))) body (relation_form body)))))
+      (list_checks K.scope (names_of (named_base K (language-item body i))) (relation_stands (names_of (named_base K (language-item body i))) body (relation_form body)))))
 
   -- so the parts are
   define-refusal : define_refusal K d ≡ parts_refusal K x body
   define-refusal =
       chain
-      ∙ merged 0 (name_checks K (language_item body) x) (list_checks names stands) (name-checks K (language_item body) x) (list-checks names stands)
+      ∙ merged 0 (name_checks K (language_item body) x) (list_checks K.scope names stands) (name-checks K (language_item body) x) (list-checks K.scope names stands)
       ∙ ap (earlier (refused (name_checks K (language_item body) x))) (sym body-refusal)
 
   -- the relation that the form defines
   define-relation : defined_relation K d ≡ parts_relation K x body
   define-relation =
       ap (forms.relation_among K) e
-      ∙ λ i. option_map (relation_reading (names_of (named_base K (language-item body i))) (text_of x)) (relation_form body)
+      ∙ λ i. option_map (relation_reading K.scope (names_of (named_base K (language-item body i))) (text_of x)) (relation_form body)
 
   -- what is said of its parts is said of the form
-  pub relates : (y : Result Relation DefFault) → form_kind d ≡ Some (defines kind.relation) → RelatesOver K x body y → RelatesBy K d y
+  pub relates : (y : Result Relation DefFault) → form_kind d ≡ defines kind.relation → RelatesOver K x body y → RelatesBy K d y
   relates (Ok r) f a = record {
     passes = ap (refusal_by_kind K d) f ∙ define-refusal ∙ a.0;
     means = ap (definition_by_kind K d) f ∙ ap (option_map defined.relation) (define-relation ∙ a.1);
     sound = tt;
+    passes_late = ap (late_refusal_by_kind d) f;
   }
   relates (Err (Refused r)) f a = by_check (ap (refusal_by_kind K d) f ∙ define-refusal ∙ a)
   relates (Err NoMemory) f a = tt

@@ -1,5 +1,14 @@
 -- Places of a list, and an element that is put in the place of another.
 use Rattle.std.proofs.Common.{◌≡◌, ℕ, zero, suc, ◌<◌, length, get_or, set, List, [], ◌∷◌, Option, Some, IfSome, map, ap, subst, arith}
+use Rattle.rdx_lang.specs.Checked.{language_in}
+use Rattle.rdx_lang.specs.Patterns.{Language}
+use Rattle.rdx_lang.specs.ProgramView.{program_of}
+use Rattle.rdx_lang.specs.Programs.{Program}
+use Rattle.rdx_lang.specs.declared.checked.CheckedLang.{CheckedLang}
+use Rattle.rdx_defs.specs.Scope.{scope_of}
+use Rattle.rdx_query.specs.Inside.KnownView.{known_of}
+use Rattle.rdx_query.specs.Known as model
+use Rattle.rdx_query.specs.declared.known.Known.{Known}
 
 -- one with the same image changes no image
 pub map-set : {A B : Type 0} (f : A → B) (xs : List A) (i : ℕ) (x y : A) → i < length xs → f y ≡ f (get_or xs i x) → map f (set xs i y) ≡ map f xs
@@ -10,3 +19,21 @@ map-set f (z ∷ xs) (suc i) x y h e = ap (λ bs. f z ∷ bs) (map-set f xs i x 
 -- where a place that is found lies within bounds, it does
 pub some-within : (o : Option ℕ) (i n : ℕ) → IfSome o (λ j. j < n) → o ≡ Some i → i < n
 some-within o i n h e = subst (λ (p : Option ℕ). IfSome p (λ j. j < n)) e h
+
+-- what is known with these languages in place of its own
+abbrev over_languages : Known → List CheckedLang → model.Known
+over_languages k ls = record {
+  scope = scope_of k.scope;
+  program = record {
+    languages = map language_in ls;
+    metafunctions = (program_of k.program).metafunctions;
+    relations = (program_of k.program).relations;
+  };
+}
+
+-- it stays the same, where a language is put in the place of one with the same meaning
+pub same-known : (k : Known) (i : ℕ) (x y : CheckedLang) → i < length k.program.languages.items → language_in y ≡ language_in (get_or k.program.languages.items i x)
+    → over_languages k (set k.program.languages.items i y) ≡ known_of k
+same-known k i x y h e =
+    ap (λ (Ls : List Language). let P : Program = record (program_of k.program) { languages = Ls } in let K : model.Known = record { scope = scope_of k.scope; program = P } in K)
+    (map-set language_in k.program.languages.items i x y h e)

@@ -12,36 +12,36 @@ use Rattle.rdx_lang.specs.Decompositions.{Decomposition}
 use Rattle.rdx_lang.specs.Laws.{FreeOrRecursive, SomeListing, SomeSplitsListing}
 use Rattle.rdx_lang.specs.Members.{In}
 use Rattle.rdx_lang.specs.Patterns.{Pattern, Language}
-use Rattle.rdx_lang.specs.Programs.{Relation, Rule, language_named}
-use Rattle.rdx_lang.specs.Templates.{Host, term}
+use Rattle.rdx_lang.specs.Programs.{Program, Relation, Rule, language_named}
+use Rattle.rdx_lang.specs.Templates.{Host}
+use Rattle.rdx_lang.specs.Templates as template
 use Rattle.rdx_eval.specs.Answers as evaluation
 use Rattle.rdx_eval.specs.Answers.{Answer, fault}
-use Rattle.rdx_eval.specs.Calls.{calls_at, height}
-use Rattle.rdx_eval.specs.Laws as laws
-use Rattle.rdx_eval.specs.Laws.{SomeTerm}
+use Rattle.rdx_eval.specs.Heights.{calls_at, height}
+use Rattle.rdx_eval.specs.Laws.{HasAnswer, AreFree, SomeTerm}
 use Rattle.rdx_reduce.specs.Laws.{SomeStepping}
 use Rattle.rdx_reduce.specs.Relations.{StepsOver, AreSteps}
 use Rattle.rdx_reduce.specs.Steps.{Step}
 use Rattle.rdx_query.specs.AnswerText.{value_line, matches_text, whether_text, splits_text, reducts_text, steps_text, fault_line}
 use Rattle.rdx_query.specs.Answering.{HostValue, Over, over_value, over_fault, IsValueAnswer, IsAnswer, AreAnswers, no_answers, more_answers}
-use Rattle.rdx_query.specs.Known.{Known, nothing}
+use Rattle.rdx_query.specs.File.{known_before}
 use Rattle.rdx_query.specs.Laws.{AreAccepted, AreRefused, DoWrite}
 use Rattle.rdx_query.specs.MatchAnswers.{Finds, FindsSplits, IsMatchesAnswer, IsWhetherAnswer, IsSplitsAnswer}
 use Rattle.rdx_query.specs.Queries.{Query, matches, whether, splits, value, reducts, tagged, NamesKnown, KnowsRelation}
 use Rattle.rdx_query.specs.StepAnswers.{reducts_in, named_steps, AreReducts, WritesReducts, reducts_found, no_reducts, WritesSteps, steps_found, no_steps, IsReductsAnswer, IsTaggedAnswer}
 use Rattle.rdx_query.specs.Views.{AllNamesKnown}
 use Rattle.rdx_query.proofs.AcceptedOrRefused.{accepted_or_refused}
-use Rattle.rdx_query.proofs.AskedNames.{IsFit, fit-nothing, language-among, can_answer}
+use Rattle.rdx_query.proofs.AskedNames.{fit-before, language-among, can_answer}
 
 -- the bindings that are found
-record AreFound (K : Known) (name : List ℕ) (p : Pattern) (t : Tree) : Type 0 where
+record AreFound (P : Program) (name : List ℕ) (p : Pattern) (t : Tree) : Type 0 where
   pub found : List Binding
-  pub finds : Finds K name p t found
+  pub finds : Finds P name p t found
 
 -- the splits that are found
-record SplitsAreFound (K : Known) (name : List ℕ) (p : Pattern) (t : Tree) : Type 0 where
+record SplitsAreFound (P : Program) (name : List ℕ) (p : Pattern) (t : Tree) : Type 0 where
   pub found : List Decomposition
-  pub finds : FindsSplits K name p t found
+  pub finds : FindsSplits P name p t found
 
 -- what is written
 record DoesWrite (W : List ℕ → Bool → Type 0) : Type 0 where
@@ -74,95 +74,95 @@ write-steps rs (fault f) = record { text = fault_line f; met = false; written = 
 
 module _ (decided : FreeOrRecursive) (some : SomeListing) (some_splits : SomeSplitsListing) (some_term : SomeTerm) (some_stepping : SomeStepping) where
   -- bindings are found
-  are_found : (K : Known) (name : List ℕ) (p : Pattern) (t : Tree) → IsFit K → (o : Option Language) → language_named K name ≡ o → IsSome o → AreFound K name p t
-  are_found K name p t f None e n = absurd cc
-  are_found K name p t f (Some L) e n =
-      let l = some L (f.free L (language-among K.languages name L e)) p t in
+  are_found : (P : Program) (name : List ℕ) (p : Pattern) (t : Tree) → AreFree P → (o : Option Language) → language_named P name ≡ o → IsSome o → AreFound P name p t
+  are_found P name p t f None e n = absurd cc
+  are_found P name p t f (Some L) e n =
+      let l = some L (f L (language-among P.languages name L e)) p t in
       record { found = l.found; finds = record { language = L; known = e; listing = l.listing } }
 
   -- so are splits
-  splits_are_found : (K : Known) (name : List ℕ) (p : Pattern) (t : Tree) → IsFit K → (o : Option Language) → language_named K name ≡ o → IsSome o → SplitsAreFound K name p t
-  splits_are_found K name p t f None e n = absurd cc
-  splits_are_found K name p t f (Some L) e n =
-      let l = some_splits L (f.free L (language-among K.languages name L e)) p t in
+  splits_are_found : (P : Program) (name : List ℕ) (p : Pattern) (t : Tree) → AreFree P → (o : Option Language) → language_named P name ≡ o → IsSome o → SplitsAreFound P name p t
+  splits_are_found P name p t f None e n = absurd cc
+  splits_are_found P name p t f (Some L) e n =
+      let l = some_splits L (f L (language-among P.languages name L e)) p t in
       record { found = l.found; finds = record { language = L; known = e; listing = l.listing } }
 
   -- and steps
-  are_steps : (K : Known) (R : Relation) (t : Tree) → IsFit K → (o : Option Language) → language_named K R.language ≡ o → IsSome o → laws.Some (AreSteps K R t)
-  are_steps K R t f None e n = absurd cc
-  are_steps K R t f (Some L) e n =
-      let s = some_stepping L K height t R.rules (f.free L (language-among K.languages R.language L e)) in
-      record { answer = s.answer; allowed = subst (λ (o : Option Language). StepsOver o (calls_at K height) t R.rules s.answer) (sym e) s.allowed }
+  are_steps : (P : Program) (R : Relation) (t : Tree) → AreFree P → (o : Option Language) → language_named P R.language ≡ o → IsSome o → HasAnswer (AreSteps P R t)
+  are_steps P R t f None e n = absurd cc
+  are_steps P R t f (Some L) e n =
+      let s = some_stepping L P height t R.rules (f L (language-among P.languages R.language L e)) f in
+      record { answer = s.answer; allowed = subst (λ (o : Option Language). StepsOver o (calls_at P height) t R.rules s.answer) (sym e) s.allowed }
 
   -- ---- the answers to each kind of query over a term
 
-  write-matches : (K : Known) (name : List ℕ) (p : Pattern) → IsFit K → IsSome (language_named K name) → (t : Tree) → DoesWrite (IsMatchesAnswer K name p t)
-  write-matches K name p f n t =
-      let b = are_found K name p t f (language_named K name) refl n in
+  write-matches : (P : Program) (name : List ℕ) (p : Pattern) → AreFree P → IsSome (language_named P name) → (t : Tree) → DoesWrite (IsMatchesAnswer P name p t)
+  write-matches P name p f n t =
+      let b = are_found P name p t f (language_named P name) refl n in
       record { text = matches_text b.found; met = true; written = record { found = b.found; finds = b.finds; printed = refl; is_met = refl } }
 
-  write-whether : (K : Known) (name : List ℕ) (p : Pattern) → IsFit K → IsSome (language_named K name) → (t : Tree) → DoesWrite (IsWhetherAnswer K name p t)
-  write-whether K name p f n t =
-      let b = are_found K name p t f (language_named K name) refl n in
+  write-whether : (P : Program) (name : List ℕ) (p : Pattern) → AreFree P → IsSome (language_named P name) → (t : Tree) → DoesWrite (IsWhetherAnswer P name p t)
+  write-whether P name p f n t =
+      let b = are_found P name p t f (language_named P name) refl n in
       record { text = whether_text b.found; met = true; written = record { found = b.found; finds = b.finds; printed = refl; is_met = refl } }
 
-  write-splits : (K : Known) (name : List ℕ) (p : Pattern) → IsFit K → IsSome (language_named K name) → (t : Tree) → DoesWrite (IsSplitsAnswer K name p t)
-  write-splits K name p f n t =
-      let b = splits_are_found K name p t f (language_named K name) refl n in
+  write-splits : (P : Program) (name : List ℕ) (p : Pattern) → AreFree P → IsSome (language_named P name) → (t : Tree) → DoesWrite (IsSplitsAnswer P name p t)
+  write-splits P name p f n t =
+      let b = splits_are_found P name p t f (language_named P name) refl n in
       record { text = splits_text b.found; met = true; written = record { found = b.found; finds = b.finds; printed = refl; is_met = refl } }
 
   write-value : (t : Tree) → DoesWrite (IsValueAnswer t)
   write-value t = record { text = value_line t; met = true; written = record { printed = refl; is_met = refl } }
 
-  write-by-reducts : (K : Known) (name : List ℕ) → IsFit K → KnowsRelation K name → (t : Tree) → DoesWrite (IsReductsAnswer K name t)
-  write-by-reducts K name f n t =
-      let s = are_steps K n.relation t f (language_named K n.relation.language) refl n.language in
+  write-by-reducts : (P : Program) (name : List ℕ) → AreFree P → KnowsRelation P name → (t : Tree) → DoesWrite (IsReductsAnswer P name t)
+  write-by-reducts P name f n t =
+      let s = are_steps P n.relation t f (language_named P n.relation.language) refl n.language in
       let w = write-reducts s.answer in
       record { text = w.text; met = w.met; written = record { relation = n.relation; known = n.named; answer = s.answer; steps = s.allowed; written = w.written } }
 
-  write-by-steps : (K : Known) (name : List ℕ) → IsFit K → KnowsRelation K name → (t : Tree) → DoesWrite (IsTaggedAnswer K name t)
-  write-by-steps K name f n t =
-      let s = are_steps K n.relation t f (language_named K n.relation.language) refl n.language in
+  write-by-steps : (P : Program) (name : List ℕ) → AreFree P → KnowsRelation P name → (t : Tree) → DoesWrite (IsTaggedAnswer P name t)
+  write-by-steps P name f n t =
+      let s = are_steps P n.relation t f (language_named P n.relation.language) refl n.language in
       let w = write-steps n.relation.rules s.answer in
       record { text = w.text; met = w.met; written = record { relation = n.relation; known = n.named; answer = s.answer; steps = s.allowed; written = w.written } }
 
   -- ---- queries
 
   -- a host expression makes a term, or has a fault
-  some-host : (K : Known) (h : Host) → laws.Some (HostValue K h)
-  some-host K (term t) = some_term K height no_names t
+  some-host : (P : Program) (h : Host) → AreFree P → HasAnswer (HostValue P h)
+  some-host P h f = some_term P height no_names (template.host h) f
 
   -- what is written over it
-  write-over : (K : Known) (h : Host) (W : Tree → List ℕ → Bool → Type 0) → ((t : Tree) → DoesWrite (W t)) → DoesWrite (Over K h W)
-  write-over K h W f = let s = some-host K h in by_answer s.answer s.allowed
+  write-over : (P : Program) (h : Host) (W : Tree → List ℕ → Bool → Type 0) → AreFree P → ((t : Tree) → DoesWrite (W t)) → DoesWrite (Over P h W)
+  write-over P h W free f = let s = some-host P h free in by_answer s.answer s.allowed
     where
-      by_answer : (a : Answer Tree) → HostValue K h a → DoesWrite (Over K h W)
+      by_answer : (a : Answer Tree) → HostValue P h a → DoesWrite (Over P h W)
       by_answer (evaluation.value t) v = let w = f t in record { text = w.text; met = w.met; written = over_value t v w.written }
       by_answer (fault p) v = record { text = fault_line p; met = false; written = over_fault p v refl refl }
 
   -- a query has an answer
-  has_answer : (K : Known) (q : Query) → IsFit K → NamesKnown K q → DoesWrite (IsAnswer K q)
-  has_answer K (matches name p h) f n = write-over K h (IsMatchesAnswer K name p) (write-matches K name p f n)
-  has_answer K (whether name p h) f n = write-over K h (IsWhetherAnswer K name p) (write-whether K name p f n)
-  has_answer K (splits name p h) f n = write-over K h (IsSplitsAnswer K name p) (write-splits K name p f n)
-  has_answer K (value h) f n = write-over K h IsValueAnswer write-value
-  has_answer K (reducts name h) f n = write-over K h (IsReductsAnswer K name) (write-by-reducts K name f n)
-  has_answer K (tagged name h) f n = write-over K h (IsTaggedAnswer K name) (write-by-steps K name f n)
+  has_answer : (P : Program) (q : Query) → AreFree P → NamesKnown P q → DoesWrite (IsAnswer P q)
+  has_answer P (matches name p h) f n = write-over P h (IsMatchesAnswer P name p) f (write-matches P name p f n)
+  has_answer P (whether name p h) f n = write-over P h (IsWhetherAnswer P name p) f (write-whether P name p f n)
+  has_answer P (splits name p h) f n = write-over P h (IsSplitsAnswer P name p) f (write-splits P name p f n)
+  has_answer P (value h) f n = write-over P h IsValueAnswer f write-value
+  has_answer P (reducts name h) f n = write-over P h (IsReductsAnswer P name) f (write-by-reducts P name f n)
+  has_answer P (tagged name h) f n = write-over P h (IsTaggedAnswer P name) f (write-by-steps P name f n)
 
   -- queries have answers
-  have_answers : (K : Known) (qs : List Query) → IsFit K → AllNamesKnown K qs → DoesWrite (AreAnswers K qs)
-  have_answers K [] f n = record { text = []; met = true; written = no_answers }
-  have_answers K (q ∷ qs) f n =
-      let a = has_answer K q f n.0 in
-      let more = have_answers K qs f n.1 in
+  have_answers : (P : Program) (qs : List Query) → AreFree P → AllNamesKnown P qs → DoesWrite (AreAnswers P qs)
+  have_answers P [] f n = record { text = []; met = true; written = no_answers }
+  have_answers P (q ∷ qs) f n =
+      let a = has_answer P q f n.0 in
+      let more = have_answers P qs f n.1 in
       record { text = a.text ++ more.text; met = a.met && more.met; written = more_answers a.text more.text a.met more.met a.written more.written }
 
   -- what is accepted writes some text
   writes : (ds : List Sexp) → AreAccepted ds → DoWrite ds
   writes ds a =
-      let c = can_answer nothing ds a.known a.queries fit-nothing a.accepted in
-      let h = have_answers a.known a.queries c.fit c.named in
-      record { text = h.text; met = h.met; written = record { known = a.known; queries = a.queries; accepted = a.accepted; answers = h.written } }
+      let c = can_answer (known_before ds) ds _ a.queries (fit-before ds) a.accepted in
+      let h = have_answers a.program a.queries c.fit.free c.named in
+      record { text = h.text; met = h.met; written = record { program = a.program; queries = a.queries; accepted = a.accepted; answers = h.written } }
 
   -- data write some text, or are refused
   pub some_text_or_refusal : (ds : List Sexp) → DoWrite ds ⊎ AreRefused ds

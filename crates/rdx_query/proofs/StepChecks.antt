@@ -3,98 +3,97 @@ use Rattle.std.proofs.Common.{◌≡◌, ℕ, Bool, true, false, List, [], ◌�
 use Rattle.std.specs.Prelude.{option_map, bytes_eq}
 use Rattle.std.specs.Cmp.Lexicographic.{bytes_decides}
 use Rattle.rdx_sexp.specs.Sexp.{Sexp}
-use Rattle.rdx_lang.specs.Programs.{Relation, relation_among, relation_named}
+use Rattle.rdx_lang.specs.Programs.{Program, Relation, relation_among, relation_named}
 use Rattle.rdx_lang.specs.TemplateView.{host_of}
 use Rattle.rdx_lang.specs.declared.template.HostExpr.{HostExpr}
 use Rattle.rdx_grammar.specs.Parts.{text_of}
 use Rattle.rdx_grammar.specs.Readable.{IsReadable}
-use Rattle.rdx_grammar.specs.Refusal.{Refusal, unnamed, or_else, first}
+use Rattle.rdx_grammar.specs.Refusal.{Refusal, or_else}
 use Rattle.rdx_grammar.specs.Unbuilt.{has_word_to_come}
 use Rattle.rdx_grammar.specs.declared.shape.fault.DefFault.{DefFault}
-use Rattle.rdx_grammar.specs.declared.shape.fault.DefKind.TheVariants.{Shape, UnknownName}
-use Rattle.rdx_defs.specs.TemplateChecks.{template_keywords}
-use Rattle.rdx_defs.specs.TemplateOccurrences.{template_parts}
-use Rattle.rdx_defs.specs.TemplateRefusal.{template_refusal}
-use Rattle.rdx_query.specs.HostForms.{template_in, host_at, host_parts, host_reading, bad_host_at, undriven_at}
+use Rattle.rdx_grammar.specs.declared.shape.fault.DefFault.TheVariants.{Refused, NoMemory}
+use Rattle.rdx_grammar.specs.declared.shape.fault.DefKind.TheVariants.{UnknownName}
+use Rattle.rdx_defs.specs.Answers.{ReadsHost}
+use Rattle.rdx_defs.specs.TemplateRefusal.{host_refusal}
+use Rattle.rdx_query.specs.HostForms.{parts_of_host, host_of_datum}
 use Rattle.rdx_query.specs.Known.{Known}
-use Rattle.rdx_query.specs.StepForms.{StepParts, step_parts, steps_shape_at, unknown_relation_by, unknown_relation_at, steps_refusal}
-use Rattle.rdx_query.specs.Inside.Asking.{ReadsHost, IsStepFit, IsStepping}
+use Rattle.rdx_query.specs.MatchForms.{undriven_host_at}
+use Rattle.rdx_query.specs.StepForms.{StepParts, step_parts, steps_shape_at, bad_host_at, host_escape_at, unknown_relation_by, unknown_relation_at, steps_refusal}
+use Rattle.rdx_query.specs.Inside.Asking.{IsStepFit, IsStepping}
 use Rattle.rdx_query.specs.Inside.Earlier.{earlier, IsFaultAt, IsRefusedBy}
 use Rattle.rdx_query.proofs.CheckNumbers.{or_none, HasNumber, Checks, AreChecks, refused, merge, merged, named-number}
-use Rattle.rdx_query.proofs.FormParts.{unbuilt_at-built, template-readable, template-built, step-items, parts-readable, parts-built}
-use Rattle.rdx_query.proofs.HostChecks.{template_checks, template-checks, template-refusal, host-refused}
+use Rattle.rdx_query.proofs.FormParts.{unbuilt_at-built, step-items, parts-readable, parts-built}
+use Rattle.rdx_query.proofs.HostChecks.{host_checks, host-checks, host-refusal, host-refused}
 
 -- the number of the check of the relation's name
 unknown-number : (o : Option Relation) (r : Sexp) → HasNumber 8 (unknown_relation_by o r)
 unknown-number None r q e = named-number UnknownName (Some r) q e
 unknown-number (Some R) r q e = absurd cc
 
-module _ (K : Known) (d r t : Sexp) (f : IsStepFit d r t) where
-  -- its parts
-  abbrev its_parts : StepParts
-  its_parts = record { relation = r; host = f.host }
-
+module _ (K : Known) (d : Sexp) (q : StepParts) (f : IsStepFit d q) where
   -- the check of its relation
   abbrev relation_check : Checks
-  relation_check = (8, unknown_relation_at K (Some its_parts)) ∷ []
+  relation_check = (8, unknown_relation_at K (Some q)) ∷ []
 
   -- it is refused by these
-  chain : steps_refusal K d (step_parts d) ≡ refused (merge relation_check (template_checks t))
+  chain : steps_refusal K d (step_parts d) ≡ refused (merge relation_check (host_checks K.scope q.host))
   chain =
+      let ps = parts_of_host K q.host in
+      let last =
+      or_else (bad_host_at ps) (or_else (unknown_relation_at K (Some q)) (or_else (undriven_host_at K ps) (or_else (host_escape_at ps) None)))
+      in
       ap (steps_refusal K d) f.parts
-      ∙ (λ i. or_else (unbuilt_at-built d f.built i) (or_else (host_at d (f.template i))
-      (or_else (steps_shape_at d (if f.symbol i then Some its_parts else None)) (or_else (bad_host_at (host_parts (f.template i)))
-      (or_else (unknown_relation_at K (Some its_parts)) (or_else (undriven_at (host_parts (f.template i))) None))))))
-      ∙ λ i. or_else (option_map (unnamed Shape) (first (template_keywords (host_parts (f.template i)))))
-      (or_else (bad_host_at (template_parts 0 t)) (or_else (unknown_relation_at K (Some its_parts)) (or_else (undriven_at (template_parts 0 t)) None)))
+      ∙ λ i. or_else (unbuilt_at-built d f.built i) (or_else (steps_shape_at d (if f.symbol i then Some q else None)) last)
 
-  -- no word to come stands in the template
-  host-built : has_word_to_come t ≡ false
+  -- no word to come stands in the host expression
+  host-built : has_word_to_come q.host ≡ false
   host-built =
-      let k = step-items d its_parts f.parts in
-      template-built f.host t f.template (parts-built d (k.head ∷ r ∷ f.host ∷ []) k.are f.built).1.1.0
+      let k = step-items d q f.parts in
+      (parts-built d (k.head ∷ q.relation ∷ q.host ∷ []) k.are f.built).1.1.0
 
-  -- the template can be read
-  pub host-readable : IsReadable d → IsReadable t
+  -- the host expression can be read
+  pub host-readable : IsReadable d → IsReadable q.host
   host-readable z =
-      let k = step-items d its_parts f.parts in
-      template-readable f.host t f.template (parts-readable d (k.head ∷ r ∷ f.host ∷ []) k.are z).1.1.0
+      let k = step-items d q f.parts in
+      (parts-readable d (k.head ∷ q.relation ∷ q.host ∷ []) k.are z).1.1.0
 
   -- the refusal of its parts that is reported
-  parts-refusal : steps_refusal K d (step_parts d) ≡ earlier (unknown_relation_at K (Some its_parts)) (template_refusal [] t)
+  parts-refusal : steps_refusal K d (step_parts d) ≡ earlier (unknown_relation_at K (Some q)) (host_refusal K.scope [] q.host)
   parts-refusal =
-      let rs : AreChecks 0 relation_check = (omega arith, (unknown-number (relation_named K (text_of r)) r, tt)) in
+      let rs : AreChecks 0 relation_check = (omega arith, (unknown-number (relation_named K.program (text_of q.relation)) q.relation, tt)) in
       chain
-      ∙ merged 0 relation_check (template_checks t) rs (template-checks t)
-      ∙ (λ i. earlier (or_none (unknown_relation_at K (Some its_parts)) i) (sym (template-refusal t host-built) i))
+      ∙ merged 0 relation_check (host_checks K.scope q.host) rs (host-checks K.scope q.host)
+      ∙ (λ i. earlier (or_none (unknown_relation_at K (Some q)) i) (sym (host-refusal K.scope q.host host-built) i))
 
   -- the relation is unknown
-  pub unknown-fault : (x : Result HostExpr DefFault) (e : DefFault) (q : Refusal) → relation_named K (text_of r) ≡ None → unknown_relation_by None r ≡ Some q → ReadsHost t x
-      → ((o : Option Refusal) → IsRefusedBy o x → IsFaultAt (earlier (Some q) o) e)
+  pub unknown-fault : (x : Result HostExpr DefFault) (e : DefFault) (r : Refusal) → relation_named K.program (text_of q.relation) ≡ None → unknown_relation_by None q.relation ≡ Some r → ReadsHost K.scope [] q.host x
+      → ((o : Option Refusal) → IsRefusedBy o x → IsFaultAt (earlier (Some r) o) e)
       → IsFaultAt (steps_refusal K d (step_parts d)) e
-  unknown-fault x e q n m a g =
-      let p : unknown_relation_at K (Some its_parts) ≡ Some q = ap (λ (o : Option Relation). unknown_relation_by o r) n ∙ m in
-      subst (λ (o : Option Refusal). IsFaultAt o e) (sym (parts-refusal ∙ ap (λ o. earlier o (template_refusal [] t)) p))
-      (g (template_refusal [] t) (host-refused t x a))
+  unknown-fault x e r n m a g =
+      let p : unknown_relation_at K (Some q) ≡ Some r = ap (λ (o : Option Relation). unknown_relation_by o q.relation) n ∙ m in
+      subst (λ (o : Option Refusal). IsFaultAt o e) (sym (parts-refusal ∙ ap (λ o. earlier o (host_refusal K.scope [] q.host)) p))
+      (g (host_refusal K.scope [] q.host) (host-refused K.scope q.host x a))
 
-  module _ (R : Relation) (k : relation_named K (text_of r) ≡ Some R) where
-    -- where the relation is known, the form is refused where its template is
-    known-refusal : steps_refusal K d (step_parts d) ≡ template_refusal [] t
-    known-refusal = parts-refusal ∙ λ i. earlier (unknown_relation_by (k i) r) (template_refusal [] t)
+  module _ (R : Relation) (k : relation_named K.program (text_of q.relation) ≡ Some R) where
+    -- where the relation is known, the form is refused where its host expression is
+    known-refusal : steps_refusal K d (step_parts d) ≡ host_refusal K.scope [] q.host
+    known-refusal = parts-refusal ∙ λ i. earlier (unknown_relation_by (k i) q.relation) (host_refusal K.scope [] q.host)
 
-    -- a fault of the template
-    pub host-fault : (e : DefFault) → ReadsHost t (Err e) → IsFaultAt (steps_refusal K d (step_parts d)) e
-    host-fault e a = subst (λ (o : Option Refusal). IsFaultAt o e) (sym known-refusal) a
+    -- a fault of the host expression
+    pub host-fault : (e : DefFault) → ReadsHost K.scope [] q.host (Err e) → IsFaultAt (steps_refusal K d (step_parts d)) e
+    host-fault e a = subst (λ (o : Option Refusal). IsFaultAt o e) (sym known-refusal) (fault_of e a)
+      where
+        fault_of : (x : DefFault) → ReadsHost K.scope [] q.host (Err x) → IsFaultAt (host_refusal K.scope [] q.host) x
+        fault_of (Refused r) b = b
+        fault_of NoMemory b = tt
 
-    -- the template is read
-    pub host-asked : (h : HostExpr) (name : List ℕ) → ReadsHost t (Ok h) → name ≡ text_of r → IsStepping K d name (host_of h)
-    host-asked h name a n =
-        let host_path : host_reading (Some t) ≡ host_of h = sym a.1 in
-        record {
-          passes = known-refusal ∙ a.0;
-          means = λ kind. ap (option_map (λ (q : StepParts). kind (text_of q.relation) (host_reading (template_in q.host)))) f.parts
-              ∙ λ i. Some (kind (sym n i) ((ap host_reading f.template ∙ host_path) i));
-        }
+    -- the host expression is read
+    pub host-asked : (h : HostExpr) (name : List ℕ) → ReadsHost K.scope [] q.host (Ok h) → name ≡ text_of q.relation → IsStepping K d name (host_of h)
+    host-asked h name a n = record {
+      passes = known-refusal ∙ a.0;
+      means = λ kind. ap (option_map (λ (r : StepParts). kind (text_of r.relation) (host_of_datum K r.host))) f.parts
+          ∙ λ i. Some (kind (sym n i) (sym a.1 i));
+    }
 
 -- ---- names
 
@@ -108,6 +107,6 @@ relation_among-name : (Rs : List Relation) (x : List ℕ) (M : Relation) → rel
 relation_among-name [] x M e = absurd cc
 relation_among-name (R ∷ Rs) x M e = named-by (bytes_eq R.name x) R M x (relation_among Rs x) refl (relation_among-name Rs x M) e
 
--- so it is with what is known
-pub relation_named-name : (K : Known) (x : List ℕ) (M : Relation) → relation_named K x ≡ Some M → M.name ≡ x
-relation_named-name K x M e = relation_among-name K.relations x M e
+-- so it is in a program
+pub relation_named-name : (P : Program) (x : List ℕ) (M : Relation) → relation_named P x ≡ Some M → M.name ≡ x
+relation_named-name P x M e = relation_among-name P.relations x M e

@@ -2,6 +2,7 @@
 use Rattle.std.proofs.Common.{◌≡◌, ℕ, Bool, false, List, refl, sym, subst}
 use Rattle.std.specs.Prelude.{Result, Ok, Err, IsErrAnd}
 use Rattle.rdx_term.specs.Tree.{Tree}
+use Rattle.rdx_lang.specs.Programs.{Program}
 use Rattle.rdx_eval.specs.Answers.{Answer, value, fault, Fault}
 use Rattle.rdx_eval.specs.Views.{Says}
 use Rattle.rdx_eval.specs.declared.fault.EvalFault.{EvalFault}
@@ -9,7 +10,6 @@ use Rattle.rdx_eval.specs.declared.fault.EvalFault.TheVariants.{Named, NoMemory}
 use Rattle.rdx_query.specs.AnswerText.{fault_line}
 use Rattle.rdx_query.specs.Answering.{IsAnswer, HostValue, Over, over_value}
 use Rattle.rdx_query.specs.Inside.Appending.{Tries, host_in, IsAnswerOver}
-use Rattle.rdx_query.specs.Known.{Known}
 use Rattle.rdx_query.specs.Queries.{Query, matches, whether, splits, value as itself, reducts, tagged}
 
 -- an error, where nothing was appended
@@ -33,16 +33,16 @@ tried_as V W before after (Err (Named f)) k a = (a.0, k _ _ a.1)
 tried_as V W before after (Err NoMemory) k a = tt
 
 -- the answer over what the host expression makes is the answer to the query
-pub answer_over : (K : Known) (q : Query) (text : List ℕ) (met : Bool) → Over K (host_in q) (IsAnswerOver K q) text met → IsAnswer K q text met
-answer_over K (matches name p h) text met a = a
-answer_over K (whether name p h) text met a = a
-answer_over K (splits name p h) text met a = a
-answer_over K (itself h) text met a = a
-answer_over K (reducts name h) text met a = a
-answer_over K (tagged name h) text met a = a
+pub answer_over : (P : Program) (q : Query) (text : List ℕ) (met : Bool) → Over P (host_in q) (IsAnswerOver P q) text met → IsAnswer P q text met
+answer_over P (matches name p h) text met a = a
+answer_over P (whether name p h) text met a = a
+answer_over P (splits name p h) text met a = a
+answer_over P (itself h) text met a = a
+answer_over P (reducts name h) text met a = a
+answer_over P (tagged name h) text met a = a
 
 -- the host expression makes a term
-pub tried_over : {A : Type 0} (K : Known) (q : Query) (t : Tree) (before after : List ℕ) (r : Result A EvalFault)
-    → HostValue K (host_in q) (value t) → Tries (IsAnswerOver K q t) before after r → Tries (IsAnswer K q) before after r
-tried_over K q t before after r h a =
-    tried_as (IsAnswer K q) (IsAnswerOver K q t) before after r (λ text met b. answer_over K q text met (over_value t h b)) a
+pub tried_over : {A : Type 0} (P : Program) (q : Query) (t : Tree) (before after : List ℕ) (r : Result A EvalFault)
+    → HostValue P (host_in q) (value t) → Tries (IsAnswerOver P q t) before after r → Tries (IsAnswer P q) before after r
+tried_over P q t before after r h a =
+    tried_as (IsAnswer P q) (IsAnswerOver P q t) before after r (λ text met b. answer_over P q text met (over_value t h b)) a

@@ -2,12 +2,14 @@
 use Rattle.std.specs.Prelude.{ℕ, Bool, ◌&&◌, nat_lt, List, [], ◌∷◌, ◌++◌, Option, Some, None, map, length, codes, decimal, if◌then◌else◌}
 use Rattle.rdx_term.specs.Context.{is_context}
 use Rattle.rdx_term.specs.Path.{path}
-use Rattle.rdx_term.specs.Text.{tree_text}
-use Rattle.rdx_term.specs.Tree.{Tree, tree_holes}
+use Rattle.rdx_term.specs.Text.{tree_text, spaced_text}
+use Rattle.rdx_term.specs.Tree as tree
+use Rattle.rdx_term.specs.Tree.{Tree, Trees, trees, tree_holes}
 use Rattle.rdx_lang.specs.Bindings.{Value, one, many, len, Values, none, more, Pair, Binding}
 use Rattle.rdx_lang.specs.Decompositions.{Decomposition}
-use Rattle.rdx_eval.specs.Answers.{Fault, not_context, too_deep, too_large, lengths_differ}
-use Rattle.rdx_defs.specs.RelationChecks.{label_text}
+use Rattle.rdx_eval.specs.Answers.{Fault, undefined, ambiguous, spent, not_context, too_deep, too_large, lengths_differ, outside, overflow, divide_by_zero}
+use Rattle.rdx_defs.specs.Operations.{operation_text}
+use Rattle.rdx_defs.specs.StandChecks.{label_text}
 
 -- ---- paths
 
@@ -115,12 +117,32 @@ steps_text ss = counted_text (codes "steps") (map step_text ss)
 
 -- ---- faults
 
--- what a fault is called, with its numbers
+-- `(f t ...)`: a call of what is written so, with these arguments
+abbrev pub call_text : List ℕ → Trees → List ℕ
+call_text f ts = codes "(" ++ f ++ spaced_text ts ++ codes ")"
+
+-- the items of a list; other terms have none
+abbrev pub items_of : Tree → Trees
+items_of tree.hole = tree.nil
+items_of (tree.integer n) = tree.nil
+items_of (tree.truth b) = tree.nil
+items_of (tree.text x) = tree.nil
+items_of (tree.symbol x) = tree.nil
+items_of (tree.list m ts) = ts
+
+-- what a fault is called, with its numbers and terms
 abbrev pub fault_name : Fault → List ℕ
+fault_name (undefined f a) = codes "Undefined " ++ call_text f (items_of a)
+fault_name (ambiguous f a t u) =
+    codes "Ambiguous " ++ call_text f (items_of a) ++ codes " gives " ++ tree_text t ++ codes " and " ++ tree_text u
+fault_name (spent f) = codes "Spent " ++ f
 fault_name (not_context h) = codes "NotContext " ++ decimal h
 fault_name too_deep = codes "TooDeep"
 fault_name too_large = codes "TooLarge"
 fault_name (lengths_differ m n) = codes "Lengths " ++ decimal m ++ codes " and " ++ decimal n
+fault_name (outside op ts) = codes "HostDomain " ++ call_text (operation_text op) (trees ts)
+fault_name (overflow op ts) = codes "Overflow " ++ call_text (operation_text op) (trees ts)
+fault_name (divide_by_zero op ts) = codes "DivideByZero " ++ call_text (operation_text op) (trees ts)
 
 -- the line of a fault
 abbrev pub fault_line : Fault → List ℕ

@@ -1,14 +1,16 @@
 -- What a form can define.
 use Rattle.rdx_lang.specs.Edges.{IsFree}
 use Rattle.rdx_lang.specs.Patterns.{Language}
-use Rattle.rdx_lang.specs.Programs.{Relation}
+use Rattle.rdx_lang.specs.Programs.{Metafunction, Relation}
 
--- a language, or a relation
+-- a language, a metafunction, or a relation
 pub data Defined : Type 0 where
   language : Language → Defined
+  metafunction : Metafunction → Defined
   relation : Relation → Defined
 
 -- what is asked of it beside the checks: a language is free of left recursion
 abbrev pub IsSound : Defined → Type 0
 IsSound (language L) = IsFree L
+IsSound (metafunction F) = Unit {0}
 IsSound (relation R) = Unit {0}

@@ -6,11 +6,10 @@ use Rattle.rdx_term.specs.Tree as tree
 use Rattle.rdx_term.specs.Tree.{Tree}
 use Rattle.rdx_lang.specs.Bindings.{Value, one, many, len, values}
 use Rattle.rdx_grammar.specs.Refusal.{unnamed, named, named_at}
-use Rattle.rdx_grammar.specs.declared.shape.fault.DefKind.TheVariants.{Unbuilt, Shape, UnknownLanguage, Duplicate, LeftRecursive}
+use Rattle.rdx_grammar.specs.declared.shape.fault.DefKind.TheVariants.{Unbuilt, Shape, RacketEscape, UnknownLanguage, Duplicate, LeftRecursive}
 use Rattle.rdx_query.specs.AnswerText.{value_text, pair_text}
 use Rattle.rdx_query.specs.Answering.{Writes}
-use Rattle.rdx_query.specs.File.{Refuses}
-use Rattle.rdx_query.specs.Known.{nothing}
+use Rattle.rdx_query.specs.File.{IsFileRefusal}
 
 -- ---- data with this span
 
@@ -160,31 +159,59 @@ LengthInDecimal = pair_text (codes "..._a", len 2) ≡ codes "..._a = 2"
 -- `(define-language L (e 1)) (redex-match M 1 (term 1)) 7` it is M that is not known, and not that 7 is no form so far.
 abbrev pub FirstRefusedForm : Type 0
 FirstRefusedForm = (s m : Span) →
-    Refuses nothing (defines_L s ∷ asks s (word m (codes "M")) (number s 1) (number s 1) ∷ number s 7 ∷ []) (named UnknownLanguage (word m (codes "M")))
+    IsFileRefusal (defines_L s ∷ asks s (word m (codes "M")) (number s 1) (number s 1) ∷ number s 7 ∷ []) (named UnknownLanguage (word m (codes "M")))
 
 -- An extension sees the languages before it, and no later one: `(define-extended-language M L (e ....)) (define-language L (e 1))` is
 -- refused at L, which is not known there.
 abbrev pub EarlierLanguagesOnly : Type 0
-EarlierLanguagesOnly = (s l : Span) → Refuses nothing (extends s (word l (codes "L")) ∷ defines_L s ∷ []) (named UnknownLanguage (word l (codes "L")))
+EarlierLanguagesOnly = (s l : Span) → IsFileRefusal (extends s (word l (codes "L")) ∷ defines_L s ∷ []) (named UnknownLanguage (word l (codes "L")))
 
 -- A file that is refused at its second form: `(define-language L (e 1)) (define-language L (e 1))` takes the name L again.
 abbrev pub TakenName : Type 0
-TakenName = (s l : Span) → Refuses nothing (defines_L s ∷ defines s (word l (codes "L")) (number s 1) ∷ []) (named Duplicate (word l (codes "L")))
+TakenName = (s l : Span) → IsFileRefusal (defines_L s ∷ defines s (word l (codes "L")) (number s 1) ∷ []) (named Duplicate (word l (codes "L")))
 
--- The fourth item of a query is `(term t)`, others are not built yet: `(redex-match L 1 1)`.
+-- The fourth item of a query is a host expression: `(define-language L (e 1)) (redex-match L 1 x)` is refused at the x.
 abbrev pub HostExpression : Type 0
-HostExpression = (s : Span) →
-    let query : Sexp = form s (word s (codes "redex-match") ∷ word s (codes "L") ∷ number s 1 ∷ number s 1 ∷ []) in
-    Refuses nothing (query ∷ []) (unnamed Unbuilt query)
+HostExpression = (s h : Span) →
+    IsFileRefusal (defines_L s ∷ form s (word s (codes "redex-match") ∷ word s (codes "L") ∷ number s 1 ∷ word h (codes "x") ∷ []) ∷ [])
+    (unnamed RacketEscape (word h (codes "x")))
+
+-- A form that is none of ours has to be a host expression: `(list 1)` is refused as a whole, and `(+ 1 2)` writes `value 3`.
+abbrev pub OtherForm : Type 0
+OtherForm = (s : Span) →
+    let other : Sexp = form s (word s (codes "list") ∷ number s 1 ∷ []) in
+    IsFileRefusal (other ∷ []) (unnamed RacketEscape other)
+
+abbrev pub Sum : Type 0
+Sum = (s : Span) → Writes (form s (word s (codes "+") ∷ number s 1 ∷ number s 2 ∷ []) ∷ []) (codes "value 3\n") true
+
+-- What is wanted of Redex is passed over, and other modules are refused: `(require redex)` writes nothing, `(require redex math)` is refused at math.
+abbrev pub Wanted : Type 0
+Wanted = (s : Span) → Writes (form s (word s (codes "require") ∷ word s (codes "redex") ∷ []) ∷ []) [] true
+
+abbrev pub OtherModule : Type 0
+OtherModule = (s m : Span) →
+    IsFileRefusal (form s (word s (codes "require") ∷ word s (codes "redex") ∷ word m (codes "math") ∷ []) ∷ [])
+    (unnamed RacketEscape (word m (codes "math")))
+
+-- A metafunction is known before its form: of `(term (f 1)) (define-language L (e 1)) (define-metafunction L [(f 1) 2])` the text is `value 2`.
+abbrev pub KnownBefore : Type 0
+KnownBefore = (s : Span) →
+    Writes
+    (asks_term s (form s (word s (codes "f") ∷ number s 1 ∷ []))
+    ∷ defines_L s
+    ∷ form s (word s (codes "define-metafunction") ∷ word s (codes "L")
+    ∷ form s (form s (word s (codes "f") ∷ number s 1 ∷ []) ∷ number s 2 ∷ []) ∷ []) ∷ [])
+    (codes "value 2\n") true
 
 -- A query has four items: `(redex-match L 1)`.
 abbrev pub FewItems : Type 0
 FewItems = (s : Span) →
     let query : Sexp = form s (word s (codes "redex-match") ∷ word s (codes "L") ∷ number s 1 ∷ []) in
-    Refuses nothing (query ∷ []) (unnamed Shape query)
+    IsFileRefusal (query ∷ []) (unnamed Shape query)
 
 -- A language may not be left-recursive: `(define-language L (e e))`.
 abbrev pub LeftRecursion : Type 0
 LeftRecursion = (s : Span) →
     let language : Sexp = defines s (word s (codes "L")) (word s (codes "e")) in
-    Refuses nothing (language ∷ []) (named_at LeftRecursive language (codes "e"))
+    IsFileRefusal (language ∷ []) (named_at LeftRecursive language (codes "e"))

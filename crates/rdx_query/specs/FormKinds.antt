@@ -1,16 +1,17 @@
--- What a form does, by its head: it defines something, or it asks something.
+-- What a form does, by its head: it defines something, it asks something, or it is passed over. A form of another kind has to be a host expression.
 use Rattle.std.specs.Prelude.{ℕ, List, [], ◌∷◌, Option, Some, None, bytes_eq, codes, if◌then◌else◌}
 use Rattle.rdx_sexp.specs.Sexp.{symbol, Sexp, leaf}
 use Rattle.rdx_grammar.specs.Parts.{parts}
 
--- what a form defines: a language by itself, one that extends another, or a relation
+-- what a form defines: a language by itself, one that extends another, a metafunction, or a relation
 pub data DefinitionKind : Type 0 where
   language : DefinitionKind
   extension : DefinitionKind
+  metafunction : DefinitionKind
   relation : DefinitionKind
 
--- what a form asks: the bindings by which a pattern matches a term, whether there are some, or what the pattern splits the term into; a term
--- itself; the terms to which a relation leads from it, or the steps with the names of their rules
+-- what a form asks: the bindings by which a pattern matches a term, whether there are some, or what the pattern splits the term into; what a
+-- host expression makes; the terms to which a relation leads from a term, or the steps with the names of their rules
 pub data QueryKind : Type 0 where
   matches : QueryKind
   whether : QueryKind
@@ -19,41 +20,65 @@ pub data QueryKind : Type 0 where
   reducts : QueryKind
   tagged : QueryKind
 
+-- what is passed over: the modules that a file wants, and what it offers
+pub data PassedKind : Type 0 where
+  wants : PassedKind
+  offers : PassedKind
+
 -- what a form does
 pub data FormKind : Type 0 where
   defines : DefinitionKind → FormKind
   asks : QueryKind → FormKind
+  passes : PassedKind → FormKind
+  -- what is not built yet
+  to_come : FormKind
 
 -- the heads of forms
 abbrev pub heads : List (List ℕ × FormKind)
 heads =
     (codes "define-language", defines language)
     ∷ (codes "define-extended-language", defines extension)
+    ∷ (codes "define-metafunction", defines metafunction)
+    ∷ (codes "define", defines relation)
     ∷ (codes "redex-match", asks matches)
     ∷ (codes "redex-match?", asks whether)
     ∷ (codes "redex-decompose", asks splits)
-    ∷ (codes "define", defines relation)
-    ∷ (codes "term", asks value)
     ∷ (codes "apply-reduction-relation", asks reducts)
     ∷ (codes "apply-reduction-relation/tag-with-names", asks tagged)
+    ∷ (codes "require", passes wants)
+    ∷ (codes "provide", passes offers)
+    ∷ (codes "define-judgment-form", to_come)
+    ∷ (codes "judgment-holds", to_come)
+    ∷ (codes "stepper", to_come)
+    ∷ (codes "test-equal", to_come)
+    ∷ (codes "test-->", to_come)
+    ∷ (codes "test-->>", to_come)
+    ∷ (codes "test-match", to_come)
+    ∷ (codes "test-no-match", to_come)
+    ∷ (codes "test-judgment-holds", to_come)
+    ∷ (codes "test-results", to_come)
+    ∷ (codes "generate-term", to_come)
+    ∷ (codes "redex-check", to_come)
+    ∷ (codes "alpha-equivalent?", to_come)
+    ∷ (codes "substitute", to_come)
     ∷ []
 
--- what a form with a head of this text does, by such a table
-abbrev pub kind_in : List (List ℕ × FormKind) → List ℕ → Option FormKind
-kind_in [] x = None
-kind_in (row ∷ rows) x = if bytes_eq x row.0 then Some row.1 else kind_in rows x
+-- what a form with a head of this text does, by such a table; a head that does not stand in it is that of a host expression
+abbrev pub kind_in : List (List ℕ × FormKind) → List ℕ → FormKind
+kind_in [] x = asks value
+kind_in (row ∷ rows) x = if bytes_eq x row.0 then row.1 else kind_in rows x
 
--- what a form with this head does; nothing, where that is no symbol of the table
-abbrev pub kind_by_head : Sexp → Option FormKind
+-- what a form with this head does
+abbrev pub kind_by_head : Sexp → FormKind
 kind_by_head (leaf (symbol x) s) = kind_in heads x
-kind_by_head h = None
+kind_by_head h = asks value
 
 -- what a list of these parts does
-abbrev pub kind_among : Option (List Sexp) → Option FormKind
-kind_among None = None
-kind_among (Some []) = None
+abbrev pub kind_among : Option (List Sexp) → FormKind
+kind_among None = asks value
+kind_among (Some []) = asks value
 kind_among (Some (h ∷ ds)) = kind_by_head h
 
 -- what a form does
-abbrev pub form_kind : Sexp → Option FormKind
+abbrev pub form_kind : Sexp → FormKind
 form_kind d = kind_among (parts d)

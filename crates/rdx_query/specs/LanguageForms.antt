@@ -8,7 +8,7 @@ use Rattle.rdx_grammar.specs.Stands.{form_stands}
 use Rattle.rdx_grammar.specs.Parts.{parts, text_of}
 use Rattle.rdx_grammar.specs.Refusal.{Refusal, named, first_refusal}
 use Rattle.rdx_grammar.specs.Unbuilt.{unbuilt_at}
-use Rattle.rdx_grammar.specs.Refused.{shape_at, duplicate_at, bad_name_at, bad_pattern_at, depth_clash_at, names_over}
+use Rattle.rdx_grammar.specs.Refused.{shape_at, duplicate_at, bad_name_at, bad_pattern_at, depth_clash_at, escape_at, names_over}
 use Rattle.rdx_grammar.specs.declared.shape.fault.DefKind.TheVariants.{UnknownLanguage, Duplicate}
 use Rattle.rdx_lang.specs.Programs.{language_named}
 use Rattle.rdx_query.specs.Known.{Known, is_taken, or_empty}
@@ -27,7 +27,7 @@ base_name d = base_among (parts d)
 -- the language of this name; one without nonterminals where no form defines it, or where no name stands
 abbrev pub named_base : Known → Option Sexp → Language
 named_base K None = empty_language
-named_base K (Some l) = or_empty (language_named K (text_of l))
+named_base K (Some l) = or_empty (language_named K.program (text_of l))
 
 -- ---- check by check
 
@@ -39,7 +39,7 @@ unknown_by (Some L) l = None
 -- S2: the name, where one stands, is that of no language
 abbrev pub unknown_at : Known → Option Sexp → Option Refusal
 unknown_at K None = None
-unknown_at K (Some l) = unknown_by (language_named K (text_of l)) l
+unknown_at K (Some l) = unknown_by (language_named K.program (text_of l)) l
 
 -- S3: the name that a form defines is that of an earlier one
 abbrev pub name_taken_at : Known → Sexp → Option Refusal
@@ -50,7 +50,7 @@ abbrev pub taken_at : Known → Option GrammarForm → Option Refusal
 taken_at K None = None
 taken_at K (Some g) = name_taken_at K g.name
 
--- ---- all checks but that of left recursion
+-- ---- all checks but that of left recursion, and the one behind it
 
 -- the refusal of a form with these parts that defines a language over a base; l0 is the name of the base, where the form extends one
 abbrev pub language_refusal : Known → Language → Option Sexp → Sexp → Option GrammarForm → Option Refusal
@@ -65,6 +65,10 @@ language_refusal K base l0 d g =
     ∷ bad_pattern_at base (names_over base g) (form_stands d g)  -- S5
     ∷ depth_clash_at (names_over base g) (form_stands d g)  -- S6
     ∷ [])
+
+-- S10, which comes behind S7: a list in a pattern would ask Racket
+abbrev pub language_escape : Sexp → Option GrammarForm → Option Refusal
+language_escape d g = escape_at (form_stands d g)
 
 -- ---- languages by themselves
 

@@ -7,6 +7,8 @@ pub mod HostForms
 pub mod MatchForms
 pub mod StepForms
 pub mod RelationForms
+pub mod MetafunctionForms
+pub mod PassedForms
 pub mod Forms
 pub mod File
 pub mod AnswerText

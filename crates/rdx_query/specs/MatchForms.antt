@@ -5,17 +5,19 @@ use Rattle.rdx_lang.specs.Patterns.{Pattern}
 use Rattle.rdx_lang.specs.Templates.{Host}
 use Rattle.rdx_grammar.specs.Nonterminals.{names_of}
 use Rattle.rdx_grammar.specs.Parts.{parts, is_symbol, text_of}
+use Rattle.rdx_grammar.specs.PatternChecks as patterns
 use Rattle.rdx_grammar.specs.PatternChecks.{keyword_faults, bad_occurrences}
 use Rattle.rdx_grammar.specs.PatternRefusal.{bad_binder_at, depth_clash_at}
 use Rattle.rdx_grammar.specs.Reading.{reading}
 use Rattle.rdx_grammar.specs.Refusal.{Refusal, unnamed, first, first_refusal}
 use Rattle.rdx_grammar.specs.Unbuilt.{unbuilt_at}
 use Rattle.rdx_grammar.specs.Occurrences.{Occurrence, occurrences}
-use Rattle.rdx_grammar.specs.declared.shape.fault.DefKind.TheVariants.{Shape, BadPattern}
+use Rattle.rdx_grammar.specs.declared.shape.fault.DefKind.TheVariants.{Shape, BadPattern, EllipsisVariable, RacketEscape}
 use Rattle.rdx_grammar.specs.declared.patterns.position.Position.TheVariants as position
-use Rattle.rdx_defs.specs.TemplateChecks.{template_keywords, bad_parts}
+use Rattle.rdx_defs.specs.TemplateChecks.{bad_parts, undriven_parts, escapes}
 use Rattle.rdx_defs.specs.TemplateOccurrences.{TemplatePart}
-use Rattle.rdx_query.specs.HostForms.{template_in, host_parts, host_reading, host_at, undriven_at}
+use Rattle.rdx_defs.specs.TemplateShapes.{host_shapes}
+use Rattle.rdx_query.specs.HostForms.{parts_of_host, host_of_datum}
 use Rattle.rdx_query.specs.Known.{Known}
 use Rattle.rdx_query.specs.LanguageForms.{named_base, unknown_at}
 use Rattle.rdx_query.specs.Queries.{Query}
@@ -44,16 +46,11 @@ abbrev pub checked_parts : Option QueryParts → Option QueryParts
 checked_parts None = None
 checked_parts (Some q) = if is_symbol q.language then Some q else None
 
--- S0: the fourth item, where the query has four, is no host expression that is built
-abbrev pub query_host_at : Sexp → Option QueryParts → Option Refusal
-query_host_at d None = None
-query_host_at d (Some q) = host_at d (template_in q.host)
-
--- S1: the query has not its parts, or a keyword stands in its pattern, or in its template
+-- S1: the query has not its parts, or a keyword stands in its pattern, or something in its host expression has not its shape
 abbrev pub query_shape_at : Sexp → Option QueryParts → Option Refusal
 query_shape_at d None = Some (unnamed Shape d)
 query_shape_at d (Some q) =
-    option_map (unnamed Shape) (first (keyword_faults (occurrences 0 q.pattern) ++ template_keywords (host_parts (template_in q.host))))
+    option_map (unnamed Shape) (first (keyword_faults (occurrences 0 q.pattern) ++ host_shapes q.host))
 
 -- the name of its language
 abbrev pub query_language : Option QueryParts → Option Sexp
@@ -65,14 +62,22 @@ abbrev pub pattern_occurrences : Option QueryParts → List Occurrence
 pattern_occurrences None = []
 pattern_occurrences (Some q) = occurrences 0 q.pattern
 
--- and in its template
-abbrev pub query_template : Option QueryParts → List TemplatePart
-query_template None = []
-query_template (Some q) = host_parts (template_in q.host)
+-- and in its host expression
+abbrev pub query_host : Known → Option QueryParts → List TemplatePart
+query_host K None = []
+query_host K (Some q) = parts_of_host K q.host
 
--- S5: its pattern means nothing, over these nonterminals, or its template does
+-- S5: its pattern means nothing, over these nonterminals, or a template does
 abbrev pub bad_query_at : List (List ℕ) → List Occurrence → List TemplatePart → Option Refusal
 bad_query_at ns os ps = option_map (unnamed BadPattern) (first (bad_occurrences ns os ++ bad_parts ps))
+
+-- S9: an ellipsis in its host expression drives no name, since none is bound
+abbrev pub undriven_host_at : Known → List TemplatePart → Option Refusal
+undriven_host_at K ps = option_map (unnamed EllipsisVariable) (first (undriven_parts K.scope [] ps))
+
+-- S10: its pattern would ask Racket, or its host expression
+abbrev pub query_escape_at : List Occurrence → List TemplatePart → Option Refusal
+query_escape_at os ps = option_map (unnamed RacketEscape) (first (patterns.escapes os ++ escapes ps))
 
 -- ---- all checks
 
@@ -81,13 +86,13 @@ abbrev pub query_refusal : Known → Sexp → Option QueryParts → Option Refus
 query_refusal K d q =
     first_refusal
     (unbuilt_at d  -- S0
-    ∷ query_host_at d q  -- S0
     ∷ query_shape_at d (checked_parts q)  -- S1
     ∷ unknown_at K (query_language q)  -- S2
     ∷ bad_binder_at (pattern_occurrences q)  -- S4
-    ∷ bad_query_at (names_of (named_base K (query_language q))) (pattern_occurrences q) (query_template q)  -- S5
+    ∷ bad_query_at (names_of (named_base K (query_language q))) (pattern_occurrences q) (query_host K q)  -- S5
     ∷ depth_clash_at (names_of (named_base K (query_language q))) (pattern_occurrences q)  -- S6
-    ∷ undriven_at (query_template q)  -- S9
+    ∷ undriven_host_at K (query_host K q)  -- S9
+    ∷ query_escape_at (pattern_occurrences q) (query_host K q)  -- S10
     ∷ [])
 
 -- ---- what is asked
@@ -95,7 +100,7 @@ query_refusal K d q =
 -- a query of such a kind with these parts; its pattern is read over the nonterminals of its language
 abbrev pub query_over : Known → (List ℕ → Pattern → Host → Query) → QueryParts → Query
 query_over K kind q =
-    kind (text_of q.language) (reading (names_of (named_base K (Some q.language))) position.Query q.pattern) (host_reading (template_in q.host))
+    kind (text_of q.language) (reading (names_of (named_base K (Some q.language))) position.Query q.pattern) (host_of_datum K q.host)
 
 -- the query that the form d asks, if it has the parts
 abbrev pub match_query : Known → (List ℕ → Pattern → Host → Query) → Sexp → Option Query

@@ -1,9 +1,8 @@
 -- What a form can ask.
 use Rattle.std.specs.Prelude.{◌≡◌, ℕ, List, Some, IsSome}
 use Rattle.rdx_lang.specs.Patterns.{Pattern}
-use Rattle.rdx_lang.specs.Programs.{Relation, language_named, relation_named}
+use Rattle.rdx_lang.specs.Programs.{Program, Relation, language_named, relation_named}
 use Rattle.rdx_lang.specs.Templates.{Host}
-use Rattle.rdx_query.specs.Known.{Known}
 
 -- a query, over what a host expression makes: in the language of a name, the bindings by which a pattern matches it, whether there are some, or
 -- what the pattern splits it into; itself; or, by the relation of a name, the terms that it leads to, or the steps with the names of their rules
@@ -16,16 +15,16 @@ pub data Query : Type 0 where
   tagged : List ℕ → Host → Query
 
 -- a relation of this name is known, and its language is
-pub record KnowsRelation (K : Known) (x : List ℕ) : Type 0 where
+pub record KnowsRelation (P : Program) (x : List ℕ) : Type 0 where
   pub relation : Relation
-  pub named : relation_named K x ≡ Some relation
-  pub language : IsSome (language_named K relation.language)
+  pub named : relation_named P x ≡ Some relation
+  pub language : IsSome (language_named P relation.language)
 
 -- what the query names is known
-abbrev pub NamesKnown : Known → Query → Type 0
-NamesKnown K (matches name p h) = IsSome (language_named K name)
-NamesKnown K (whether name p h) = IsSome (language_named K name)
-NamesKnown K (splits name p h) = IsSome (language_named K name)
-NamesKnown K (value h) = Unit {0}
-NamesKnown K (reducts name h) = KnowsRelation K name
-NamesKnown K (tagged name h) = KnowsRelation K name
+abbrev pub NamesKnown : Program → Query → Type 0
+NamesKnown P (matches name p h) = IsSome (language_named P name)
+NamesKnown P (whether name p h) = IsSome (language_named P name)
+NamesKnown P (splits name p h) = IsSome (language_named P name)
+NamesKnown P (value h) = Unit {0}
+NamesKnown P (reducts name h) = KnowsRelation P name
+NamesKnown P (tagged name h) = KnowsRelation P name

@@ -6,14 +6,14 @@ use Rattle.rdx_lang.specs.Programs.{Relation}
 use Rattle.rdx_grammar.specs.Names.{is_bad_name}
 use Rattle.rdx_grammar.specs.Nonterminals.{names_of}
 use Rattle.rdx_grammar.specs.Parts.{parts, is_symbol, is_word, text_of}
-use Rattle.rdx_grammar.specs.Refusal.{Refusal, unnamed, named, first, first_refusal}
+use Rattle.rdx_grammar.specs.Refusal.{Refusal, unnamed, named, first_refusal}
 use Rattle.rdx_grammar.specs.Unbuilt.{unbuilt_at}
-use Rattle.rdx_grammar.specs.declared.shape.fault.DefKind.TheVariants.{Shape, BadName, BadPattern, EllipsisDepth, UnknownName, EllipsisVariable, RacketEscape}
-use Rattle.rdx_defs.specs.RelationChecks.{shape_faults, repeated_names, bad_names, bad_places, depth_faults, bad_arrows, undriven_places}
+use Rattle.rdx_grammar.specs.declared.shape.fault.DefKind.TheVariants.{Shape, BadName, RacketEscape}
 use Rattle.rdx_defs.specs.RelationForms.{relation_form}
 use Rattle.rdx_defs.specs.RelationReading.{relation_reading}
-use Rattle.rdx_defs.specs.RelationRefusal.{repeated_at}
-use Rattle.rdx_defs.specs.RelationStands.{Stand, relation_stands}
+use Rattle.rdx_defs.specs.RelationStands.{relation_stands}
+use Rattle.rdx_defs.specs.StandChecks.{shape_at, repeated_name_at, bad_name_at, bad_place_at, depth_fault_at, bad_arrow_at, undriven_at, escape_at}
+use Rattle.rdx_defs.specs.Stands.{Stand}
 use Rattle.rdx_query.specs.Known.{Known}
 use Rattle.rdx_query.specs.LanguageForms.{named_base, unknown_at, name_taken_at}
 
@@ -52,12 +52,12 @@ relation_language q = option_map (λ r. r.language) (relation_form q.body)
 
 -- S1: more than the name and the list stands in the form d, or a part of the list has not its shape
 abbrev pub define_shape_at : Sexp → List Sexp → List Stand → Option Refusal
-define_shape_at d [] ss = option_map (unnamed Shape) (first (shape_faults ss))
+define_shape_at d [] ss = shape_at ss
 define_shape_at d (e ∷ es) ss = Some (unnamed Shape d)
 
--- S4: it may not be that of a relation
-abbrev pub bad_name_at : Sexp → Option Refusal
-bad_name_at x = if is_bad_name (text_of x) then Some (named BadName x) else None
+-- S4: the name may not be that of a relation
+abbrev pub bad_relation_at : Sexp → Option Refusal
+bad_relation_at x = if is_bad_name (text_of x) then Some (named BadName x) else None
 
 -- ---- all checks
 
@@ -69,13 +69,14 @@ define_refusal_over K d q ns ss =
     ∷ define_shape_at d q.rest ss  -- S1
     ∷ unknown_at K (relation_language q)  -- S2
     ∷ name_taken_at K q.name  -- S3
-    ∷ option_map repeated_at (first (repeated_names [] ss))  -- S3
-    ∷ bad_name_at q.name  -- S4
-    ∷ option_map (named BadName) (first (bad_names ss))  -- S4
-    ∷ option_map (unnamed BadPattern) (first (bad_places ns ss))  -- S5
-    ∷ option_map (named EllipsisDepth) (first (depth_faults ns ss))  -- S6
-    ∷ option_map (named UnknownName) (first (bad_arrows ss))  -- S8
-    ∷ option_map (unnamed EllipsisVariable) (first (undriven_places ss))  -- S9
+    ∷ repeated_name_at ss  -- S3
+    ∷ bad_relation_at q.name  -- S4
+    ∷ bad_name_at ss  -- S4
+    ∷ bad_place_at K.scope ns ss  -- S5
+    ∷ depth_fault_at K.scope ns ss  -- S6
+    ∷ bad_arrow_at ss  -- S8
+    ∷ undriven_at K.scope ss  -- S9
+    ∷ escape_at K.scope ss  -- S10
     ∷ [])
 
 -- the nonterminals of the language that it names
@@ -98,7 +99,7 @@ define_refusal K d = define_refusal_by K d (define_parts d)
 
 -- the relation that a form with these parts defines, if the list has its parts
 abbrev pub relation_by : Known → DefineParts → Option Relation
-relation_by K q = option_map (relation_reading (relation_names K q) (text_of q.name)) (relation_form q.body)
+relation_by K q = option_map (relation_reading K.scope (relation_names K q) (text_of q.name)) (relation_form q.body)
 
 -- the relation of parts, where there are some
 abbrev pub relation_among : Known → Option DefineParts → Option Relation

@@ -4,12 +4,11 @@ use Rattle.rdx_term.specs.Order.{tree_cmp}
 use Rattle.rdx_term.specs.Tree.{Tree}
 use Rattle.rdx_lang.specs.Listing.{IsListing}
 use Rattle.rdx_lang.specs.Members.{In}
-use Rattle.rdx_lang.specs.Programs.{Relation, Rule, relation_named}
+use Rattle.rdx_lang.specs.Programs.{Program, Relation, Rule, relation_named}
 use Rattle.rdx_eval.specs.Answers.{Answer, Fault, value, fault}
 use Rattle.rdx_reduce.specs.Relations.{AreSteps}
 use Rattle.rdx_reduce.specs.Steps.{Step}
 use Rattle.rdx_query.specs.AnswerText.{reducts_text, steps_text, fault_line}
-use Rattle.rdx_query.specs.Known.{Known}
 
 -- the terms to which these steps lead, step by step
 abbrev pub reducts_in : List Step → List Tree
@@ -41,17 +40,17 @@ pub data WritesSteps (rs : List Rule) : Answer (List Step) → List ℕ → Bool
   no_steps : {f : Fault} {text : List ℕ} {met : Bool} → text ≡ fault_line f → IsFalse met → WritesSteps rs (fault f) text met
 
 -- `apply-reduction-relation`, by the relation of this name
-pub record IsReductsAnswer (K : Known) (name : List ℕ) (t : Tree) (text : List ℕ) (met : Bool) : Type 0 where
+pub record IsReductsAnswer (P : Program) (name : List ℕ) (t : Tree) (text : List ℕ) (met : Bool) : Type 0 where
   pub relation : Relation
-  pub known : relation_named K name ≡ Some relation
+  pub known : relation_named P name ≡ Some relation
   pub answer : Answer (List Step)
-  pub steps : AreSteps K relation t answer
+  pub steps : AreSteps P relation t answer
   pub written : WritesReducts answer text met
 
 -- `apply-reduction-relation/tag-with-names`, by the relation of this name
-pub record IsTaggedAnswer (K : Known) (name : List ℕ) (t : Tree) (text : List ℕ) (met : Bool) : Type 0 where
+pub record IsTaggedAnswer (P : Program) (name : List ℕ) (t : Tree) (text : List ℕ) (met : Bool) : Type 0 where
   pub relation : Relation
-  pub known : relation_named K name ≡ Some relation
+  pub known : relation_named P name ≡ Some relation
   pub answer : Answer (List Step)
-  pub steps : AreSteps K relation t answer
+  pub steps : AreSteps P relation t answer
   pub written : WritesSteps relation.rules answer text met

@@ -6,11 +6,13 @@ use Rattle.rdx_lang.specs.Templates.{Host}
 use Rattle.rdx_grammar.specs.Parts.{parts, is_symbol, text_of}
 use Rattle.rdx_grammar.specs.Refusal.{Refusal, unnamed, named, first, first_refusal}
 use Rattle.rdx_grammar.specs.Unbuilt.{unbuilt_at}
-use Rattle.rdx_grammar.specs.declared.shape.fault.DefKind.TheVariants.{Shape, UnknownName}
-use Rattle.rdx_defs.specs.TemplateChecks.{template_keywords}
+use Rattle.rdx_grammar.specs.declared.shape.fault.DefKind.TheVariants.{Shape, BadPattern, UnknownName, RacketEscape}
+use Rattle.rdx_defs.specs.TemplateChecks.{bad_parts, escapes}
 use Rattle.rdx_defs.specs.TemplateOccurrences.{TemplatePart}
-use Rattle.rdx_query.specs.HostForms.{template_in, host_parts, host_reading, host_at, bad_host_at, undriven_at}
+use Rattle.rdx_defs.specs.TemplateShapes.{host_shapes}
+use Rattle.rdx_query.specs.HostForms.{parts_of_host, host_of_datum}
 use Rattle.rdx_query.specs.Known.{Known}
+use Rattle.rdx_query.specs.MatchForms.{undriven_host_at}
 use Rattle.rdx_query.specs.Queries.{Query}
 
 -- ---- the parts
@@ -36,20 +38,23 @@ abbrev pub checked_steps : Option StepParts → Option StepParts
 checked_steps None = None
 checked_steps (Some q) = if is_symbol q.relation then Some q else None
 
--- S0: the third item, where the form has three, is no host expression that is built
-abbrev pub steps_host_at : Sexp → Option StepParts → Option Refusal
-steps_host_at d None = None
-steps_host_at d (Some q) = host_at d (template_in q.host)
-
--- S1: the form has not its parts, or a keyword stands in its template
+-- S1: the form has not its parts, or something in its host expression has not its shape
 abbrev pub steps_shape_at : Sexp → Option StepParts → Option Refusal
 steps_shape_at d None = Some (unnamed Shape d)
-steps_shape_at d (Some q) = option_map (unnamed Shape) (first (template_keywords (host_parts (template_in q.host))))
+steps_shape_at d (Some q) = option_map (unnamed Shape) (first (host_shapes q.host))
 
--- what stands in its template
-abbrev pub steps_template : Option StepParts → List TemplatePart
-steps_template None = []
-steps_template (Some q) = host_parts (template_in q.host)
+-- what stands in its host expression
+abbrev pub steps_host : Known → Option StepParts → List TemplatePart
+steps_host K None = []
+steps_host K (Some q) = parts_of_host K q.host
+
+-- S5: a template in it means nothing
+abbrev pub bad_host_at : List TemplatePart → Option Refusal
+bad_host_at ps = option_map (unnamed BadPattern) (first (bad_parts ps))
+
+-- S10: it would ask Racket
+abbrev pub host_escape_at : List TemplatePart → Option Refusal
+host_escape_at ps = option_map (unnamed RacketEscape) (first (escapes ps))
 
 -- the name r, where no relation was found by it
 abbrev pub unknown_relation_by : Option Relation → Sexp → Option Refusal
@@ -59,7 +64,7 @@ unknown_relation_by (Some R) r = None
 -- S8: the name is that of no relation
 abbrev pub unknown_relation_at : Known → Option StepParts → Option Refusal
 unknown_relation_at K None = None
-unknown_relation_at K (Some q) = unknown_relation_by (relation_named K (text_of q.relation)) q.relation
+unknown_relation_at K (Some q) = unknown_relation_by (relation_named K.program (text_of q.relation)) q.relation
 
 -- ---- all checks
 
@@ -68,15 +73,15 @@ abbrev pub steps_refusal : Known → Sexp → Option StepParts → Option Refusa
 steps_refusal K d q =
     first_refusal
     (unbuilt_at d  -- S0
-    ∷ steps_host_at d q  -- S0
     ∷ steps_shape_at d (checked_steps q)  -- S1
-    ∷ bad_host_at (steps_template q)  -- S5
+    ∷ bad_host_at (steps_host K q)  -- S5
     ∷ unknown_relation_at K q  -- S8
-    ∷ undriven_at (steps_template q)  -- S9
+    ∷ undriven_host_at K (steps_host K q)  -- S9
+    ∷ host_escape_at (steps_host K q)  -- S10
     ∷ [])
 
 -- ---- what is asked
 
 -- the query of such a kind that the form d asks, if it has the parts
-abbrev pub steps_query : (List ℕ → Host → Query) → Sexp → Option Query
-steps_query kind d = option_map (λ q. kind (text_of q.relation) (host_reading (template_in q.host))) (step_parts d)
+abbrev pub steps_query : Known → (List ℕ → Host → Query) → Sexp → Option Query
+steps_query K kind d = option_map (λ q. kind (text_of q.relation) (host_of_datum K q.host)) (step_parts d)

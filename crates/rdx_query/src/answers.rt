@@ -1,17 +1,19 @@
 // The answers to the queries of a file.
 ghost use Rattle.std.specs.Prelude.{◌≡◌, IfOk};
-ghost use Rattle.rdx_eval.specs.Views.{Says, program_in};
+ghost use Rattle.rdx_eval.specs.Views as engines;
+ghost use Rattle.rdx_lang.specs.ProgramView.{program_of};
 ghost use Rattle.rdx_lang.specs.TemplateView.{host_of};
-ghost use Rattle.rdx_query.specs.Answering.{AreAnswers, HostValue, IsAnswer};
+ghost use Rattle.rdx_query.specs.Answering.{AreAnswers, IsAnswer};
 ghost use Rattle.rdx_query.specs.Inside.Appending.{AppendsAnswer, IsAnswerOver, Tries, host_in};
 ghost use Rattle.rdx_query.specs.Queries.{NamesKnown};
-ghost use Rattle.rdx_query.specs.Views.{AllNamesKnown, known_in, known_of, queries_of, query_of};
+ghost use Rattle.rdx_query.specs.Views.{AllNamesKnown, program_in, queries_of, query_of};
 ghost use Rattle.rdx_term.specs.View.{tree_of};
 
 use crate::match_answers::{answer_matches, answer_splits, answer_whether};
 use crate::step_answers::{answer_reducts, answer_steps};
 use crate::texts::{write_fault, write_value_line};
 use crate::{CheckedFile, Query};
+use rdx_delta::HostTable;
 use rdx_eval::{Engine, EvalFault};
 use rdx_lang::{Binding, HostExpr};
 use rdx_table::Table;
@@ -27,13 +29,14 @@ pub struct Answered {
     pub met: bool,
 }
 
-/// The answers to the queries of a file, in their order, and whether all is met that it states.
-pub fn answer(alloc: Global, file: &CheckedFile) -> Result<Answered, NoMemory>
-    requires { AllNamesKnown (known_in file.now) (queries_of file.now) }
-    ensures { IfOk result (λ a. AreAnswers (known_in file.now) (queries_of file.now)
+/// The answers to the queries of a file, in their order, and whether all is met that it states. Host
+/// expressions ask the table.
+pub fn answer(alloc: Global, file: &CheckedFile, host: &HostTable) -> Result<Answered, NoMemory>
+    requires { AllNamesKnown (program_in file.now) (queries_of file.now) }
+    ensures { IfOk result (λ a. AreAnswers (program_in file.now) (queries_of file.now)
         a.transcript.items a.met) }
 {
-    let mut engine = Engine::new(alloc, &file.program, Table::new(alloc)?);
+    let mut engine = Engine::new(alloc, &file.program, host, Table::new(alloc)?);
     let mut transcript = Vec::new(alloc);
     let mut met = true;
     for query in &file.queries {
@@ -51,10 +54,11 @@ fn write_answer(
     query: &Query,
     out: &mut Vec<u8>,
 ) -> Result<bool, NoMemory>
-    requires { NamesKnown (known_of (program_in engine.old).now) (query_of query.now) }
-    ensures answer { IfOk result (λ met. AppendsAnswer (known_of (program_in engine.old).now)
-        (query_of query.now) out.old.items out.new.items met) }
-    ensures same { program_in engine.new ≡ program_in engine.old }
+    requires { NamesKnown (program_of (engines.program_in engine.old).now) (query_of query.now) }
+    ensures answer { IfOk result (λ met. AppendsAnswer
+        (program_of (engines.program_in engine.old).now) (query_of query.now) out.old.items
+        out.new.items met) }
+    ensures same { engines.program_in engine.new ≡ engines.program_in engine.old }
 {
     match try_answer(alloc, engine, query, out) {
         Ok(()) => Ok(true),
@@ -73,12 +77,13 @@ fn try_answer(
     query: &Query,
     out: &mut Vec<u8>,
 ) -> Result<(), EvalFault>
-    requires { NamesKnown (known_of (program_in engine.old).now) (query_of query.now) }
-    ensures answer { Tries (IsAnswer (known_of (program_in engine.old).now) (query_of query.now))
+    requires { NamesKnown (program_of (engines.program_in engine.old).now) (query_of query.now) }
+    ensures answer { Tries
+        (IsAnswer (program_of (engines.program_in engine.old).now) (query_of query.now))
         out.old.items out.new.items result }
-    ensures same { program_in engine.new ≡ program_in engine.old }
+    ensures same { engines.program_in engine.new ≡ engines.program_in engine.old }
 {
-    let t = host_value(alloc, engine, host(query))?;
+    let t = engine.host(host(query), &Binding::new(Vec::new(alloc)))?;
     try_answer_over(alloc, engine, query, &t, out)
 }
 
@@ -93,18 +98,6 @@ fn host(query: &Query) -> &HostExpr
     }
 }
 
-// What a host expression of a query makes, or its fault.
-fn host_value(alloc: Global, engine: &mut Engine<Table>, host: &HostExpr) -> Result<Term, EvalFault>
-    ensures answer { Says tree_of (HostValue (known_of (program_in engine.old).now) (host_of host.now))
-        result }
-    ensures same { program_in engine.new ≡ program_in engine.old }
-{
-    let no_names = Binding::new(Vec::new(alloc));
-    match host {
-        HostExpr::Term(template) => engine.instantiate(template, &no_names),
-    }
-}
-
 // Appends the answer to a query whose host expression makes this term, or gives the fault of it.
 fn try_answer_over(
     alloc: Global,
@@ -113,10 +106,11 @@ fn try_answer_over(
     t: &Term,
     out: &mut Vec<u8>,
 ) -> Result<(), EvalFault>
-    requires { NamesKnown (known_of (program_in engine.old).now) (query_of query.now) }
-    ensures answer { Tries (IsAnswerOver (known_of (program_in engine.old).now) (query_of query.now)
+    requires { NamesKnown (program_of (engines.program_in engine.old).now) (query_of query.now) }
+    ensures answer { Tries
+        (IsAnswerOver (program_of (engines.program_in engine.old).now) (query_of query.now)
         (tree_of t.now)) out.old.items out.new.items result }
-    ensures same { program_in engine.new ≡ program_in engine.old }
+    ensures same { engines.program_in engine.new ≡ engines.program_in engine.old }
 {
     match query {
         Query::Match(name, pat, _) => Ok(answer_matches(alloc, engine, name, pat, t, out)?),

@@ -1,11 +1,12 @@
 // The forms of a file.
 ghost use Rattle.rdx_sexp.specs.Size.{IsOfFileSize};
 ghost use Rattle.std.specs.Prelude.{IfOk, IfErr};
-ghost use Rattle.rdx_query.specs.File.{Accepts};
-ghost use Rattle.rdx_query.specs.Known.{nothing};
-ghost use Rattle.rdx_query.specs.Views.{AllNamesKnown, IsFileFault, known_in, queries_of};
+ghost use Rattle.rdx_query.specs.File.{IsFile};
+ghost use Rattle.rdx_query.specs.Views.{AllNamesKnown, IsFileFault, program_in, queries_of};
 
 use crate::forms::read_form;
+use crate::known::Known;
+use rdx_defs::scope_of;
 use rdx_grammar::DefFault;
 use rdx_lang::{CheckedPat, HostExpr, Program};
 use rdx_sexp::Datum;
@@ -40,17 +41,24 @@ pub struct CheckedFile {
 /// What the forms of a file mean, or the refusal of the first form that is refused.
 pub fn check_file(alloc: Global, forms: &[Datum]) -> Result<CheckedFile, DefFault>
     requires { IsOfFileSize forms.now }
-    ensures accepted { IfOk result (λ f. Accepts nothing forms.now (known_in f) (queries_of f)) }
+    ensures accepted { IfOk result (λ f. IsFile forms.now (program_in f) (queries_of f)) }
     ensures refused { IfErr result (IsFileFault forms.now) }
-    ensures named { IfOk result (λ f. AllNamesKnown (known_in f) (queries_of f)) }
+    ensures named { IfOk result (λ f. AllNamesKnown (program_in f) (queries_of f)) }
 {
-    let mut program = Program {
-        languages: Vec::new(alloc),
-        relations: Vec::new(alloc),
+    let mut known = Known {
+        scope: scope_of(alloc, forms)?,
+        program: Program {
+            languages: Vec::new(alloc),
+            metafunctions: Vec::new(alloc),
+            relations: Vec::new(alloc),
+        },
     };
     let mut queries = Vec::new(alloc);
     for form in forms {
-        read_form(alloc, &mut program, &mut queries, form)?;
+        read_form(alloc, &mut known, &mut queries, form)?;
     }
-    Ok(CheckedFile { program, queries })
+    Ok(CheckedFile {
+        program: known.program,
+        queries,
+    })
 }

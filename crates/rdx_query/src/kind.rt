@@ -1,5 +1,5 @@
 // What a form does, by its head.
-ghost use Rattle.std.specs.Prelude.{◌≡◌, option_map};
+ghost use Rattle.std.specs.Prelude.{◌≡◌};
 ghost use Rattle.rdx_query.specs.FormKinds as forms;
 ghost use Rattle.rdx_query.specs.Inside.KindViews.{kind_of};
 
@@ -13,6 +13,8 @@ pub enum DefinitionKind {
     Language,
     /// A language that extends another: `define-extended-language`.
     Extension,
+    /// A metafunction: `define-metafunction`.
+    Metafunction,
     /// A relation: `define`.
     Relation,
 }
@@ -26,12 +28,21 @@ pub enum QueryKind {
     Whether,
     /// What the pattern splits a term into: `redex-decompose`.
     Decompose,
-    /// A term itself: `term`.
+    /// What a host expression makes: the form itself.
     Value,
     /// The terms to which a relation leads from a term: `apply-reduction-relation`.
     Reducts,
     /// The steps, with the names of their rules: `apply-reduction-relation/tag-with-names`.
     Tagged,
+}
+
+/// What is passed over.
+#[derive(Clone, Copy, Debug, PartialEq, Eq)]
+pub enum PassedKind {
+    /// The modules that a file wants: `require`.
+    Wants,
+    /// What it offers: `provide`.
+    Offers,
 }
 
 /// What a form does.
@@ -41,42 +52,64 @@ pub enum FormKind {
     Defines(DefinitionKind),
     /// It asks something.
     Asks(QueryKind),
+    /// It is passed over.
+    Passes(PassedKind),
+    /// What is not built yet.
+    ToCome,
 }
 
-// The table of heads.
-fn kind_by_text(head: &str) -> Option<FormKind>
-    ensures { option_map kind_of result ≡ forms.kind_in forms.heads head.now }
+// The table of heads; what has another one is a host expression.
+fn kind_by_text(head: &str) -> FormKind
+    ensures { kind_of result ≡ forms.kind_in forms.heads head.now }
 {
     match head {
-        "define-language" => Some(FormKind::Defines(DefinitionKind::Language)),
-        "define-extended-language" => Some(FormKind::Defines(DefinitionKind::Extension)),
-        "redex-match" => Some(FormKind::Asks(QueryKind::Match)),
-        "redex-match?" => Some(FormKind::Asks(QueryKind::Whether)),
-        "redex-decompose" => Some(FormKind::Asks(QueryKind::Decompose)),
-        "define" => Some(FormKind::Defines(DefinitionKind::Relation)),
-        "term" => Some(FormKind::Asks(QueryKind::Value)),
-        "apply-reduction-relation" => Some(FormKind::Asks(QueryKind::Reducts)),
-        "apply-reduction-relation/tag-with-names" => Some(FormKind::Asks(QueryKind::Tagged)),
-        _ => None,
+        "define-language" => FormKind::Defines(DefinitionKind::Language),
+        "define-extended-language" => FormKind::Defines(DefinitionKind::Extension),
+        "define-metafunction" => FormKind::Defines(DefinitionKind::Metafunction),
+        "define" => FormKind::Defines(DefinitionKind::Relation),
+        "redex-match" => FormKind::Asks(QueryKind::Match),
+        "redex-match?" => FormKind::Asks(QueryKind::Whether),
+        "redex-decompose" => FormKind::Asks(QueryKind::Decompose),
+        "apply-reduction-relation" => FormKind::Asks(QueryKind::Reducts),
+        "apply-reduction-relation/tag-with-names" => FormKind::Asks(QueryKind::Tagged),
+        "require" => FormKind::Passes(PassedKind::Wants),
+        "provide" => FormKind::Passes(PassedKind::Offers),
+        "define-judgment-form"
+        | "judgment-holds"
+        | "stepper"
+        | "test-equal"
+        | "test-->"
+        | "test-->>"
+        | "test-match"
+        | "test-no-match"
+        | "test-judgment-holds"
+        | "test-results"
+        | "generate-term"
+        | "redex-check"
+        | "alpha-equivalent?"
+        | "substitute" => FormKind::ToCome,
+        _ => FormKind::Asks(QueryKind::Value),
     }
 }
 
 // What a form with this head does.
-fn kind_by_head(head: &Datum) -> Option<FormKind>
-    ensures { option_map kind_of result ≡ forms.kind_by_head head.now }
+fn kind_by_head(head: &Datum) -> FormKind
+    ensures { kind_of result ≡ forms.kind_by_head head.now }
 {
     match &head.form {
-        Form::Int(_) | Form::Bool(_) | Form::Str(_) | Form::Key(_) | Form::List(_) => None,
+        Form::Int(_) | Form::Bool(_) | Form::Str(_) | Form::Key(_) | Form::List(_) => {
+            FormKind::Asks(QueryKind::Value)
+        }
         Form::Sym(text) => kind_by_text(text.as_str()),
     }
 }
 
-/// What the form does, if it has a head of the table.
-pub(crate) fn form_kind(form: &Datum) -> Option<FormKind>
-    ensures { option_map kind_of result ≡ forms.form_kind form.now }
+/// What the form does.
+pub(crate) fn form_kind(form: &Datum) -> FormKind
+    ensures { kind_of result ≡ forms.form_kind form.now }
 {
-    match items(form)? {
-        [head, ..] => kind_by_head(head),
-        [] => None,
+    match items(form) {
+        Some([head, ..]) => kind_by_head(head),
+        Some([]) | None => FormKind::Asks(QueryKind::Value),
     }
 }

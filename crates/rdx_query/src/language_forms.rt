@@ -1,23 +1,22 @@
 // Forms that define languages.
-ghost use Rattle.std.specs.Prelude.{◌≡◌, [], Some, IfOk, option_map};
+ghost use Rattle.std.specs.Prelude.{◌≡◌, [], Some, IfOk};
 ghost use Rattle.rdx_lang.specs.Checked.{language_in};
 ghost use Rattle.rdx_grammar.specs.Nonterminals.{names_of};
 ghost use Rattle.rdx_grammar.specs.Readable.{IsReadable};
-ghost use Rattle.rdx_grammar.specs.Refusal.{refusal_of};
 ghost use Rattle.rdx_query.specs.FormKinds as forms;
-ghost use Rattle.rdx_query.specs.Inside.Defining.{DefinesBy, taken_at_item};
-ghost use Rattle.rdx_query.specs.Inside.PartViews.{second_item};
+ghost use Rattle.rdx_query.specs.Inside.Defining.{DefinesBy};
+ghost use Rattle.rdx_query.specs.Inside.KnownView.{known_of};
 ghost use Rattle.rdx_query.specs.LanguageForms.{base_name};
-ghost use Rattle.rdx_query.specs.Views.{known_of};
 
 use crate::earlier::{first_fault, unless};
-use crate::known::{is_taken, place_named};
+use crate::known::Known;
+use crate::lookup::place_named;
 use crate::parts::{base_name, second_item};
-use crate::refusals::misshaped;
+use crate::refusals::{misshaped, refuse_taken};
 use rdx_grammar::refusal::named;
 use rdx_grammar::shape::text;
-use rdx_grammar::{DefFault, DefKind, DefRefusal, extend, read_language};
-use rdx_lang::{CheckedLang, Language, Program, Ranks};
+use rdx_grammar::{DefFault, DefKind, extend, read_language};
+use rdx_lang::{CheckedLang, Language, Ranks};
 use rdx_sexp::Datum;
 use rdx_term::{Name, NoMemory};
 use std::alloc::Global;
@@ -47,41 +46,22 @@ pub(crate) fn empty_language(alloc: Global) -> Result<CheckedLang, NoMemory>
     ))
 }
 
-// The refusal of a form whose name an earlier form has, S3.
-fn refuse_taken(
-    alloc: Global,
-    program: &Program,
-    form: &Datum,
-) -> Result<Option<DefRefusal>, NoMemory>
-    ensures { IfOk result (λ r. option_map refusal_of r
-        ≡ taken_at_item (known_of program.now) (second_item form.now)) }
-{
-    let Some(name) = second_item(form) else {
-        return Ok(None);
-    };
-    if is_taken(program, text(name)) {
-        Ok(Some(named(alloc, DefKind::Duplicate, name)?))
-    } else {
-        Ok(None)
-    }
-}
-
 // What an extension is over the language that it names.
 fn extension(
     alloc: Global,
-    program: &Program,
+    known: &Known,
     form: &Datum,
     name: &Datum,
 ) -> Result<CheckedLang, DefFault>
     requires readable { IsReadable form.now }
     requires base { base_name form.now ≡ Some name.now }
-    requires extension { forms.form_kind form.now ≡ Some (forms.defines forms.extension) }
-    ensures { DefinesBy (known_of program.now) form.now result }
+    requires extension { forms.form_kind form.now ≡ forms.defines forms.extension }
+    ensures { DefinesBy (known_of known.now) form.now result }
 {
-    match place_named(program, text(name)) {
+    match place_named(known, text(name)) {
         Some(place) => {
-            let taken = refuse_taken(alloc, program, form)?;
-            unless(taken, extend(alloc, &program.languages[place], form))
+            let taken = refuse_taken(alloc, known, second_item(form))?;
+            unless(taken, extend(alloc, &known.program.languages[place], form))
         }
         None => {
             let unknown = named(alloc, DefKind::UnknownLanguage, name)?;
@@ -91,32 +71,32 @@ fn extension(
     }
 }
 
-/// The language of a `define-extended-language` form, behind forms that define this program.
+/// The language of a `define-extended-language` form, where this is known.
 pub(crate) fn define_extension(
     alloc: Global,
-    program: &Program,
+    known: &Known,
     form: &Datum,
 ) -> Result<CheckedLang, DefFault>
     requires readable { IsReadable form.now }
-    requires extension { forms.form_kind form.now ≡ Some (forms.defines forms.extension) }
-    ensures { DefinesBy (known_of program.now) form.now result }
+    requires extension { forms.form_kind form.now ≡ forms.defines forms.extension }
+    ensures { DefinesBy (known_of known.now) form.now result }
 {
     match base_name(form) {
-        Some(name) => extension(alloc, program, form, name),
+        Some(name) => extension(alloc, known, form, name),
         None => Err(DefFault::Refused(misshaped(form))),
     }
 }
 
-/// The language of a `define-language` form, behind forms that define this program.
+/// The language of a `define-language` form, where this is known.
 pub(crate) fn define_language(
     alloc: Global,
-    program: &Program,
+    known: &Known,
     form: &Datum,
 ) -> Result<CheckedLang, DefFault>
     requires readable { IsReadable form.now }
-    requires language { forms.form_kind form.now ≡ Some (forms.defines forms.language) }
-    ensures { DefinesBy (known_of program.now) form.now result }
+    requires language { forms.form_kind form.now ≡ forms.defines forms.language }
+    ensures { DefinesBy (known_of known.now) form.now result }
 {
-    let taken = refuse_taken(alloc, program, form)?;
+    let taken = refuse_taken(alloc, known, second_item(form))?;
     unless(taken, read_language(alloc, form))
 }

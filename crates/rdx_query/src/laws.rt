@@ -67,6 +67,11 @@ pub fn worked_examples()
     ensures earlier_languages_only { example.EarlierLanguagesOnly }
     ensures taken_name { example.TakenName }
     ensures host_expression { example.HostExpression }
+    ensures other_form { example.OtherForm }
+    ensures sum { example.Sum }
+    ensures wanted { example.Wanted }
+    ensures other_module { example.OtherModule }
+    ensures known_before { example.KnownBefore }
     ensures few_items { example.FewItems }
     ensures left_recursion { example.LeftRecursion }
 {}

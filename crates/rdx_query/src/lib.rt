@@ -1,8 +1,9 @@
 //! Files: what their forms mean, and the answers to their queries.
 //!
-//! A form defines something or asks something. [`check_file`] reads the forms of a file one after the other, and refuses the file at the
-//! first form that is refused. [`answer`] writes the answers to the queries of an accepted file. What a file means, and why it is refused,
-//! is in `specs/File.antt`; the answers, from the rules of matching and splitting alone, in `specs/Answering.antt`.
+//! A form defines something, asks something, or is passed over. [`check_file`] finds what is known in the whole file, reads its forms one
+//! after the other, and refuses the file at the first form that is refused. [`answer`] writes the answers to the queries of an accepted
+//! file. What a file means, and why it is refused, is in `specs/File.antt`; the answers, from the rules of matching, splitting and
+//! evaluation and the definition of steps alone, in `specs/Answering.antt`.
 #![tactic(auto)]
 
 mod answers;
@@ -14,9 +15,12 @@ mod kind;
 mod known;
 mod language_forms;
 pub mod laws;
+mod lookup;
 mod match_answers;
 mod match_forms;
+mod metafunction_forms;
 mod parts;
+mod passed_forms;
 mod refusals;
 mod relation_forms;
 mod step_answers;

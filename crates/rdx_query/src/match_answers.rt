@@ -1,59 +1,33 @@
 // The answers to queries that match a pattern against a term or split the term by it.
 ghost use Rattle.std.specs.Prelude.{◌≡◌, Some, true, IfOk, IfSome, IsSome, OnOk};
-ghost use Rattle.rdx_eval.specs.Views.{program_in};
+ghost use Rattle.rdx_eval.specs.Views as engines;
 ghost use Rattle.rdx_lang.specs.Checked.{language_in, pattern_in};
 ghost use Rattle.rdx_lang.specs.Patterns.{closed};
 ghost use Rattle.rdx_query.specs.Inside.Appending.{Appends};
-ghost use Rattle.rdx_query.specs.Inside.Whether.{TellsWhether};
+ghost use Rattle.rdx_query.specs.Inside.Whether as whether;
+ghost use Rattle.rdx_lang.specs.ProgramView.{program_of};
 ghost use Rattle.rdx_lang.specs.Programs.{language_named};
+ghost use Rattle.rdx_lang.specs.Shown.{bindings_of};
 ghost use Rattle.rdx_query.specs.MatchAnswers.{IsMatchesAnswer, IsWhetherAnswer, IsSplitsAnswer};
-ghost use Rattle.rdx_query.specs.Views.{known_of};
 ghost use Rattle.rdx_term.specs.View.{tree_of};
 
-use crate::known::place_named;
+use crate::lookup::place_among;
 use crate::texts::{write_matches, write_splits, write_whether};
 use rdx_eval::Engine;
-use rdx_lang::{CheckedLang, CheckedPat, Pat, Program};
+use rdx_lang::{Binding, CheckedLang, CheckedPat, Pat, Program};
 use rdx_table::Table;
 use rdx_term::{Name, NoMemory, Term};
 use std::alloc::Global;
 
 // The language of this name.
 fn language<'a>(program: &'a Program, name: &Name) -> &'a CheckedLang
-    requires { IsSome (language_named (known_of program.now) name.now) }
-    ensures { language_named (known_of program.now) name.now ≡ Some (language_in result.now) }
+    requires { IsSome (language_named (program_of program.now) name.now) }
+    ensures { language_named (program_of program.now) name.now ≡ Some (language_in result.now) }
 {
-    match place_named(program, name.text()) {
+    match place_among(&program.languages, name.text()) {
         Some(place) => &program.languages[place],
         None => unreachable!(),
     }
-}
-
-// Whether the pattern matches the term.
-fn has_matches(
-    engine: &mut Engine<Table>,
-    language: &CheckedLang,
-    pat: &CheckedPat,
-    t: &Term,
-) -> Result<bool, NoMemory>
-    ensures told { IfOk result (TellsWhether (language_in language.now) (pattern_in pat.now) (tree_of t.now)) }
-    ensures same { program_in engine.new ≡ program_in engine.old }
-{
-    let found = engine.matches(language, pat, t)?;
-    Ok(!found.is_empty())
-}
-
-// The same of a closed pattern, which is of use for this alone.
-fn closed_has_matches(
-    engine: &mut Engine<Table>,
-    language: &CheckedLang,
-    pat: CheckedPat,
-    t: &Term,
-) -> Result<bool, NoMemory>
-    ensures told { IfOk result (TellsWhether (language_in language.now) (pattern_in pat) (tree_of t.now)) }
-    ensures same { program_in engine.new ≡ program_in engine.old }
-{
-    has_matches(engine, language, &pat, t)
 }
 
 // The pattern, closed; it is well formed where the pattern is.
@@ -69,24 +43,11 @@ fn closed_of(
     CheckedPat::new(alloc, language, closed)
 }
 
-// Whether the pattern matches the term. It is asked for as a closed one, of which a match is a yes
-// or a no, so that no binding is listed.
-fn is_matched(
-    alloc: Global,
-    engine: &mut Engine<Table>,
-    language: &CheckedLang,
-    pat: &CheckedPat,
-    t: &Term,
-) -> Result<bool, NoMemory>
-    ensures told { IfOk result (TellsWhether (language_in language.now) (pattern_in pat.now) (tree_of t.now)) }
-    ensures same { program_in engine.new ≡ program_in engine.old }
+// Whether there are bindings.
+fn are_some(found: &[Binding]) -> bool
+    ensures { result ≡ whether.are_some (bindings_of found.now) }
 {
-    rdx_lang::laws::some_listing();
-    rdx_lang::laws::ranks_fall();
-    match closed_of(alloc, language, pat)? {
-        Some(closed) => closed_has_matches(engine, language, closed, t),
-        None => has_matches(engine, language, pat, t),
-    }
+    !found.is_empty()
 }
 
 /// Appends the answer to `redex-match` over this term.
@@ -98,17 +59,19 @@ pub(crate) fn answer_matches(
     t: &Term,
     out: &mut Vec<u8>,
 ) -> Result<(), NoMemory>
-    requires { IsSome (language_named (known_of (program_in engine.old).now) name.now) }
-    ensures answer { OnOk result (Appends (IsMatchesAnswer (known_of (program_in engine.old).now)
-        name.now (pattern_in pat.now) (tree_of t.now)) out.old.items out.new.items true) }
-    ensures same { program_in engine.new ≡ program_in engine.old }
+    requires { IsSome (language_named (program_of (engines.program_in engine.old).now) name.now) }
+    ensures answer { OnOk result (Appends
+        (IsMatchesAnswer (program_of (engines.program_in engine.old).now) name.now
+        (pattern_in pat.now) (tree_of t.now)) out.old.items out.new.items true) }
+    ensures same { engines.program_in engine.new ≡ engines.program_in engine.old }
 {
     let language = language(engine.program(), name);
     let found = engine.matches(language, pat, t)?;
     write_matches(alloc, &found, out)
 }
 
-/// Appends the answer to `redex-match?` over this term.
+/// Appends the answer to `redex-match?` over this term. The pattern is asked for as a closed one, of
+/// which a match is a yes or a no, so that no binding is listed.
 pub(crate) fn answer_whether(
     alloc: Global,
     engine: &mut Engine<Table>,
@@ -117,14 +80,21 @@ pub(crate) fn answer_whether(
     t: &Term,
     out: &mut Vec<u8>,
 ) -> Result<(), NoMemory>
-    requires { IsSome (language_named (known_of (program_in engine.old).now) name.now) }
-    ensures answer { OnOk result (Appends (IsWhetherAnswer (known_of (program_in engine.old).now)
-        name.now (pattern_in pat.now) (tree_of t.now)) out.old.items out.new.items true) }
-    ensures same { program_in engine.new ≡ program_in engine.old }
+    requires { IsSome (language_named (program_of (engines.program_in engine.old).now) name.now) }
+    ensures answer { OnOk result (Appends
+        (IsWhetherAnswer (program_of (engines.program_in engine.old).now) name.now
+        (pattern_in pat.now) (tree_of t.now)) out.old.items out.new.items true) }
+    ensures same { engines.program_in engine.new ≡ engines.program_in engine.old }
 {
+    rdx_lang::laws::some_listing();
+    rdx_lang::laws::ranks_fall();
     let language = language(engine.program(), name);
-    let are_some = is_matched(alloc, engine, language, pat, t)?;
-    write_whether(are_some, out)
+    let closed = closed_of(alloc, language, pat)?;
+    let found = match &closed {
+        Some(closed) => engine.matches(language, closed, t)?,
+        None => engine.matches(language, pat, t)?,
+    };
+    write_whether(are_some(&found), out)
 }
 
 /// Appends the answer to `redex-decompose` over this term.
@@ -136,10 +106,11 @@ pub(crate) fn answer_splits(
     t: &Term,
     out: &mut Vec<u8>,
 ) -> Result<(), NoMemory>
-    requires { IsSome (language_named (known_of (program_in engine.old).now) name.now) }
-    ensures answer { OnOk result (Appends (IsSplitsAnswer (known_of (program_in engine.old).now)
-        name.now (pattern_in pat.now) (tree_of t.now)) out.old.items out.new.items true) }
-    ensures same { program_in engine.new ≡ program_in engine.old }
+    requires { IsSome (language_named (program_of (engines.program_in engine.old).now) name.now) }
+    ensures answer { OnOk result (Appends
+        (IsSplitsAnswer (program_of (engines.program_in engine.old).now) name.now
+        (pattern_in pat.now) (tree_of t.now)) out.old.items out.new.items true) }
+    ensures same { engines.program_in engine.new ≡ engines.program_in engine.old }
 {
     let language = language(engine.program(), name);
     let found = engine.splits(language, pat, t)?;

@@ -9,30 +9,23 @@ ghost use Rattle.rdx_grammar.specs.Refusal.{Refusal};
 ghost use Rattle.rdx_query.specs.Inside.Asking.{FitsBy, AsksBy};
 ghost use Rattle.rdx_query.specs.Inside.Earlier as refusals;
 ghost use Rattle.rdx_query.specs.Inside.Earlier.{IsRefusedBy};
-ghost use Rattle.rdx_query.specs.Views.{known_of};
+ghost use Rattle.rdx_query.specs.Inside.KnownView.{known_of};
 
 use crate::earlier::first_fault;
-use crate::host_forms::read_host;
-use crate::known::place_named;
+use crate::host_forms::read_unbound;
+use crate::known::Known;
 use crate::language_forms::empty_language;
-use crate::parts::{query_parts, template};
+use crate::lookup::place_named;
+use crate::parts::{QueryParts, query_parts};
 use crate::refusals::misshaped;
 use rdx_grammar::refusal::{named, unnamed};
 use rdx_grammar::shape::{is_symbol, text};
 use rdx_grammar::unbuilt::has_word_to_come;
 use rdx_grammar::{DefFault, DefKind, read_pattern};
-use rdx_lang::{CheckedPat, HostExpr, Program};
+use rdx_lang::{CheckedPat, HostExpr};
 use rdx_sexp::Datum;
 use rdx_term::Name;
 use std::alloc::Global;
-
-/// A query that has its shape: the name of a language, a pattern, and the template of a host expression.
-#[derive(Clone, Copy)]
-pub(crate) struct Fit<'a> {
-    language: &'a Datum,
-    pattern: &'a Datum,
-    template: &'a Datum,
-}
 
 /// What a query asks: for a pattern and what a host expression makes, in the language of this name.
 #[derive(Drop)]
@@ -42,8 +35,8 @@ pub(crate) struct Asked {
     pub(crate) host: HostExpr,
 }
 
-// The query, where it has its parts and is built.
-fn check_shape(form: &Datum) -> Result<Fit<'_>, DefFault>
+// The parts of the query, where it has them and is built.
+fn check_shape(form: &Datum) -> Result<QueryParts<'_>, DefFault>
     ensures { FitsBy form.now result }
 {
     let Some(parts) = query_parts(form) else {
@@ -52,33 +45,26 @@ fn check_shape(form: &Datum) -> Result<Fit<'_>, DefFault>
     if has_word_to_come(form) {
         return Err(DefFault::Refused(unnamed(DefKind::Unbuilt, form)));
     }
-    let Some(template) = template(parts.host) else {
-        return Err(DefFault::Refused(unnamed(DefKind::Unbuilt, form)));
-    };
     if !is_symbol(parts.language) {
         return Err(DefFault::Refused(unnamed(DefKind::Shape, form)));
     }
-    Ok(Fit {
-        language: parts.language,
-        pattern: parts.pattern,
-        template,
-    })
+    Ok(parts)
 }
 
 // The pattern of a datum over the language at this place.
 fn read_over(
     alloc: Global,
-    program: &mut Program,
+    known: &mut Known,
     place: usize,
     d: &Datum,
 ) -> Result<CheckedPat, DefFault>
-    requires within { place < length program.old.languages.items }
+    requires within { place < length known.old.program.languages.items }
     requires readable { IsReadable d.now }
-    ensures reads { (l : CheckedLang) → l ≡ get_or program.old.languages.items place l
+    ensures reads { (l : CheckedLang) → l ≡ get_or known.old.program.languages.items place l
         → ReadsPattern (names_of (language_in l)) d.now result }
-    ensures same { known_of program.new ≡ known_of program.old }
+    ensures same { known_of known.new ≡ known_of known.old }
 {
-    read_pattern(alloc, &mut program.languages[place], d)
+    read_pattern(alloc, &mut known.program.languages[place], d)
 }
 
 // Both of what was read, or the refusal of the two that is reported.
@@ -97,27 +83,23 @@ fn both(
     }
 }
 
-/// What a query asks, behind forms that define this program.
-pub(crate) fn read_query(
-    alloc: Global,
-    program: &mut Program,
-    form: &Datum,
-) -> Result<Asked, DefFault>
+/// What a query asks, where this is known.
+pub(crate) fn read_query(alloc: Global, known: &mut Known, form: &Datum) -> Result<Asked, DefFault>
     requires { IsReadable form.now }
-    ensures asks { AsksBy (known_of program.old) form.now result }
-    ensures same { known_of program.new ≡ known_of program.old }
+    ensures asks { AsksBy (known_of known.old) form.now result }
+    ensures same { known_of known.new ≡ known_of known.old }
 {
-    let fit = check_shape(form)?;
-    let host = read_host(alloc, fit.template);
-    match place_named(program, text(fit.language)) {
+    let parts = check_shape(form)?;
+    let host = read_unbound(alloc, &known.scope, parts.host);
+    match place_named(known, text(parts.language)) {
         Some(place) => {
-            let name = program.languages[place].language().name.share()?;
-            let (pat, host) = both(read_over(alloc, program, place, fit.pattern), host)?;
+            let name = known.program.languages[place].language().name.share()?;
+            let (pat, host) = both(read_over(alloc, known, place, parts.pattern), host)?;
             Ok(Asked { name, pat, host })
         }
         None => {
-            let unknown = named(alloc, DefKind::UnknownLanguage, fit.language)?;
-            let pat = read_pattern(alloc, &mut empty_language(alloc)?, fit.pattern);
+            let unknown = named(alloc, DefKind::UnknownLanguage, parts.language)?;
+            let pat = read_pattern(alloc, &mut empty_language(alloc)?, parts.pattern);
             Err(first_fault(unknown, both(pat, host)))
         }
     }

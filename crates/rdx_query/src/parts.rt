@@ -1,7 +1,6 @@
 // The parts of data and of forms.
 ghost use Rattle.std.specs.Prelude.{◌≡◌, [], option_map};
 ghost use Rattle.rdx_grammar.specs.Parts.{parts};
-ghost use Rattle.rdx_query.specs.HostForms.{template_in};
 ghost use Rattle.rdx_query.specs.Inside.PartViews.{defining_by, defining_of, defining_with, parts_of, second_item, language_item, steps_of};
 ghost use Rattle.rdx_query.specs.LanguageForms.{base_name};
 ghost use Rattle.rdx_query.specs.MatchForms.{query_parts};
@@ -44,7 +43,8 @@ pub(crate) fn second_item(d: &Datum) -> Option<&Datum>
     }
 }
 
-/// The same where it may name a language: the one in a list that says what a relation is.
+/// The second item, where it may name a language: in a form that defines a metafunction, or in a list
+/// that says what a relation is.
 pub(crate) fn language_item(d: &Datum) -> Option<&Datum>
     ensures { option_map (λ d. d.now) result ≡ language_item d.now }
 {
@@ -62,22 +62,6 @@ pub(crate) fn base_name(d: &Datum) -> Option<&Datum>
 {
     match items(d)? {
         [_, _, name, ..] => Some(name),
-        _ => None,
-    }
-}
-
-/// The template of `(term t)`.
-pub(crate) fn template(d: &Datum) -> Option<&Datum>
-    ensures { option_map (λ d. d.now) result ≡ template_in d.now }
-{
-    match items(d)? {
-        [head, term] => {
-            if is_word(head, "term") {
-                Some(term)
-            } else {
-                None
-            }
-        }
         _ => None,
     }
 }

@@ -1,6 +1,7 @@
 // Forms that define a relation.
-ghost use Rattle.std.specs.Prelude.{◌≡◌, [], ◌∷◌, Some, true, false, IfOk, option_map};
+ghost use Rattle.std.specs.Prelude.{◌≡◌, [], ◌∷◌, true, false, IfOk, option_map};
 ghost use Rattle.rdx_defs.specs.Answers.{ReadsRelation};
+ghost use Rattle.rdx_defs.specs.Scope.{scope_of};
 ghost use Rattle.rdx_grammar.specs.Names as names;
 ghost use Rattle.rdx_grammar.specs.Nonterminals.{names_of};
 ghost use Rattle.rdx_grammar.specs.Parts.{is_symbol, text_of};
@@ -10,20 +11,22 @@ ghost use Rattle.rdx_sexp.specs.Size.{IsSpelledSexp};
 ghost use Rattle.rdx_query.specs.FormKinds as forms;
 ghost use Rattle.rdx_query.specs.Inside.Defining.{RelatesBy, RelatesOver};
 ghost use Rattle.rdx_query.specs.LanguageForms.{name_taken_at, named_base, unknown_at};
-ghost use Rattle.rdx_query.specs.RelationForms.{bad_name_at};
-ghost use Rattle.rdx_query.specs.Views.{known_of};
+ghost use Rattle.rdx_query.specs.RelationForms.{bad_relation_at};
+ghost use Rattle.rdx_query.specs.Inside.KnownView.{known_of};
 
 use crate::earlier::unless;
-use crate::known::{is_taken, place_named};
+use crate::known::Known;
 use crate::language_forms::{empty_language, some_name};
+use crate::lookup::{is_taken, place_of};
 use crate::parts::{DefineParts, define_parts, language_item};
+use crate::refusals::refuse_language;
 use rdx_defs::read_relation;
 use rdx_grammar::names::begins_with_dots;
 use rdx_grammar::refusal::{named, unnamed};
 use rdx_grammar::shape::text;
 use rdx_grammar::unbuilt::has_word_to_come;
 use rdx_grammar::{DefFault, DefKind, DefRefusal};
-use rdx_lang::{Program, Relation};
+use rdx_lang::Relation;
 use rdx_sexp::Datum;
 use rdx_term::{Name, NoMemory};
 use std::alloc::Global;
@@ -48,34 +51,12 @@ fn name_of(alloc: Global, d: &Datum) -> Result<Name, NoMemory>
     }
 }
 
-// The refusal of a name that is that of no language, S2.
-fn refuse_language(
-    alloc: Global,
-    program: &Program,
-    name: Option<&Datum>,
-) -> Result<Option<DefRefusal>, NoMemory>
-    ensures { IfOk result (λ r. option_map refusal_of r
-        ≡ unknown_at (known_of program.now) (option_map (λ d. d.now) name.entry)) }
-{
-    let Some(name) = name else {
-        return Ok(None);
-    };
-    if place_named(program, text(name)).is_some() {
-        return Ok(None);
-    }
-    Ok(Some(named(alloc, DefKind::UnknownLanguage, name)?))
-}
-
 // The refusal of the name of a relation: an earlier form has it, S3, or it may not be one, S4.
-fn refuse_name(
-    alloc: Global,
-    program: &Program,
-    name: &Datum,
-) -> Result<Option<DefRefusal>, NoMemory>
+fn refuse_name(alloc: Global, known: &Known, name: &Datum) -> Result<Option<DefRefusal>, NoMemory>
     ensures { IfOk result (λ r. option_map refusal_of r ≡ first_refusal
-        (name_taken_at (known_of program.now) name.now ∷ bad_name_at name.now ∷ [])) }
+        (name_taken_at (known_of known.now) name.now ∷ bad_relation_at name.now ∷ [])) }
 {
-    if is_taken(program, text(name)) {
+    if is_taken(known, text(name)) {
         return Ok(Some(named(alloc, DefKind::Duplicate, name)?));
     }
     if is_bad_name(text(name)) {
@@ -87,73 +68,68 @@ fn refuse_name(
 // The refusal of the names in a form, of the language's first.
 fn refuse_names(
     alloc: Global,
-    program: &Program,
+    known: &Known,
     language: Option<&Datum>,
     name: &Datum,
 ) -> Result<Option<DefRefusal>, NoMemory>
     ensures { IfOk result (λ r. option_map refusal_of r ≡ first_refusal
-        (unknown_at (known_of program.now) (option_map (λ d. d.now) language.entry)
-        ∷ name_taken_at (known_of program.now) name.now ∷ bad_name_at name.now ∷ [])) }
+        (unknown_at (known_of known.now) (option_map (λ d. d.now) language.entry)
+        ∷ name_taken_at (known_of known.now) name.now ∷ bad_relation_at name.now ∷ [])) }
 {
-    match refuse_language(alloc, program, language)? {
+    match refuse_language(alloc, known, language)? {
         Some(refusal) => Ok(Some(refusal)),
-        None => refuse_name(alloc, program, name),
+        None => refuse_name(alloc, known, name),
     }
 }
 
 // The relation of a list over the language of this name; over an empty one, where that is unknown.
 fn read_over(
     alloc: Global,
-    program: &mut Program,
+    known: &mut Known,
     language: Option<&Datum>,
     name: &Name,
     body: &Datum,
 ) -> Result<Relation, DefFault>
     requires { IsReadable body.now }
-    ensures reads { ReadsRelation
-        (names_of (named_base (known_of program.old) (option_map (λ d. d.now) language.entry)))
+    ensures reads { ReadsRelation (scope_of known.old.scope)
+        (names_of (named_base (known_of known.old) (option_map (λ d. d.now) language.entry)))
         name.now body.now result }
-    ensures same { known_of program.new ≡ known_of program.old }
+    ensures same { known_of known.new ≡ known_of known.old }
 {
-    let place = match language {
-        Some(language) => place_named(program, text(language)),
-        None => None,
-    };
-    match place {
-        Some(place) => read_relation(alloc, &mut program.languages[place], name, body),
-        None => read_relation(alloc, &mut empty_language(alloc)?, name, body),
+    match place_of(known, language) {
+        Some(place) => {
+            let language = &mut known.program.languages[place];
+            read_relation(alloc, &known.scope, language, name, body)
+        }
+        None => read_relation(alloc, &known.scope, &mut empty_language(alloc)?, name, body),
     }
 }
 
 // The relation that a form with these parts defines, where nothing stands behind them.
-fn define_parted(
-    alloc: Global,
-    program: &mut Program,
-    parts: DefineParts,
-) -> Result<Relation, DefFault>
+fn define_parted(alloc: Global, known: &mut Known, parts: DefineParts) -> Result<Relation, DefFault>
     requires spelled { IsSpelledSexp parts.name.now }
     requires symbol { is_symbol parts.name.now ≡ true }
     requires body { IsReadable parts.body.now }
-    ensures relates { RelatesOver (known_of program.old) parts.entry.name.now parts.entry.body.now result }
-    ensures same { known_of program.new ≡ known_of program.old }
+    ensures relates { RelatesOver (known_of known.old) parts.entry.name.now parts.entry.body.now result }
+    ensures same { known_of known.new ≡ known_of known.old }
 {
     let language = language_item(parts.body);
-    let refusal = refuse_names(alloc, program, language, parts.name)?;
+    let refusal = refuse_names(alloc, known, language, parts.name)?;
     let name = name_of(alloc, parts.name)?;
-    let read = read_over(alloc, program, language, &name, parts.body);
+    let read = read_over(alloc, known, language, &name, parts.body);
     unless(refusal, read)
 }
 
-/// The relation of a `define` form, behind forms that define this program.
+/// The relation of a `define` form, where this is known.
 pub(crate) fn define_relation(
     alloc: Global,
-    program: &mut Program,
+    known: &mut Known,
     form: &Datum,
 ) -> Result<Relation, DefFault>
     requires readable { IsReadable form.now }
-    requires relation { forms.form_kind form.now ≡ Some (forms.defines forms.relation) }
-    ensures relates { RelatesBy (known_of program.old) form.now result }
-    ensures same { known_of program.new ≡ known_of program.old }
+    requires relation { forms.form_kind form.now ≡ forms.defines forms.relation }
+    ensures relates { RelatesBy (known_of known.old) form.now result }
+    ensures same { known_of known.new ≡ known_of known.old }
 {
     if has_word_to_come(form) {
         return Err(DefFault::Refused(unnamed(DefKind::Unbuilt, form)));
@@ -164,5 +140,5 @@ pub(crate) fn define_relation(
     if parts.has_more {
         return Err(DefFault::Refused(unnamed(DefKind::Shape, form)));
     }
-    define_parted(alloc, program, parts)
+    define_parted(alloc, known, parts)
 }

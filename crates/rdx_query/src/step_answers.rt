@@ -1,16 +1,16 @@
 // The answers to queries that ask for the steps of a relation.
 ghost use Rattle.std.specs.Prelude.{◌≡◌, Some, IfOk, IsSome, map};
-ghost use Rattle.rdx_eval.specs.Views.{program_in, terms_in};
-ghost use Rattle.rdx_lang.specs.ProgramView.{relation_of};
+ghost use Rattle.rdx_eval.specs.Views as engines;
+ghost use Rattle.rdx_eval.specs.Views.{terms_in};
+ghost use Rattle.rdx_lang.specs.ProgramView.{program_of, relation_of};
 ghost use Rattle.rdx_lang.specs.Programs.{relation_named as named};
 ghost use Rattle.rdx_query.specs.Inside.Appending.{Tries};
 ghost use Rattle.rdx_query.specs.Queries.{KnowsRelation};
 ghost use Rattle.rdx_query.specs.StepAnswers.{AreReducts, IsReductsAnswer, IsTaggedAnswer};
-ghost use Rattle.rdx_query.specs.Views.{known_of};
 ghost use Rattle.rdx_reduce.specs.StepView.{steps_in};
 ghost use Rattle.rdx_term.specs.View.{tree_of};
 
-use crate::known::relation_named;
+use crate::lookup::relation_among;
 use crate::texts::{write_reducts, write_steps};
 use rdx_eval::{Engine, EvalFault};
 use rdx_lang::{Program, Relation};
@@ -22,10 +22,10 @@ use std::collections::BTreeSet;
 
 // The relation of this name.
 fn relation<'a>(program: &'a Program, name: &Name) -> &'a Relation
-    requires { IsSome (named (known_of program.now) name.now) }
-    ensures { named (known_of program.now) name.now ≡ Some (relation_of result.now) }
+    requires { IsSome (named (program_of program.now) name.now) }
+    ensures { named (program_of program.now) name.now ≡ Some (relation_of result.now) }
 {
-    match relation_named(program, name.text()) {
+    match relation_among(&program.relations, name.text()) {
         Some(relation) => relation,
         None => unreachable!(),
     }
@@ -60,10 +60,11 @@ pub(crate) fn answer_reducts(
     t: &Term,
     out: &mut Vec<u8>,
 ) -> Result<(), EvalFault>
-    requires { KnowsRelation (known_of (program_in engine.old).now) name.now }
-    ensures answer { Tries (IsReductsAnswer (known_of (program_in engine.old).now) name.now
-        (tree_of t.now)) out.old.items out.new.items result }
-    ensures same { program_in engine.new ≡ program_in engine.old }
+    requires { KnowsRelation (program_of (engines.program_in engine.old).now) name.now }
+    ensures answer { Tries
+        (IsReductsAnswer (program_of (engines.program_in engine.old).now) name.now (tree_of t.now))
+        out.old.items out.new.items result }
+    ensures same { engines.program_in engine.new ≡ engines.program_in engine.old }
 {
     let relation = relation(engine.program(), name);
     let found = steps(alloc, engine, relation, t)?;
@@ -80,10 +81,11 @@ pub(crate) fn answer_steps(
     t: &Term,
     out: &mut Vec<u8>,
 ) -> Result<(), EvalFault>
-    requires { KnowsRelation (known_of (program_in engine.old).now) name.now }
-    ensures answer { Tries (IsTaggedAnswer (known_of (program_in engine.old).now) name.now
-        (tree_of t.now)) out.old.items out.new.items result }
-    ensures same { program_in engine.new ≡ program_in engine.old }
+    requires { KnowsRelation (program_of (engines.program_in engine.old).now) name.now }
+    ensures answer { Tries
+        (IsTaggedAnswer (program_of (engines.program_in engine.old).now) name.now (tree_of t.now))
+        out.old.items out.new.items result }
+    ensures same { engines.program_in engine.new ≡ engines.program_in engine.old }
 {
     let relation = relation(engine.program(), name);
     let found = steps(alloc, engine, relation, t)?;

@@ -1,9 +1,13 @@
 // The file without forms, both matchers side by side, and calls of the crates below that no file
 // makes so far.
-use crate::known::place_named;
+use crate::lookup::place_among;
 use crate::{Query, answer, check_file};
+use rdx_delta::{
+    HostEntry, HostTable, host_add, host_add1, host_eq, host_equal, host_ge, host_gt, host_is_zero,
+    host_le, host_lt, host_mul, host_not, host_quotient, host_remainder, host_sub, host_sub1,
+};
 use rdx_eval::Engine;
-use rdx_lang::{Binding, CheckedPat, HostExpr, Value};
+use rdx_lang::{Binding, CheckedPat, HostExpr, HostOp, Value};
 use rdx_match::Plain;
 use rdx_sexp::{datum_text, read_all};
 use rdx_table::Table;
@@ -13,12 +17,44 @@ use std::process::Abort;
 use std::rc::RcStr;
 use std::test::Fail;
 
+// The table of host operations.
+fn host_table<R: Abort + AllocGlobal>(rt: &R) -> Result<HostTable, Fail> {
+    let entries = Vec::from_array(
+        rt.alloc(),
+        [
+            HostEntry::new(HostOp::Add, host_add),
+            HostEntry::new(HostOp::Sub, host_sub),
+            HostEntry::new(HostOp::Mul, host_mul),
+            HostEntry::new(HostOp::Quotient, host_quotient),
+            HostEntry::new(HostOp::Remainder, host_remainder),
+            HostEntry::new(HostOp::Add1, host_add1),
+            HostEntry::new(HostOp::Sub1, host_sub1),
+            HostEntry::new(HostOp::Eq, host_eq),
+            HostEntry::new(HostOp::Lt, host_lt),
+            HostEntry::new(HostOp::Le, host_le),
+            HostEntry::new(HostOp::Gt, host_gt),
+            HostEntry::new(HostOp::Ge, host_ge),
+            HostEntry::new(HostOp::IsZero, host_is_zero),
+            HostEntry::new(HostOp::Equal, host_equal),
+            HostEntry::new(HostOp::Not, host_not),
+        ],
+    );
+    let Ok(entries) = entries else {
+        panic!(rt; "no entries")
+    };
+    match HostTable::new(entries) {
+        Ok(table) => Ok(table),
+        Err(_) => panic!(rt; "no table"),
+    }
+}
+
 #[test]
 fn a_file_without_forms_writes_nothing(rt: HostRuntime) -> Result<(), Fail> {
     let alloc = rt.alloc();
+    let table = host_table(&rt)?;
     match check_file(alloc, &[]) {
         Ok(file) => {
-            let answered = answer(alloc, &file)?;
+            let answered = answer(alloc, &file, &table)?;
             assert!(rt; answered.transcript.is_empty() && answered.met);
         }
         Err(_) => assert!(rt; false, "refused"),
@@ -77,12 +113,11 @@ fn agree(
     host: &HostExpr,
 ) -> Result<bool, NoMemory> {
     let program = plain.program();
-    let Some(place) = place_named(program, name.text()) else {
+    let Some(place) = place_among(&program.languages, name.text()) else {
         return Ok(false);
     };
     let language = &program.languages[place];
-    let HostExpr::Term(template) = host;
-    let Ok(t) = table.instantiate(template, &Binding::new(Vec::new(alloc))) else {
+    let Ok(t) = table.host(host, &Binding::new(Vec::new(alloc))) else {
         return Ok(false);
     };
     let mut same = true;
@@ -98,8 +133,9 @@ fn both_matchers_agree(rt: HostRuntime) -> Result<(), Fail> {
     let alloc = rt.alloc();
     let data = read_all(alloc, QUERIES)?;
     let file = check_file(alloc, &data).expect(&rt, "a file that is accepted");
-    let mut plain = Engine::new(alloc, &file.program, Plain::new(alloc));
-    let mut table = Engine::new(alloc, &file.program, Table::new(alloc)?);
+    let operations = host_table(&rt)?;
+    let mut plain = Engine::new(alloc, &file.program, &operations, Plain::new(alloc));
+    let mut table = Engine::new(alloc, &file.program, &operations, Table::new(alloc)?);
     assert_eq!(rt; file.queries.len(), 10);
     for query in &file.queries {
         match query {

@@ -1,17 +1,18 @@
 // The texts of answers.
-ghost use Rattle.std.specs.Prelude.{◌≡◌, ◌++◌, IfOk, OnOk, IsTrue, List, decimal, map, option_map};
+ghost use Rattle.std.specs.Prelude.{◌≡◌, ◌++◌, IfOk, OnOk, IsTrue, List, codes, decimal, map, option_map};
 ghost use Rattle.std.specs.Rc.{rc_str_bytes};
 ghost use Rattle.rdx_term.specs.Context.{is_context};
 ghost use Rattle.rdx_term.specs.Spelling.{is_symbol_spelling};
-ghost use Rattle.rdx_term.specs.Text.{tree_text};
-ghost use Rattle.rdx_term.specs.View.{tree_of};
+ghost use Rattle.rdx_term.specs.Text.{spaced_text, tree_text};
+ghost use Rattle.rdx_term.specs.View.{tree_of, trees_of};
 ghost use Rattle.rdx_lang.specs.Bindings as bindings;
 ghost use Rattle.rdx_lang.specs.Bindings.{one, values};
 ghost use Rattle.rdx_lang.specs.BindingView.{value_of, pair_of};
 ghost use Rattle.rdx_lang.specs.ProgramView.{rule_of};
 ghost use Rattle.rdx_lang.specs.Shown.{binding_of, bindings_of, decomposition_of, decompositions_of};
+ghost use Rattle.rdx_eval.specs.Answers.{ambiguous, lengths_differ, not_context, spent};
 ghost use Rattle.rdx_eval.specs.Views.{fault_of};
-ghost use Rattle.rdx_defs.specs.RelationChecks.{label_text};
+ghost use Rattle.rdx_defs.specs.StandChecks.{label_text};
 ghost use Rattle.rdx_reduce.specs.StepView.{step_of};
 ghost use Rattle.rdx_query.specs.AnswerText as text;
 ghost use Rattle.rdx_query.specs.Inside.Contexts.{HaveContexts};
@@ -19,6 +20,7 @@ ghost use Rattle.rdx_query.specs.Inside.Whether as whether;
 ghost use Rattle.rdx_query.specs.StepAnswers as steps;
 
 use itoa::Buffer;
+use rdx_defs::operation_text;
 use rdx_eval::Fault;
 use rdx_fill::path_of;
 use rdx_lang::{Binding, Rule, Split, Value};
@@ -338,23 +340,129 @@ pub(crate) fn write_steps(rules: &[Rule], found: &[Step], out: &mut Vec<u8>) -> 
     write_step_lines(rules, found, out)
 }
 
-// What a fault is called, with its numbers.
+// The items of a list; other terms have none.
+fn items_of(term: &Term) -> &[Term]
+    ensures { trees_of result.now ≡ text.items_of (tree_of term.now) }
+{
+    match term {
+        Term::List(node) => node.items(),
+        Term::Hole | Term::Int(_) | Term::Bool(_) | Term::Str(_) | Term::Sym(_) => &[],
+    }
+}
+
+// Each term with a space before it.
+fn write_spaced(terms: &[Term], out: &mut Vec<u8>) -> Result<(), NoMemory>
+    ensures { OnOk result (out.new.items ≡ out.old.items ++ spaced_text (trees_of terms.now)) }
+{
+    for term in terms {
+        out.push(b' ')?;
+        text_of(term, out)?;
+    }
+    Ok(())
+}
+
+// `(name t ...)`: a call of what has this name, with these arguments.
+fn write_call(name: &str, args: &[Term], out: &mut Vec<u8>) -> Result<(), NoMemory>
+    ensures { OnOk result
+        (out.new.items ≡ out.old.items ++ text.call_text name.now (trees_of args.now)) }
+{
+    out.push(b'(')?;
+    out.extend_from_slice(name.as_bytes())?;
+    write_spaced(args, out)?;
+    out.push(b')')?;
+    Ok(())
+}
+
+// A call behind a word.
+fn write_word_call(
+    word: &[u8],
+    name: &str,
+    args: &[Term],
+    out: &mut Vec<u8>,
+) -> Result<(), NoMemory>
+    ensures { OnOk result (out.new.items ≡ out.old.items
+        ++ (word.now ++ text.call_text name.now (trees_of args.now))) }
+{
+    out.extend_from_slice(word)?;
+    write_call(name, args, out)
+}
+
+// `first and second`, two terms.
+fn write_two_terms(first: &Term, second: &Term, out: &mut Vec<u8>) -> Result<(), NoMemory>
+    ensures { OnOk result (out.new.items ≡ out.old.items
+        ++ (tree_text (tree_of first.now) ++ codes " and " ++ tree_text (tree_of second.now))) }
+{
+    text_of(first, out)?;
+    out.extend_from_slice(b" and ")?;
+    text_of(second, out)
+}
+
+// A call of a metafunction with several values, of which these two are the least.
+fn write_ambiguous(
+    name: &Name,
+    args: &Term,
+    first: &Term,
+    second: &Term,
+    out: &mut Vec<u8>,
+) -> Result<(), NoMemory>
+    ensures { OnOk result (out.new.items ≡ out.old.items ++ text.fault_name
+        (ambiguous name.now (tree_of args.now) (tree_of first.now) (tree_of second.now))) }
+{
+    write_word_call(b"Ambiguous ", name.text(), items_of(args), out)?;
+    out.extend_from_slice(b" gives ")?;
+    write_two_terms(first, second, out)
+}
+
+// How many holes there are in what is no context.
+fn write_not_context(holes: usize, out: &mut Vec<u8>) -> Result<(), NoMemory>
+    ensures { OnOk result (out.new.items ≡ out.old.items ++ text.fault_name (not_context holes)) }
+{
+    out.extend_from_slice(b"NotContext ")?;
+    write_number(holes, out)
+}
+
+// Two lengths that differ.
+fn write_lengths(first: usize, other: usize, out: &mut Vec<u8>) -> Result<(), NoMemory>
+    ensures { OnOk result
+        (out.new.items ≡ out.old.items ++ text.fault_name (lengths_differ first other)) }
+{
+    out.extend_from_slice(b"Lengths ")?;
+    write_number(first, out)?;
+    out.extend_from_slice(b" and ")?;
+    write_number(other, out)
+}
+
+// The name of a metafunction whose calls stand too high.
+fn write_spent(name: &Name, out: &mut Vec<u8>) -> Result<(), NoMemory>
+    ensures { OnOk result (out.new.items ≡ out.old.items ++ text.fault_name (spent name.now)) }
+{
+    out.extend_from_slice(b"Spent ")?;
+    print_bytes(name.text().as_bytes(), out)
+}
+
+// What a fault is called, with its numbers and terms.
 fn write_fault_name(fault: &Fault, out: &mut Vec<u8>) -> Result<(), NoMemory>
     ensures { OnOk result
         (out.new.items ≡ out.old.items ++ text.fault_name (fault_of fault.now)) }
 {
     match fault {
-        Fault::NotContext(holes) => {
-            out.extend_from_slice(b"NotContext ")?;
-            write_number(*holes as usize, out)
+        Fault::Undefined(name, args) => {
+            write_word_call(b"Undefined ", name.text(), items_of(args), out)
         }
+        Fault::Ambiguous(name, args, first, second) => {
+            write_ambiguous(name, args, first, second, out)
+        }
+        Fault::Spent(name) => write_spent(name, out),
+        Fault::NotContext(holes) => write_not_context(*holes as usize, out),
         Fault::TooDeep => print_bytes(b"TooDeep", out),
         Fault::TooLarge => print_bytes(b"TooLarge", out),
-        Fault::Lengths(first, other) => {
-            out.extend_from_slice(b"Lengths ")?;
-            write_number(*first, out)?;
-            out.extend_from_slice(b" and ")?;
-            write_number(*other, out)
+        Fault::Lengths(first, other) => write_lengths(*first, *other, out),
+        Fault::HostDomain(op, args) => {
+            write_word_call(b"HostDomain ", operation_text(*op), args, out)
+        }
+        Fault::Overflow(op, args) => write_word_call(b"Overflow ", operation_text(*op), args, out),
+        Fault::DivideByZero(op, args) => {
+            write_word_call(b"DivideByZero ", operation_text(*op), args, out)
         }
     }
 }

@@ -1,13 +1,13 @@
 -- One answer behind another.
 use Rattle.std.specs.Prelude.{◌≡◌, ℕ, Bool, true, false, List, ◌++◌, Result, Ok, Err}
 use Rattle.rdx_term.specs.Tree.{Tree}
+use Rattle.rdx_lang.specs.Programs.{Program}
 use Rattle.rdx_lang.specs.Templates.{Host}
 use Rattle.rdx_eval.specs.Views.{fault_of}
 use Rattle.rdx_eval.specs.declared.fault.EvalFault.{EvalFault}
 use Rattle.rdx_eval.specs.declared.fault.EvalFault.TheVariants.{Named, NoMemory}
 use Rattle.rdx_query.specs.AnswerText.{fault_line}
 use Rattle.rdx_query.specs.Answering.{IsAnswer, IsValueAnswer}
-use Rattle.rdx_query.specs.Known.{Known}
 use Rattle.rdx_query.specs.MatchAnswers.{IsMatchesAnswer, IsWhetherAnswer, IsSplitsAnswer}
 use Rattle.rdx_query.specs.Queries.{Query, matches, whether, splits, value, reducts, tagged}
 use Rattle.rdx_query.specs.StepAnswers.{IsReductsAnswer, IsTaggedAnswer}
@@ -19,8 +19,8 @@ pub record Appends (W : List ℕ → Bool → Type 0) (before after : List ℕ) 
   pub gained : after ≡ before ++ text
 
 -- the same of the answer to a query
-abbrev pub AppendsAnswer : Known → Query → List ℕ → List ℕ → Bool → Type 0
-AppendsAnswer K q = Appends (IsAnswer K q)
+abbrev pub AppendsAnswer : Program → Query → List ℕ → List ℕ → Bool → Type 0
+AppendsAnswer P q = Appends (IsAnswer P q)
 
 -- a text that W has is appended, and all is met; or nothing is, since there is a fault, of which W has the line, and something stays unmet
 abbrev pub Tries : {A : Type 0} → (List ℕ → Bool → Type 0) → List ℕ → List ℕ → Result A EvalFault → Type 0
@@ -38,10 +38,10 @@ host_in (reducts name h) = h
 host_in (tagged name h) = h
 
 -- the answer to a query, where its host expression makes the term t
-abbrev pub IsAnswerOver : Known → Query → Tree → List ℕ → Bool → Type 0
-IsAnswerOver K (matches name p h) t = IsMatchesAnswer K name p t
-IsAnswerOver K (whether name p h) t = IsWhetherAnswer K name p t
-IsAnswerOver K (splits name p h) t = IsSplitsAnswer K name p t
-IsAnswerOver K (value h) t = IsValueAnswer t
-IsAnswerOver K (reducts name h) t = IsReductsAnswer K name t
-IsAnswerOver K (tagged name h) t = IsTaggedAnswer K name t
+abbrev pub IsAnswerOver : Program → Query → Tree → List ℕ → Bool → Type 0
+IsAnswerOver P (matches name p h) t = IsMatchesAnswer P name p t
+IsAnswerOver P (whether name p h) t = IsWhetherAnswer P name p t
+IsAnswerOver P (splits name p h) t = IsSplitsAnswer P name p t
+IsAnswerOver P (value h) t = IsValueAnswer t
+IsAnswerOver P (reducts name h) t = IsReductsAnswer P name t
+IsAnswerOver P (tagged name h) t = IsTaggedAnswer P name t

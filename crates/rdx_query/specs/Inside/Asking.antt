@@ -1,51 +1,35 @@
 -- What is answered to a form that asks something.
-use Rattle.std.specs.Prelude.{◌≡◌, ℕ, true, false, List, [], Some, None, Result, Ok, Err}
+use Rattle.std.specs.Prelude.{◌≡◌, ℕ, true, false, List, Some, None, Result, Ok, Err}
 use Rattle.rdx_sexp.specs.Sexp.{Sexp}
 use Rattle.rdx_lang.specs.Checked.{pattern_in}
 use Rattle.rdx_lang.specs.Patterns.{Pattern}
 use Rattle.rdx_lang.specs.Templates.{Host}
 use Rattle.rdx_lang.specs.TemplateView.{host_of}
-use Rattle.rdx_lang.specs.declared.template.HostExpr.{HostExpr}
 use Rattle.rdx_grammar.specs.Parts.{is_symbol}
 use Rattle.rdx_grammar.specs.Unbuilt.{has_word_to_come}
 use Rattle.rdx_grammar.specs.declared.shape.fault.DefFault.{DefFault}
-use Rattle.rdx_defs.specs.TemplateRefusal.{template_refusal}
-use Rattle.rdx_query.specs.HostForms.{template_in, host_reading, value_refusal, value_query}
 use Rattle.rdx_query.specs.Known.{Known}
-use Rattle.rdx_query.specs.MatchForms.{query_parts, query_refusal, match_query}
-use Rattle.rdx_query.specs.Queries.{Query, value}
-use Rattle.rdx_query.specs.StepForms.{step_parts, steps_refusal, steps_query}
+use Rattle.rdx_query.specs.MatchForms.{QueryParts, query_parts, query_refusal, match_query}
+use Rattle.rdx_query.specs.Queries.{Query}
+use Rattle.rdx_query.specs.StepForms.{StepParts, step_parts, steps_refusal, steps_query}
 use Rattle.rdx_query.specs.Inside.Earlier.{IsFaultAt}
+use Rattle.rdx_query.specs.Inside.PartViews.{parts_of, steps_of}
 use Rattle.rdx_query.specs.declared.match_forms.Asked.{Asked}
-use Rattle.rdx_query.specs.declared.match_forms.Fit.{Fit}
-use Rattle.rdx_query.specs.declared.step_forms.StepFit.{StepFit}
+use Rattle.rdx_query.specs.declared.parts.QueryParts as code_query
+use Rattle.rdx_query.specs.declared.parts.StepParts as code_steps
 use Rattle.rdx_query.specs.declared.step_forms.Stepping.{Stepping}
-
--- ---- host expressions
-
--- the template t is what `(term t)` stands for, or it is refused, where no name is bound
-abbrev pub ReadsHost : Sexp → Result HostExpr DefFault → Type 0
-ReadsHost t (Ok h) = (template_refusal [] t ≡ None) × (host_of h ≡ host_reading (Some t))
-ReadsHost t (Err e) = IsFaultAt (template_refusal [] t) e
-
--- the answer to a form that is a host expression
-abbrev pub ValuesBy : Sexp → Result HostExpr DefFault → Type 0
-ValuesBy d (Ok h) = (value_refusal d ≡ None) × (value_query d ≡ Some (value (host_of h)))
-ValuesBy d (Err e) = IsFaultAt (value_refusal d) e
 
 -- ---- matches and splits
 
--- the query d over the language l has its shape, with the pattern p and the template t
-pub record IsFit (d l p t : Sexp) : Type 0 where
-  pub host : Sexp
-  pub parts : query_parts d ≡ Some (record { language = l; pattern = p; host = host })
-  pub template : template_in host ≡ Some t
-  pub symbol : is_symbol l ≡ true
+-- the query d has its shape, with these parts
+pub record IsFit (d : Sexp) (q : QueryParts) : Type 0 where
+  pub parts : query_parts d ≡ Some q
+  pub symbol : is_symbol q.language ≡ true
   pub built : has_word_to_come d ≡ false
 
 -- the answer of the check of its shape
-abbrev pub FitsBy : Sexp → Result Fit DefFault → Type 0
-FitsBy d (Ok f) = IsFit d f.language.now f.pattern.now f.template.now
+abbrev pub FitsBy : Sexp → Result code_query.QueryParts DefFault → Type 0
+FitsBy d (Ok q) = IsFit d (parts_of q)
 FitsBy d (Err e) = (K : Known) → IsFaultAt (query_refusal K d (query_parts d)) e
 
 -- the query is accepted, and asks for the pattern p and what h makes in the language of this name
@@ -60,23 +44,21 @@ AsksBy K d (Err e) = IsFaultAt (query_refusal K d (query_parts d)) e
 
 -- ---- steps
 
--- the form d that asks for the steps of r has its shape, with the template t
-pub record IsStepFit (d r t : Sexp) : Type 0 where
-  pub host : Sexp
-  pub parts : step_parts d ≡ Some (record { relation = r; host = host })
-  pub template : template_in host ≡ Some t
-  pub symbol : is_symbol r ≡ true
+-- the form d that asks for steps has its shape, with these parts
+pub record IsStepFit (d : Sexp) (q : StepParts) : Type 0 where
+  pub parts : step_parts d ≡ Some q
+  pub symbol : is_symbol q.relation ≡ true
   pub built : has_word_to_come d ≡ false
 
 -- the answer of the check of its shape
-abbrev pub StepFitsBy : Sexp → Result StepFit DefFault → Type 0
-StepFitsBy d (Ok f) = IsStepFit d f.relation.now f.template.now
+abbrev pub StepFitsBy : Sexp → Result code_steps.StepParts DefFault → Type 0
+StepFitsBy d (Ok q) = IsStepFit d (steps_of q)
 StepFitsBy d (Err e) = (K : Known) → IsFaultAt (steps_refusal K d (step_parts d)) e
 
 -- the form is accepted, and asks for steps of the relation of this name from what h makes
 pub record IsStepping (K : Known) (d : Sexp) (name : List ℕ) (h : Host) : Type 0 where
   pub passes : steps_refusal K d (step_parts d) ≡ None
-  pub means : (kind : List ℕ → Host → Query) → steps_query kind d ≡ Some (kind name h)
+  pub means : (kind : List ℕ → Host → Query) → steps_query K kind d ≡ Some (kind name h)
 
 -- the answer to the form
 abbrev pub StepsAskedBy : Known → Sexp → Result Stepping DefFault → Type 0

@@ -1,13 +1,14 @@
--- What is answered to a form that defines a language or a relation.
+-- What is answered to a form that defines something.
 use Rattle.std.specs.Prelude.{◌≡◌, [], ◌∷◌, Option, Some, None, option_map, Result, Ok, Err}
 use Rattle.rdx_sexp.specs.Sexp.{Sexp}
 use Rattle.rdx_lang.specs.Checked.{language_in}
 use Rattle.rdx_lang.specs.Edges.{IsFree, IsFirstRecursive}
 use Rattle.rdx_lang.specs.Patterns.{Language}
 use Rattle.rdx_lang.specs.Programs as model
-use Rattle.rdx_lang.specs.ProgramView.{relation_of}
+use Rattle.rdx_lang.specs.ProgramView.{metafunction_of, relation_of}
 use Rattle.rdx_lang.specs.declared.checked.CheckedLang.{CheckedLang}
 use Rattle.rdx_lang.specs.declared.pattern.Ref.{Ref}
+use Rattle.rdx_lang.specs.declared.program.Metafunction.{Metafunction}
 use Rattle.rdx_lang.specs.declared.program.Relation.{Relation}
 use Rattle.rdx_defs.specs.RelationForms.{relation_form}
 use Rattle.rdx_defs.specs.RelationReading.{relation_reading}
@@ -20,11 +21,11 @@ use Rattle.rdx_grammar.specs.Refusal.{Refusal, refusal_of, first_refusal}
 use Rattle.rdx_grammar.specs.Refused.{recursion_at}
 use Rattle.rdx_grammar.specs.declared.shape.fault.DefFault.{DefFault}
 use Rattle.rdx_grammar.specs.declared.shape.fault.DefFault.TheVariants.{Refused, NoMemory}
-use Rattle.rdx_query.specs.Definitions.{language, relation}
+use Rattle.rdx_query.specs.Definitions.{language, metafunction, relation}
 use Rattle.rdx_query.specs.File.{Defines, IsRefusedForm}
 use Rattle.rdx_query.specs.Known.{Known}
-use Rattle.rdx_query.specs.LanguageForms.{language_refusal, named_base, unknown_at, name_taken_at}
-use Rattle.rdx_query.specs.RelationForms.{bad_name_at}
+use Rattle.rdx_query.specs.LanguageForms.{language_refusal, language_escape, named_base, unknown_at, name_taken_at}
+use Rattle.rdx_query.specs.RelationForms.{bad_relation_at}
 use Rattle.rdx_query.specs.Inside.Earlier.{earlier, IsFaultAt}
 use Rattle.rdx_query.specs.Inside.PartViews.{second_item, language_item}
 
@@ -35,11 +36,13 @@ pub record IsDefined (K : Known) (base : Language) (l0 : Option Sexp) (d : Sexp)
   pub passes : language_refusal K base l0 d g ≡ None
   pub means : option_map (language_over base) g ≡ Some L
   pub free : IsFree L
+  pub passes_late : language_escape d g ≡ None
 
 -- a form with these parts is refused
 pub data IsRefusedLanguage (K : Known) (base : Language) (l0 : Option Sexp) (d : Sexp) (g : Option GrammarForm) (r : Refusal) : Type 0 where
   language_by_check : language_refusal K base l0 d g ≡ Some r → IsRefusedLanguage K base l0 d g r
   language_by_recursion : (L : Language) (x : Ref) → language_refusal K base l0 d g ≡ None → option_map (language_over base) g ≡ Some L → IsFirstRecursive L x → r ≡ recursion_at d x → IsRefusedLanguage K base l0 d g r
+  language_by_escape : (L : Language) → language_refusal K base l0 d g ≡ None → option_map (language_over base) g ≡ Some L → IsFree L → language_escape d g ≡ Some r → IsRefusedLanguage K base l0 d g r
 
 -- the form is refused so, unless memory ran out
 abbrev pub IsLanguageFault : Known → Language → Option Sexp → Sexp → Option GrammarForm → DefFault → Type 0
@@ -63,6 +66,11 @@ abbrev pub DefinesBy : Known → Sexp → Result CheckedLang DefFault → Type 0
 DefinesBy K d (Ok c) = Defines K d (language (language_in c))
 DefinesBy K d (Err e) = IsFormFault K d e
 
+-- the answer to a form that defines a metafunction
+abbrev pub FunctionsBy : Known → Sexp → Result Metafunction DefFault → Type 0
+FunctionsBy K d (Ok f) = Defines K d (metafunction (metafunction_of f))
+FunctionsBy K d (Err e) = IsFormFault K d e
+
 -- the answer to a form that defines a relation
 abbrev pub RelatesBy : Known → Sexp → Result Relation DefFault → Type 0
 RelatesBy K d (Ok r) = Defines K d (relation (relation_of r))
@@ -74,12 +82,12 @@ RelatesBy K d (Err e) = IsFormFault K d e
 abbrev pub parts_refusal : Known → Sexp → Sexp → Option Refusal
 parts_refusal K x body =
     earlier
-    (first_refusal (unknown_at K (language_item body) ∷ name_taken_at K x ∷ bad_name_at x ∷ []))
-    (relation_refusal (names_of (named_base K (language_item body))) body)
+    (first_refusal (unknown_at K (language_item body) ∷ name_taken_at K x ∷ bad_relation_at x ∷ []))
+    (relation_refusal K.scope (names_of (named_base K (language_item body))) body)
 
 -- the relation that it defines, if the list has its parts
 abbrev pub parts_relation : Known → Sexp → Sexp → Option model.Relation
-parts_relation K x body = option_map (relation_reading (names_of (named_base K (language_item body))) (text_of x)) (relation_form body)
+parts_relation K x body = option_map (relation_reading K.scope (names_of (named_base K (language_item body))) (text_of x)) (relation_form body)
 
 -- the answer to such a form
 abbrev pub RelatesOver : Known → Sexp → Sexp → Result Relation DefFault → Type 0

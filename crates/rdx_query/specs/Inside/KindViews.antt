@@ -1,9 +1,11 @@
 -- What the kinds of the code stand for.
 use Rattle.rdx_query.specs.FormKinds as model
 use Rattle.rdx_query.specs.declared.kind.DefinitionKind.{DefinitionKind}
-use Rattle.rdx_query.specs.declared.kind.DefinitionKind.TheVariants.{Language, Extension, Relation}
+use Rattle.rdx_query.specs.declared.kind.DefinitionKind.TheVariants.{Language, Extension, Metafunction, Relation}
 use Rattle.rdx_query.specs.declared.kind.FormKind.{FormKind}
-use Rattle.rdx_query.specs.declared.kind.FormKind.TheVariants.{Defines, Asks}
+use Rattle.rdx_query.specs.declared.kind.FormKind.TheVariants.{Defines, Asks, Passes, ToCome}
+use Rattle.rdx_query.specs.declared.kind.PassedKind.{PassedKind}
+use Rattle.rdx_query.specs.declared.kind.PassedKind.TheVariants.{Wants, Offers}
 use Rattle.rdx_query.specs.declared.kind.QueryKind.{QueryKind}
 use Rattle.rdx_query.specs.declared.kind.QueryKind.TheVariants.{Match, Whether, Decompose, Value, Reducts, Tagged}
 
@@ -11,6 +13,7 @@ use Rattle.rdx_query.specs.declared.kind.QueryKind.TheVariants.{Match, Whether, 
 abbrev pub definition_kind_of : DefinitionKind → model.DefinitionKind
 definition_kind_of Language = model.language
 definition_kind_of Extension = model.extension
+definition_kind_of Metafunction = model.metafunction
 definition_kind_of Relation = model.relation
 
 -- what a form asks
@@ -22,7 +25,14 @@ query_kind_of Value = model.value
 query_kind_of Reducts = model.reducts
 query_kind_of Tagged = model.tagged
 
+-- what is passed over
+abbrev pub passed_kind_of : PassedKind → model.PassedKind
+passed_kind_of Wants = model.wants
+passed_kind_of Offers = model.offers
+
 -- what a form does
 abbrev pub kind_of : FormKind → model.FormKind
 kind_of (Defines k) = model.defines (definition_kind_of k)
 kind_of (Asks k) = model.asks (query_kind_of k)
+kind_of (Passes k) = model.passes (passed_kind_of k)
+kind_of ToCome = model.to_come

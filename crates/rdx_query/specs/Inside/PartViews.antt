@@ -55,6 +55,6 @@ abbrev pub may_name_item : Option Sexp → Option Sexp
 may_name_item None = None
 may_name_item (Some l) = if may_name l then Some l else None
 
--- the second item, where it may name a language: the one in a list that says what a relation is
+-- the second item, where it may name a language: in a form that defines a metafunction, or in a list that says what a relation is
 abbrev pub language_item : Sexp → Option Sexp
 language_item d = may_name_item (second_item d)

@@ -3,7 +3,7 @@ use Rattle.std.specs.Prelude.{◌≡◌, List, [], ◌∷◌, ◌++◌, Result, 
 use Rattle.rdx_sexp.specs.Sexp.{Sexp}
 use Rattle.rdx_grammar.specs.declared.shape.fault.DefFault.{DefFault}
 use Rattle.rdx_query.specs.Definitions.{Defined}
-use Rattle.rdx_query.specs.File.{Defines, Asks}
+use Rattle.rdx_query.specs.File.{Defines, Asks, IsPassedOver}
 use Rattle.rdx_query.specs.Known.{Known, with_definition}
 use Rattle.rdx_query.specs.Queries.{Query}
 use Rattle.rdx_query.specs.Views.{query_of}
@@ -14,6 +14,7 @@ use Rattle.rdx_query.specs.declared.file.Query as code_query
 pub data Step (K : Known) (qs : List Query) (d : Sexp) (J : Known) (rs : List Query) : Type 0 where
   step_defines : (x : Defined) → Defines K d x → J ≡ with_definition K x → rs ≡ qs → Step K qs d J rs
   step_asks : (q : Query) → Asks K d q → J ≡ K → rs ≡ qs ++ q ∷ [] → Step K qs d J rs
+  step_passes : IsPassedOver K d → J ≡ K → rs ≡ qs → Step K qs d J rs
 
 -- the form adds what it does, or it is refused
 abbrev pub StepsBy : {A : Type 0} → Known → List Query → Sexp → Result A DefFault → Known → List Query → Type 0
@@ -35,3 +36,8 @@ AddsBy K d (Err e) J = IsFormFault K d e
 abbrev pub AsksQuery : Known → Sexp → Result code_query.Query DefFault → Type 0
 AsksQuery K d (Ok q) = Asks K d (query_of q)
 AsksQuery K d (Err e) = IsFormFault K d e
+
+-- the answer to a form that is passed over, whatever is known
+abbrev pub PassesBy : {A : Type 0} → Sexp → Result A DefFault → Type 0
+PassesBy d (Ok x) = (K : Known) → IsPassedOver K d
+PassesBy d (Err e) = (K : Known) → IsFormFault K d e

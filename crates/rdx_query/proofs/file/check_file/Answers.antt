@@ -1,6 +1,7 @@
 use Rattle.std.proofs.Common.{map, arith}
 use Rattle.std.proofs.lemmas.Result.{err_from_is_err_and}
-use Rattle.rdx_query.specs.Views.{known_of, query_of}
+use Rattle.rdx_query.specs.Inside.KnownView.{known_of}
+use Rattle.rdx_query.specs.Views.{query_of}
 use Rattle.rdx_query.proofs.FileRead.{so_far-next, so_far-fault, so_far-end, form-readable}
 use Rattle.rdx_query.proofs.file.check_file.Goals as goal
 
@@ -9,15 +10,15 @@ read_form-requires c = form-readable c.args.forms.now c.loop-form.form-index c.f
 
 pub returns-in_err-read_form-clause-refused : goal.returns-in_err-read_form-clause-refused
 returns-in_err-read_form-clause-refused c =
-    let p = err_from_is_err_and c.from_residual.result c.from_residual.ensures.1 in
-    rw (p.1, p.2) (so_far-fault c.args.forms.now c.loop-form.form-index c.form-item.result (known_of c.loop-form.program) (map query_of c.loop-form.queries.items)
+    let p = err_from_is_err_and c.from_residual-in_err-read_form.result c.from_residual-in_err-read_form.ensures.1 in
+    rw (p.1, p.2) (so_far-fault c.args.forms.now c.loop-form.form-index c.form-item.result (known_of c.loop-form.known) (map query_of c.loop-form.queries.items)
     c.in_err-read_form.field-0.0 c.loop-form-test.true c.form-item.is c.in_err-read_form.ensures c.loop-form.invariant)
 
 pub loop-form-preserved : goal.loop-form-preserved
 loop-form-preserved c =
-    so_far-next c.args.forms.now c.loop-form.form-index c.form-item.result (known_of c.loop-form.program) (known_of c.read_form.new.program)
+    so_far-next c.args.forms.now c.loop-form.form-index c.form-item.result (known_of c.loop-form.known) (known_of c.read_form.new.known)
     (map query_of c.loop-form.queries.items) (map query_of c.read_form.new.queries.items) c.loop-form-test.true c.form-item.is c.in_ok-read_form.ensures c.loop-form.invariant
 
 pub returns-clause-accepted : goal.returns-clause-accepted
 returns-clause-accepted c =
-    so_far-end c.args.forms.now c.loop-form.form-index (known_of c.loop-form.program) (map query_of c.loop-form.queries.items) (omega arith) c.loop-form.invariant
+    so_far-end c.args.forms.now c.loop-form.form-index (known_of c.loop-form.known) (map query_of c.loop-form.queries.items) (omega arith) c.loop-form.invariant

@@ -1,13 +1,17 @@
 use Rattle.std.proofs.Common.{map}
-use Rattle.rdx_query.specs.Views.{known_of, query_of}
-use Rattle.rdx_query.proofs.FormSteps.{adds_step, query_step}
+use Rattle.rdx_query.specs.Inside.KnownView.{known_of}
+use Rattle.rdx_query.specs.Views.{query_of}
+use Rattle.rdx_query.proofs.FormSteps.{adds_step, query_step, passes_step}
 use Rattle.rdx_query.proofs.forms.read_form.Goals as goal
 
-pub returns-in-Some-Defines : goal.returns-in-Some-Defines
-returns-in-Some-Defines c =
-    adds_step (known_of c.args.program.now) (known_of c.define.new.program) (map query_of c.args.queries.now.items) c.args.form.now c.define.result c.define.ensures
+pub returns-in-Defines : goal.returns-in-Defines
+returns-in-Defines c =
+    adds_step (known_of c.args.known.now) (known_of c.define.new.known) (map query_of c.args.queries.now.items) c.args.form.now c.define.result c.define.ensures
 
-pub returns-in_ok-push-in-Some-Asks : goal.returns-in_ok-push-in-Some-Asks
-returns-in_ok-push-in-Some-Asks c =
-    query_step c.args.program.now c.question.new.program c.args.queries.now.items c.push.new.self.items c.in_ok-query-in-Some-Asks.query c.args.form.now
-    c.in_ok-query-in-Some-Asks.ensures.same c.in_ok-push-in-Some-Asks.ensures.items c.in_ok-query-in-Some-Asks.ensures.asks
+pub returns-in_ok-push-in-Asks : goal.returns-in_ok-push-in-Asks
+returns-in_ok-push-in-Asks c =
+    query_step c.args.known.now c.question.new.known c.args.queries.now.items c.push.new.self.items c.in_ok-query-in-Asks.query c.args.form.now
+    c.in_ok-query-in-Asks.ensures.same c.in_ok-push-in-Asks.ensures.items c.in_ok-query-in-Asks.ensures.asks
+
+pub returns-in-Passes : goal.returns-in-Passes
+returns-in-Passes c = passes_step (known_of c.args.known.now) (map query_of c.args.queries.now.items) c.args.form.now c.pass.result c.pass.ensures

@@ -1,4 +1,4 @@
-use Rattle.rdx_query.proofs.Examples.{answers_in_order, whole_answer, inherited, one_split, filled_term, fault_answered, one_reduct_two_steps, own_hole, one_hole, no_own_hole, nested_sequences, own_hole_in_sequence, length_in_decimal, first_refused_form, earlier_languages_only, taken_name, host_expression, few_items, left_recursion}
+use Rattle.rdx_query.proofs.Examples.{answers_in_order, whole_answer, inherited, one_split, filled_term, fault_answered, one_reduct_two_steps, own_hole, one_hole, no_own_hole, nested_sequences, own_hole_in_sequence, length_in_decimal, first_refused_form, earlier_languages_only, taken_name, host_expression, other_form, sum, wanted, other_module, known_before, few_items, left_recursion}
 use Rattle.rdx_query.proofs.laws.worked_examples.Goals as goal
 
 pub returns-clause-answers_in_order : goal.returns-clause-answers_in_order
@@ -57,3 +57,18 @@ returns-clause-fault_answered c = fault_answered
 
 pub returns-clause-one_reduct_two_steps : goal.returns-clause-one_reduct_two_steps
 returns-clause-one_reduct_two_steps c = one_reduct_two_steps
+
+pub returns-clause-other_form : goal.returns-clause-other_form
+returns-clause-other_form c = other_form
+
+pub returns-clause-sum : goal.returns-clause-sum
+returns-clause-sum c = sum
+
+pub returns-clause-wanted : goal.returns-clause-wanted
+returns-clause-wanted c = wanted
+
+pub returns-clause-other_module : goal.returns-clause-other_module
+returns-clause-other_module c = other_module
+
+pub returns-clause-known_before : goal.returns-clause-known_before
+returns-clause-known_before c = known_before

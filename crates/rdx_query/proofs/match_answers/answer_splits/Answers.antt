@@ -7,7 +7,7 @@ use Rattle.rdx_query.proofs.Contexts.{listed-contexts}
 use Rattle.rdx_query.proofs.match_answers.answer_splits.Goals as goal
 
 pub write_splits-requires : goal.write_splits-requires
-write_splits-requires c =
+write_splits-requires g c =
     let found = c.in_ok-found.found.items in
     subst (λ ss. HaveContexts (decompositions_of ss)) (sym c.deref.ensures.value)
     (listed-contexts (language_in c.language-language.result.now) (pattern_in c.args.pat.now) (tree_of c.args.t.now) (decompositions_of found)

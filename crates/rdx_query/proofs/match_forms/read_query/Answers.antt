@@ -1,4 +1,4 @@
-use Rattle.std.proofs.Common.{◌≡◌, Some, None, sym, subst, ◌∙◌, ap}
+use Rattle.std.proofs.Common.{◌≡◌, [], Some, None, sym, subst, ◌∙◌, ap}
 use Rattle.std.proofs.lemmas.Result.{err_from_is_err_and}
 use Rattle.rdx_lang.specs.Checked.{language_in}
 use Rattle.rdx_lang.specs.Patterns.{Language}
@@ -6,57 +6,58 @@ use Rattle.rdx_lang.specs.Programs.{language_named}
 use Rattle.rdx_grammar.specs.Answers.{ReadsPattern}
 use Rattle.rdx_grammar.specs.Nonterminals.{names_of}
 use Rattle.rdx_grammar.specs.Parts.{text_of}
-use Rattle.rdx_query.specs.Inside.Asking.{ReadsHost}
-use Rattle.rdx_query.specs.Views.{known_of}
+use Rattle.rdx_defs.specs.Answers.{ReadsHost}
+use Rattle.rdx_query.specs.Inside.KnownView.{known_of}
+use Rattle.rdx_query.specs.Inside.PartViews.{parts_of}
 use Rattle.rdx_query.proofs.QueryChecks.{pattern-readable, host-readable, parts-fault, parts-asked, unknown-fault, language_named-name}
 use Rattle.rdx_query.proofs.match_forms.read_query.Goals as goal
 
-pub returns-in_err-fit-clause-asks : goal.returns-in_err-fit-clause-asks
-returns-in_err-fit-clause-asks c =
+pub returns-in_err-parts-clause-asks : goal.returns-in_err-parts-clause-asks
+returns-in_err-parts-clause-asks c =
     let p = err_from_is_err_and c.from_residual.result c.from_residual.ensures.1 in
-    rw (p.1, p.2) (c.in_err-fit.ensures (known_of c.args.program.now))
+    rw (p.1, p.2) (c.in_err-parts.ensures (known_of c.args.known.now))
 
-pub read_host-host-requires : goal.read_host-host-requires
-read_host-host-requires c =
-    let f = c.in_ok-fit.fit in
-    host-readable (known_of c.args.program.now) c.args.form.now f.language.now f.pattern.now f.template.now c.in_ok-fit.ensures c.requires
+pub read_unbound-host-requires : goal.read_unbound-host-requires
+read_unbound-host-requires c =
+    let q = parts_of c.in_ok-parts.parts in
+    host-readable (known_of c.args.known.now) c.args.form.now q c.in_ok-parts.ensures c.requires
 
 pub read_over-requires-clause-readable : goal.read_over-requires-clause-readable
 read_over-requires-clause-readable c =
-    let f = c.in_ok-fit.fit in
-    pattern-readable (known_of c.args.program.now) c.args.form.now f.language.now f.pattern.now f.template.now c.in_ok-fit.ensures c.requires
+    let q = parts_of c.in_ok-parts.parts in
+    pattern-readable (known_of c.args.known.now) c.args.form.now q c.in_ok-parts.ensures c.requires
 
 pub returns-in_err-pat-in-Some-clause-asks : goal.returns-in_err-pat-in-Some-clause-asks
 returns-in_err-pat-in-Some-clause-asks c =
-    let f = c.in_ok-fit.fit in
-    let K = known_of c.args.program.now in
+    let q = parts_of c.in_ok-parts.parts in
+    let K = known_of c.args.known.now in
     let l = c.index.result.now in
-    let k : language_named K (text_of f.language.now) ≡ Some (language_in l) = ap (language_named K) (sym c.text.ensures) ∙ c.in-Some.ensures.some l c.index.ensures in
+    let k : language_named K.program (text_of q.language) ≡ Some (language_in l) = ap (language_named K.program) (sym c.text.ensures) ∙ c.in-Some.ensures.some l c.index.ensures in
     let p = err_from_is_err_and c.from_residual-in_err-pat-in-Some.result c.from_residual-in_err-pat-in-Some.ensures.1 in
-    rw (p.1, p.2) (parts-fault K c.args.form.now f.language.now f.pattern.now f.template.now c.in_ok-fit.ensures (language_in l) k c.read_over.result c.read_host-host.result c.in_err-pat-in-Some.field-0.0
-    (c.read_over.ensures.reads l c.index.ensures) c.read_host-host.ensures c.in_err-pat-in-Some.ensures.refused)
+    rw (p.1, p.2) (parts-fault K c.args.form.now q c.in_ok-parts.ensures (language_in l) k c.read_over.result c.read_unbound-host.result c.in_err-pat-in-Some.field-0.0
+    (c.read_over.ensures.reads l c.index.ensures) c.read_unbound-host.ensures c.in_err-pat-in-Some.ensures.refused)
 
 pub returns-in_ok-pat-in-Some-clause-asks : goal.returns-in_ok-pat-in-Some-clause-asks
 returns-in_ok-pat-in-Some-clause-asks c =
-    let f = c.in_ok-fit.fit in
-    let K = known_of c.args.program.now in
+    let q = parts_of c.in_ok-parts.parts in
+    let K = known_of c.args.known.now in
     let l = c.index.result.now in
-    let k : language_named K (text_of f.language.now) ≡ Some (language_in l) = ap (language_named K) (sym c.text.ensures) ∙ c.in-Some.ensures.some l c.index.ensures in
-    parts-asked K c.args.form.now f.language.now f.pattern.now f.template.now c.in_ok-fit.ensures (language_in l) k c.in_ok-pat-in-Some.pat c.in_ok-pat-in-Some.host c.in_ok-name-in-Some.name
-    (subst (ReadsPattern (names_of (language_in l)) f.pattern.now) c.in_ok-pat-in-Some.ensures.read.0 (c.read_over.ensures.reads l c.index.ensures))
-    (subst (ReadsHost f.template.now) c.in_ok-pat-in-Some.ensures.read.1 c.read_host-host.ensures)
-    (c.in_ok-name-in-Some.ensures ∙ ap (λ (M : Language). M.name) c.language.ensures.value ∙ language_named-name K (text_of f.language.now) (language_in l) k)
+    let k : language_named K.program (text_of q.language) ≡ Some (language_in l) = ap (language_named K.program) (sym c.text.ensures) ∙ c.in-Some.ensures.some l c.index.ensures in
+    parts-asked K c.args.form.now q c.in_ok-parts.ensures (language_in l) k c.in_ok-pat-in-Some.pat c.in_ok-pat-in-Some.host c.in_ok-name-in-Some.name
+    (subst (ReadsPattern (names_of (language_in l)) q.pattern) c.in_ok-pat-in-Some.ensures.read.0 (c.read_over.ensures.reads l c.index.ensures))
+    (subst (ReadsHost K.scope [] q.host) c.in_ok-pat-in-Some.ensures.read.1 c.read_unbound-host.ensures)
+    (c.in_ok-name-in-Some.ensures ∙ ap (λ (M : Language). M.name) c.language.ensures.value ∙ language_named-name K.program (text_of q.language) (language_in l) k)
 
 pub read_pattern-pat-requires : goal.read_pattern-pat-requires
 read_pattern-pat-requires c =
-    let f = c.in_ok-fit.fit in
-    pattern-readable (known_of c.args.program.now) c.args.form.now f.language.now f.pattern.now f.template.now c.in_ok-fit.ensures c.requires
+    let q = parts_of c.in_ok-parts.parts in
+    pattern-readable (known_of c.args.known.now) c.args.form.now q c.in_ok-parts.ensures c.requires
 
 pub returns-in_ok-empty_language-in-None-clause-asks : goal.returns-in_ok-empty_language-in-None-clause-asks
 returns-in_ok-empty_language-in-None-clause-asks c =
-    let f = c.in_ok-fit.fit in
-    let K = known_of c.args.program.now in
-    let n : language_named K (text_of f.language.now) ≡ None = ap (language_named K) (sym c.text.ensures) ∙ c.in-None.ensures.none in
-    unknown-fault K c.args.form.now f.language.now f.pattern.now f.template.now c.in_ok-fit.ensures (names_of (language_in c.in_ok-empty_language-in-None.field-0)) c.in_ok-unknown-in-None.unknown
-    c.read_pattern-pat.result c.read_host-host.result c.both-in-None.result c.first_fault.result n c.in_ok-empty_language-in-None.ensures c.in_ok-unknown-in-None.ensures
-    c.read_pattern-pat.ensures.reads c.read_host-host.ensures c.both-in-None.ensures.refused c.first_fault.ensures
+    let q = parts_of c.in_ok-parts.parts in
+    let K = known_of c.args.known.now in
+    let n : language_named K.program (text_of q.language) ≡ None = ap (language_named K.program) (sym c.text.ensures) ∙ c.in-None.ensures.none in
+    unknown-fault K c.args.form.now q c.in_ok-parts.ensures (names_of (language_in c.in_ok-empty_language-in-None.field-0)) c.in_ok-unknown-in-None.unknown
+    c.read_pattern-pat.result c.read_unbound-host.result c.both-in-None.result c.first_fault.result n c.in_ok-empty_language-in-None.ensures c.in_ok-unknown-in-None.ensures
+    c.read_pattern-pat.ensures.reads c.read_unbound-host.ensures c.both-in-None.ensures.refused c.first_fault.ensures

@@ -1,7 +1,8 @@
 use Rattle.std.proofs.Common.{◌≡◌, Some, map, refl, subst}
 use Rattle.rdx_term.specs.Tree.{Tree}
 use Rattle.rdx_term.specs.View.{tree_of}
-use Rattle.rdx_lang.specs.ProgramView.{relation_of}
+use Rattle.rdx_lang.specs.ProgramView.{program_of, relation_of}
+use Rattle.rdx_lang.specs.Programs as programs
 use Rattle.rdx_lang.specs.Programs.{Relation, relation_named}
 use Rattle.rdx_lang.specs.declared.program.Program.{Program}
 use Rattle.rdx_eval.specs.Answers.{value, fault}
@@ -9,28 +10,26 @@ use Rattle.rdx_eval.specs.Views.{program_in, terms_in}
 use Rattle.rdx_reduce.specs.Relations.{AreSteps}
 use Rattle.rdx_reduce.specs.StepView.{steps_in}
 use Rattle.rdx_query.specs.AnswerText.{reducts_text}
-use Rattle.rdx_query.specs.Known.{Known}
 use Rattle.rdx_query.specs.StepAnswers.{reducts_found, no_reducts, IsReductsAnswer}
-use Rattle.rdx_query.specs.Views.{known_of}
 use Rattle.rdx_query.proofs.Trying.{error_tried}
 use Rattle.rdx_query.proofs.step_answers.answer_reducts.Goals as goal
 
 pub returns-in_err-found-clause-answer : goal.returns-in_err-found-clause-answer
-returns-in_err-found-clause-answer c =
-    let K : Known = known_of (program_in c.args.engine.now).now in
+returns-in_err-found-clause-answer g c =
+    let P : programs.Program = program_of (program_in c.args.engine.now).now in
     let R : Relation = relation_of c.relation-relation.result.now in
     let t : Tree = tree_of c.args.t.now in
-    let known : relation_named K c.args.name.now ≡ Some R =
-    subst (λ (p : Program). relation_named (known_of p) c.args.name.now ≡ Some R) c.program.ensures c.relation-relation.ensures in
-    error_tried steps_in (AreSteps K R t) (IsReductsAnswer K c.args.name.now t) c.args.out.now.items c.from_residual.result _ c.from_residual.ensures.1
+    let known : relation_named P c.args.name.now ≡ Some R =
+    subst (λ (p : Program). relation_named (program_of p) c.args.name.now ≡ Some R) c.program.ensures c.relation-relation.ensures in
+    error_tried steps_in (AreSteps P R t) (IsReductsAnswer P c.args.name.now t) c.args.out.now.items c.from_residual.result _ c.from_residual.ensures.1
     (λ f h. record { relation = R; known = known; answer = fault f; steps = h; written = no_reducts refl refl }) c.in_err-found.ensures.answer
 
 pub returns-clause-answer : goal.returns-clause-answer
-returns-clause-answer c =
-    let K : Known = known_of (program_in c.args.engine.now).now in
+returns-clause-answer g c =
+    let P : programs.Program = program_of (program_in c.args.engine.now).now in
     let R : Relation = relation_of c.relation-relation.result.now in
-    let known : relation_named K c.args.name.now ≡ Some R =
-    subst (λ (p : Program). relation_named (known_of p) c.args.name.now ≡ Some R) c.program.ensures c.relation-relation.ensures in
+    let known : relation_named P c.args.name.now ≡ Some R =
+    subst (λ (p : Program). relation_named (program_of p) c.args.name.now ≡ Some R) c.program.ensures c.relation-relation.ensures in
     record {
       text = reducts_text (map tree_of c.deref.result.now);
       answer = record {

@@ -4,42 +4,43 @@ use Rattle.rdx_lang.specs.ProgramView.{relation_of}
 use Rattle.rdx_lang.specs.Programs.{relation_named}
 use Rattle.rdx_grammar.specs.Parts.{text_of}
 use Rattle.rdx_grammar.specs.Refusal.{refusal_of}
-use Rattle.rdx_query.specs.Views.{known_of}
+use Rattle.rdx_query.specs.Inside.KnownView.{known_of}
+use Rattle.rdx_query.specs.Inside.PartViews.{steps_of}
 use Rattle.rdx_query.proofs.StepChecks.{host-readable, host-fault, host-asked, unknown-fault, relation_named-name}
 use Rattle.rdx_query.proofs.step_forms.read_steps.Goals as goal
 
-pub returns-in_err-fit : goal.returns-in_err-fit
-returns-in_err-fit c =
+pub returns-in_err-parts : goal.returns-in_err-parts
+returns-in_err-parts c =
     let p = err_from_is_err_and c.from_residual.result c.from_residual.ensures.1 in
-    rw (p.1, p.2) (c.in_err-fit.ensures (known_of c.args.program.now))
+    rw (p.1, p.2) (c.in_err-parts.ensures (known_of c.args.known.now))
 
-pub read_host-host-requires : goal.read_host-host-requires
-read_host-host-requires c =
-    let f = c.in_ok-fit.fit in
-    host-readable (known_of c.args.program.now) c.args.form.now f.relation.now f.template.now c.in_ok-fit.ensures c.requires
+pub read_unbound-host-requires : goal.read_unbound-host-requires
+read_unbound-host-requires c =
+    let q = steps_of c.in_ok-parts.parts in
+    host-readable (known_of c.args.known.now) c.args.form.now q c.in_ok-parts.ensures c.requires
 
 pub returns-in_err-host-in-Some : goal.returns-in_err-host-in-Some
 returns-in_err-host-in-Some c =
-    let f = c.in_ok-fit.fit in
-    let K = known_of c.args.program.now in
+    let q = steps_of c.in_ok-parts.parts in
+    let K = known_of c.args.known.now in
     let R = relation_of c.in-Some.relation.now in
-    let k : relation_named K (text_of f.relation.now) ≡ Some R = ap (relation_named K) (sym c.text.ensures) ∙ sym c.in-Some.ensures in
+    let k : relation_named K.program (text_of q.relation) ≡ Some R = ap (relation_named K.program) (sym c.text.ensures) ∙ sym c.in-Some.ensures in
     let p = err_from_is_err_and c.from_residual-in_err-host-in-Some.result c.from_residual-in_err-host-in-Some.ensures.1 in
-    rw (p.1, p.2) (host-fault K c.args.form.now f.relation.now f.template.now c.in_ok-fit.ensures R k c.in_err-host-in-Some.field-0.0 c.in_err-host-in-Some.ensures)
+    rw (p.1, p.2) (host-fault K c.args.form.now q c.in_ok-parts.ensures R k c.in_err-host-in-Some.field-0.0 c.in_err-host-in-Some.ensures)
 
 pub returns-in_ok-relation-in-Some : goal.returns-in_ok-relation-in-Some
 returns-in_ok-relation-in-Some c =
-    let f = c.in_ok-fit.fit in
-    let K = known_of c.args.program.now in
+    let q = steps_of c.in_ok-parts.parts in
+    let K = known_of c.args.known.now in
     let R = relation_of c.in-Some.relation.now in
-    let k : relation_named K (text_of f.relation.now) ≡ Some R = ap (relation_named K) (sym c.text.ensures) ∙ sym c.in-Some.ensures in
-    host-asked K c.args.form.now f.relation.now f.template.now c.in_ok-fit.ensures R k c.in_ok-host-in-Some.host c.in_ok-relation-in-Some.relation c.in_ok-host-in-Some.ensures
-    (c.in_ok-relation-in-Some.ensures ∙ relation_named-name K (text_of f.relation.now) R k)
+    let k : relation_named K.program (text_of q.relation) ≡ Some R = ap (relation_named K.program) (sym c.text.ensures) ∙ sym c.in-Some.ensures in
+    host-asked K c.args.form.now q c.in_ok-parts.ensures R k c.in_ok-host-in-Some.host c.in_ok-relation-in-Some.relation c.in_ok-host-in-Some.ensures
+    (c.in_ok-relation-in-Some.ensures ∙ relation_named-name K.program (text_of q.relation) R k)
 
 pub returns-in_ok-unknown-in-None : goal.returns-in_ok-unknown-in-None
 returns-in_ok-unknown-in-None c =
-    let f = c.in_ok-fit.fit in
-    let K = known_of c.args.program.now in
-    let n : relation_named K (text_of f.relation.now) ≡ None = ap (relation_named K) (sym c.text.ensures) ∙ sym c.in-None.ensures in
-    unknown-fault K c.args.form.now f.relation.now f.template.now c.in_ok-fit.ensures c.read_host-host.result c.first_fault.result (refusal_of c.in_ok-unknown-in-None.unknown) n
-    (ap Some (sym c.in_ok-unknown-in-None.ensures)) c.read_host-host.ensures c.first_fault.ensures
+    let q = steps_of c.in_ok-parts.parts in
+    let K = known_of c.args.known.now in
+    let n : relation_named K.program (text_of q.relation) ≡ None = ap (relation_named K.program) (sym c.text.ensures) ∙ sym c.in-None.ensures in
+    unknown-fault K c.args.form.now q c.in_ok-parts.ensures c.read_unbound-host.result c.first_fault.result (refusal_of c.in_ok-unknown-in-None.unknown) n
+    (ap Some (sym c.in_ok-unknown-in-None.ensures)) c.read_unbound-host.ensures c.first_fault.ensures
