@@ -2,8 +2,7 @@
 use Rattle.std.proofs.Common.{◌≡◌, ℕ, List, ap, sym, ◌∙◌, subst, arith}
 use Rattle.rdx_grammar.specs.Refusal.{Refusal}
 use Rattle.rdx_query.specs.Answering.{Writes}
-use Rattle.rdx_query.specs.File.{Refuses}
-use Rattle.rdx_query.specs.Known.{nothing}
+use Rattle.rdx_query.specs.File.{IsFileRefusal}
 use Rattle.rdx_query.specs.Laws.{OneText, OneRefusal, NeverBothTextAndRefusal}
 use Rattle.rdx_sexp.specs.Laws.{OneReading, OneFault, DataOrFault}
 use Rattle.rdx_sexp.specs.Sexp.{Sexp}
@@ -35,7 +34,7 @@ module _ (one_reading : OneReading) (one_fault : OneFault) (data_or_fault : Data
   -- ---- what `run` writes
 
   -- data with a form that is refused have one line
-  one_form_line : (ds : List Sexp) (t u : List ℕ) (r q : Refusal) → Refuses nothing ds r → Refuses nothing ds q → t ≡ form_line r → u ≡ form_line q → t ≡ u
+  one_form_line : (ds : List Sexp) (t u : List ℕ) (r q : Refusal) → IsFileRefusal ds r → IsFileRefusal ds q → t ≡ form_line r → u ≡ form_line q → t ≡ u
   one_form_line ds t u r q a b e g = e ∙ ap form_line (one_refusal ds r q a b) ∙ sym g
 
   run_writes_once : (bytes t u : List ℕ) (v w : Verdict) → RunWrites bytes t v → RunWrites bytes u w → (t ≡ u) × (v ≡ w)
@@ -45,14 +44,14 @@ module _ (one_reading : OneReading) (one_fault : OneFault) (data_or_fault : Data
   run_writes_once bytes t u v w (refused ds r a n m e) (unread b g) = absurd (not_data bytes u ds b a)
   run_writes_once bytes t u v w (refused ds r a n m e) (refused es q b k l g) =
       let d : es ≡ ds = same_data bytes es ds b a in
-      (one_form_line ds t u r q n (subst (λ (xs : List Sexp). Refuses nothing xs q) d k) m l, e ∙ sym g)
+      (one_form_line ds t u r q n (subst (λ (xs : List Sexp). IsFileRefusal xs q) d k) m l, e ∙ sym g)
   run_writes_once bytes t u v w (refused ds r a n m e) (answered es p b k g) =
       let d : es ≡ ds = same_data bytes es ds b a in
       absurd (never_both ds u p r (subst (λ (xs : List Sexp). Writes xs u p) d k) n)
   run_writes_once bytes t u v w (answered ds m a n e) (unread b g) = absurd (not_data bytes u ds b a)
   run_writes_once bytes t u v w (answered ds m a n e) (refused es q b k l g) =
       let d : es ≡ ds = same_data bytes es ds b a in
-      absurd (never_both ds t m q n (subst (λ (xs : List Sexp). Refuses nothing xs q) d k))
+      absurd (never_both ds t m q n (subst (λ (xs : List Sexp). IsFileRefusal xs q) d k))
   run_writes_once bytes t u v w (answered ds m a n e) (answered es p b k g) =
       let d : es ≡ ds = same_data bytes es ds b a in
       let same = one_text ds t u m p n (subst (λ (xs : List Sexp). Writes xs u p) d k) in

@@ -22,8 +22,8 @@ use Rattle.rdx_query.specs.Definitions.{Defined}
 use Rattle.rdx_query.specs.Examples.{word, number, defines_L, asks, AnswersInOrder}
 use Rattle.rdx_query.specs.Examples.{form as spanned}
 use Rattle.rdx_query.specs.Forms.{form_refusal, form_definition}
-use Rattle.rdx_query.specs.Known.{Known, nothing, with_definition}
-use Rattle.rdx_query.specs.File.{Accepts, by_check, accepts_none, accepts_definition, accepts_query, refuses_here}
+use Rattle.rdx_query.specs.Known.{Known, empty_program, nothing_in, with_definition}
+use Rattle.rdx_query.specs.File.{Accepts, by_check, accepts_none, accepts_definition, accepts_query, accepts_passed, refuses_here}
 use Rattle.rdx_cli.specs.Examples.{QueriesAreAnswered, CommentsAreAnswered, FormIsRefused, BracketIsRefused}
 use Rattle.rdx_cli.specs.Refusals.{read_line, form_line}
 use Rattle.rdx_cli.specs.Transcript.{AreData, at_fault, unread, refused, answered}
@@ -141,33 +141,41 @@ sample_first =
 abbrev sample_second : Sexp
 sample_second = asks sample (word sample (codes "L")) (number sample 1) (number sample 1)
 
--- what is known behind the first form
+-- what is known before the first form: none of them defines a metafunction
+abbrev start : Known
+start = nothing_in (record { metafunctions = [] })
+
+-- what is known behind it
 abbrev behind : Option Defined → Known
-behind None = nothing
-behind (Some x) = with_definition nothing x
+behind None = start
+behind (Some x) = with_definition start x
 
 -- the forms are accepted as those are, since spans count in refusals alone
-second_accepted : {x K qs : _} → form_definition nothing (defines_L sample) ≡ Some x → Accepts (with_definition nothing x) (sample_second ∷ []) K qs →
-    Accepts (with_definition nothing x) (second_query ∷ []) K qs
+second_accepted : {x K qs : _} → form_definition start (defines_L sample) ≡ Some x → Accepts (with_definition start x) (sample_second ∷ []) K qs →
+    Accepts (with_definition start x) (second_query ∷ []) K qs
 second_accepted e (accepts_definition d a) = let n = d.means in absurd cc
+second_accepted e (accepts_passed d a) = let n = d.means in absurd cc
 second_accepted e (accepts_query a accepts_none) =
     accepts_query (record { passes = subst (λ o. form_refusal (behind o) second_query ≡ None) e refl; means = a.means }) accepts_none
 
-queries_accepted : {x K qs : _} → form_definition nothing (defines_L sample) ≡ Some x → Accepts (with_definition nothing x) (sample_first ∷ sample_second ∷ []) K qs →
-    Accepts (with_definition nothing x) (first_query ∷ second_query ∷ []) K qs
+queries_accepted : {x K qs : _} → form_definition start (defines_L sample) ≡ Some x → Accepts (with_definition start x) (sample_first ∷ sample_second ∷ []) K qs →
+    Accepts (with_definition start x) (first_query ∷ second_query ∷ []) K qs
 queries_accepted e (accepts_definition d a) = let n = d.means in absurd cc
+queries_accepted e (accepts_passed d a) = let n = d.means in absurd cc
 queries_accepted e (accepts_query a b) =
     accepts_query (record { passes = subst (λ o. form_refusal (behind o) first_query ≡ None) e refl; means = a.means }) (second_accepted e b)
 
-forms_accepted : {K qs : _} → Accepts nothing (defines_L sample ∷ sample_first ∷ sample_second ∷ []) K qs → Accepts nothing answered_forms K qs
-forms_accepted (accepts_definition d a) = accepts_definition (record { passes = refl; means = d.means; sound = d.sound }) (queries_accepted d.means a)
+forms_accepted : {K qs : _} → Accepts start (defines_L sample ∷ sample_first ∷ sample_second ∷ []) K qs → Accepts start answered_forms K qs
+forms_accepted (accepts_definition d a) =
+    accepts_definition (record { passes = refl; means = d.means; sound = d.sound; passes_late = refl }) (queries_accepted d.means a)
 forms_accepted (accepts_query a b) = let n = a.means in absurd cc
+forms_accepted (accepts_passed a b) = let n = a.means in absurd cc
 
 pub queries_are_answered : AnswersInOrder → QueriesAreAnswered
 queries_are_answered answers_in_order =
     let w = answers_in_order sample in
     answered answered_forms true answered_data
-    (record { known = w.known; queries = w.queries; accepted = forms_accepted w.accepted; answers = w.answers }) refl
+    (record { program = w.program; queries = w.queries; accepted = forms_accepted w.accepted; answers = w.answers }) refl
 
 -- ---- no form
 
@@ -175,7 +183,7 @@ pub comments_are_answered : CommentsAlone → CommentsAreAnswered
 comments_are_answered comments_alone =
     let size : length (codes "#; a ; b") ≡ 8 = refl in
     answered [] true (record { limit = omega (arith, size); read = comments_alone })
-    (record { known = nothing; queries = []; accepted = accepts_none; answers = no_answers }) refl
+    (record { program = empty_program; queries = []; accepted = accepts_none; answers = no_answers }) refl
 
 -- ---- a form that is refused
 

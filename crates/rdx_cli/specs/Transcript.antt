@@ -5,8 +5,7 @@ use Rattle.rdx_sexp.specs.Sexp.{Sexp}
 use Rattle.rdx_sexp.specs.declared.fault.ReadRefusal.{ReadRefusal}
 use Rattle.rdx_grammar.specs.Refusal.{Refusal}
 use Rattle.rdx_query.specs.Answering.{Writes}
-use Rattle.rdx_query.specs.File.{Refuses}
-use Rattle.rdx_query.specs.Known.{nothing}
+use Rattle.rdx_query.specs.File.{IsFileRefusal}
 use Rattle.rdx_cli.specs.Refusals.{read_line, form_line}
 use Rattle.rdx_cli.specs.declared.transcript.Verdict.{Verdict}
 use Rattle.rdx_cli.specs.declared.transcript.Verdict.TheVariants.{Done, Unmet, Refused}
@@ -32,7 +31,7 @@ verdict_of false = Unmet
 -- of its first such form. For every other file the answers to its queries are written.
 pub data RunWrites (bytes text : List ℕ) (verdict : Verdict) : Type 0 where
   unread : IsUnread bytes text → verdict ≡ Refused → RunWrites bytes text verdict
-  refused : (ds : List Sexp) (r : Refusal) → AreData bytes ds → Refuses nothing ds r → text ≡ form_line r → verdict ≡ Refused → RunWrites bytes text verdict
+  refused : (ds : List Sexp) (r : Refusal) → AreData bytes ds → IsFileRefusal ds r → text ≡ form_line r → verdict ≡ Refused → RunWrites bytes text verdict
   answered : (ds : List Sexp) (met : Bool) → AreData bytes ds → Writes ds text met → verdict ≡ verdict_of met → RunWrites bytes text verdict
 
 -- the text that is written for a file and the verdict on it, row by row of the table of words

@@ -4,6 +4,11 @@ use crate::top::{Status, run};
 use crate::writing::write_text;
 use crate::{status_without_words, words_of};
 use rdx_base::{MemSink, MemSource, SteadySource};
+use rdx_delta::{
+    HostEntry, HostTable, host_add, host_add1, host_eq, host_equal, host_ge, host_gt, host_is_zero,
+    host_le, host_lt, host_mul, host_not, host_quotient, host_remainder, host_sub, host_sub1,
+};
+use rdx_lang::HostOp;
 use std::alloc::{AllocError, Global};
 use std::env::{Env, FillError};
 use std::process::Abort;
@@ -11,6 +16,37 @@ use std::str::from_utf8;
 use std::test::Fail;
 
 // ---- runs over memory
+
+// The table of host operations.
+fn host_table<R: Abort + AllocGlobal>(rt: &R) -> Result<HostTable, Fail> {
+    let entries = Vec::from_array(
+        rt.alloc(),
+        [
+            HostEntry::new(HostOp::Add, host_add),
+            HostEntry::new(HostOp::Sub, host_sub),
+            HostEntry::new(HostOp::Mul, host_mul),
+            HostEntry::new(HostOp::Quotient, host_quotient),
+            HostEntry::new(HostOp::Remainder, host_remainder),
+            HostEntry::new(HostOp::Add1, host_add1),
+            HostEntry::new(HostOp::Sub1, host_sub1),
+            HostEntry::new(HostOp::Eq, host_eq),
+            HostEntry::new(HostOp::Lt, host_lt),
+            HostEntry::new(HostOp::Le, host_le),
+            HostEntry::new(HostOp::Gt, host_gt),
+            HostEntry::new(HostOp::Ge, host_ge),
+            HostEntry::new(HostOp::IsZero, host_is_zero),
+            HostEntry::new(HostOp::Equal, host_equal),
+            HostEntry::new(HostOp::Not, host_not),
+        ],
+    );
+    let Ok(entries) = entries else {
+        panic!(rt; "no entries")
+    };
+    match HostTable::new(entries) {
+        Ok(table) => Ok(table),
+        Err(_) => panic!(rt; "no table"),
+    }
+}
 
 // How many bytes a call moves at most, and the call that fails, if one does.
 #[derive(Clone, Copy)]
@@ -58,7 +94,8 @@ fn run_on<R: Abort + AllocGlobal>(
         failing_calls(alloc, takes)?,
     );
     let mut sink = MemSink::new(puts.piece, failing_calls(alloc, puts)?);
-    let ended = run(alloc, &owned, &mut source, &mut sink);
+    let table = host_table(rt)?;
+    let ended = run(alloc, &owned, &mut source, &mut sink, &table);
     let (file, written) = (from_utf8(bytes), from_utf8(sink.written()));
     assert_eq!(rt; ended, status, "at {words:?} and the file {file:?}");
     assert_eq!(rt;
@@ -76,7 +113,7 @@ const PAIRS: &str =
 
 const PAIRS_MATCHED: &str = "match 1\n  e_1 = 1, e_2 = (2 3)\n";
 
-const ANSWERED: [(&str, &str); 12] = [
+const ANSWERED: [(&str, &str); 13] = [
     (PAIRS, PAIRS_MATCHED),
     ("", ""),
     // What two derivations bind alike is listed once.
@@ -133,6 +170,10 @@ const ANSWERED: [(&str, &str); 12] = [
         "match 1\n  E_1 = (f (f hole))\n",
     ),
     ("(term (in-hole (1 hole) 2))", "value (1 2)\n"),
+    (
+        "(term 170141183460469231731687303715884105727)",
+        "value 170141183460469231731687303715884105727\n",
+    ),
     // Two rules lead to one term: one reduct, and two steps.
     (
         "(define-language L (e 1)) (define R (reduction-relation L (--> e 2 a) (--> e 2 \"b c\")))\n\
@@ -143,7 +184,7 @@ const ANSWERED: [(&str, &str); 12] = [
 ];
 
 // A fault is answered by its line, and so are the queries behind it.
-const UNMET: [(&str, &str); 2] = [
+const UNMET: [(&str, &str); 7] = [
     (
         "(term (in-hole 1 2)) (term 1)",
         "fault NotContext 0\nvalue 1\n",
@@ -153,9 +194,41 @@ const UNMET: [(&str, &str); 2] = [
          (apply-reduction-relation R (term 2)) (apply-reduction-relation R (term 1))",
         "reducts 0\nfault NotContext 0\n",
     ),
+    (
+        "(+ 170141183460469231731687303715884105727 1) (quotient 1 0) (+ (term a) 1)\n\
+         (remainder -7 2) (and #f (quotient 1 0))",
+        "fault Overflow (+ 170141183460469231731687303715884105727 1)\n\
+         fault DivideByZero (quotient 1 0)\nfault HostDomain (+ a 1)\nvalue -1\nvalue #f\n",
+    ),
+    // A call that comes to no end.
+    (
+        "(define-language L (n number)) (define-metafunction L [(f n) (f n)])\n\
+         (term (f 1)) (term 2)",
+        "fault Spent f\nvalue 2\n",
+    ),
+    // One clause makes two values, no clause makes one, and one clause makes one.
+    (
+        "(define-language L (n number))\n\
+         (define-metafunction L [(g (any_1 ... any_2 any_3 ...)) any_2])\n\
+         (term (g (1 2))) (term (g ())) (term (g (5)))",
+        "fault Ambiguous (g (1 2)) gives 1 and 2\nfault Undefined (g ())\nvalue 5\n",
+    ),
+    (
+        "(define-language L (n number))\n\
+         (define-metafunction L [(zip (any_1 ...) (any_2 ...)) ((any_2 any_1) ...)])\n\
+         (term (zip (1 3) (2 4))) (term (zip (1 2) (3)))",
+        "value ((2 1) (4 3))\nfault Lengths 1 and 2\n",
+    ),
+    // Calls may stand 400 high.
+    (
+        "(define-language L (n natural))\n\
+         (define-metafunction L [(cnt 0) 0] [(cnt n) (cnt ,(sub1 (term n)))])\n\
+         (term (cnt 399)) (term (cnt 400)) (term (cnt 399))",
+        "value 0\nfault Spent cnt\nvalue 0\n",
+    ),
 ];
 
-const REFUSED: [(&str, &str); 22] = [
+const REFUSED: [(&str, &str); 23] = [
     // These are no data.
     ("(term (1 2)", "refused F2 Unclosed at 1:1\n"),
     ("(term (1]", "refused F3 WrongClose at 1:9\n"),
@@ -170,7 +243,7 @@ const REFUSED: [(&str, &str); 22] = [
     // Each of these has a form that is refused.
     (
         "#| a #| b |# c |# #;(x [y]) (foo)",
-        "refused S0 Unbuilt at 1:29\n",
+        "refused S10 RacketEscape at 1:29\n",
     ),
     (
         "(define-language L (e number)) (redex-match L (cross e) (term 1))",
@@ -219,6 +292,7 @@ const REFUSED: [(&str, &str); 22] = [
     ),
     ("(term (1 ...))", "refused S9 EllipsisVariable at 1:8\n"),
     ("(define x 1)", "refused S10 RacketEscape at 1:1\n"),
+    ("(term ,(list 1))", "refused S10 RacketEscape at 1:8\n"),
 ];
 
 #[test]
@@ -241,6 +315,7 @@ fn files_have_their_transcripts(rt: HostRuntime) -> Result<(), Fail> {
 fn a_longer_file_is_refused(rt: HostRuntime) -> Result<(), Fail> {
     let alloc = rt.alloc();
     let words = vec![in alloc; String::from_str(alloc, "run")?]?;
+    let table = host_table(&rt)?;
     let rows = [
         (1_048_576, Status::Done, b"".as_slice()),
         (
@@ -253,7 +328,7 @@ fn a_longer_file_is_refused(rt: HostRuntime) -> Result<(), Fail> {
         let spaces = vec![in alloc; b' '; size]?;
         let mut source = SteadySource::new(spaces, 2_000_000);
         let mut sink = MemSink::new(5, Vec::new(alloc));
-        let ended = run(alloc, &words, &mut source, &mut sink);
+        let ended = run(alloc, &words, &mut source, &mut sink, &table);
         assert_eq!(rt; ended, status);
         assert_eq!(rt; sink.written(), text);
     }
@@ -368,7 +443,10 @@ fn takes_ask_for_a_piece_or_the_rest(rt: HostRuntime) -> Result<(), Fail> {
         let wanted = if call < 3 {
             (Status::ReadFault, b"".as_slice())
         } else {
-            (Status::Refused, b"refused S0 Unbuilt at 1:1\n".as_slice())
+            (
+                Status::Refused,
+                b"refused S10 RacketEscape at 1:1\n".as_slice(),
+            )
         };
         run_on(&rt, &["run"], &[b'x'; 5000], takes, STEADY, wanted)?;
     }

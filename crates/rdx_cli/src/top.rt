@@ -10,6 +10,7 @@ use crate::transcript::{Verdict, transcript_of};
 use crate::words::mode_of;
 use crate::writing::write_text;
 use rdx_base::{Sink, Source};
+use rdx_delta::HostTable;
 use std::alloc::Global;
 
 /// How a run ended.
@@ -41,12 +42,13 @@ impl Status {
 }
 
 /// Reads a file, and writes what the words ask for, of which the definition is in
-/// `specs/Transcript.antt`.
+/// `specs/Transcript.antt`. Host expressions of the file ask the table.
 pub fn run<S: Source, K: Sink>(
     alloc: Global,
     words: &[String],
     source: &mut S,
     sink: &mut K,
+    host: &HostTable,
 ) -> Status
     // The words decide about the usage, and then nothing is read.
     ensures usage { (result ≡ Status.Usage) ↔ FitsNoRow (texts words.now) }
@@ -80,7 +82,7 @@ pub fn run<S: Source, K: Sink>(
         Err(ReadFailure::Failed) => return Status::ReadFault,
         Err(ReadFailure::NoMemory) => return Status::NoMemory,
     };
-    let Ok(transcript) = transcript_of(alloc, &mode, &bytes) else {
+    let Ok(transcript) = transcript_of(alloc, &mode, &bytes, host) else {
         return Status::NoMemory;
     };
     if !write_text(sink, &transcript.text) {

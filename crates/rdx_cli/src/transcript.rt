@@ -5,6 +5,7 @@ ghost use Rattle.rdx_cli.specs.Transcript.{IsTranscript, RunWrites, verdict_of};
 use crate::contents::{Contents, contents_of};
 use crate::refusals::form_line;
 use crate::words::Mode;
+use rdx_delta::HostTable;
 use rdx_grammar::DefFault;
 use rdx_query::{Answered, answer, check_file};
 use rdx_term::NoMemory;
@@ -31,16 +32,21 @@ pub struct Transcript {
 }
 
 /// What the row of the table asks for, of a file of these bytes.
-pub fn transcript_of(alloc: Global, mode: &Mode, bytes: &[u8]) -> Result<Transcript, NoMemory>
+pub fn transcript_of(
+    alloc: Global,
+    mode: &Mode,
+    bytes: &[u8],
+    host: &HostTable,
+) -> Result<Transcript, NoMemory>
     ensures { IfOk result (λ t. IsTranscript mode.now bytes.now t.text.items t.verdict) }
 {
     match mode {
-        Mode::Run => run_transcript(alloc, bytes),
+        Mode::Run => run_transcript(alloc, bytes, host),
     }
 }
 
 // The answers to the queries of a file, or the line that says why it is refused.
-fn run_transcript(alloc: Global, bytes: &[u8]) -> Result<Transcript, NoMemory>
+fn run_transcript(alloc: Global, bytes: &[u8], host: &HostTable) -> Result<Transcript, NoMemory>
     ensures { IfOk result (λ t. RunWrites bytes.now t.text.items t.verdict) }
 {
     let data = match contents_of(alloc, bytes)? {
@@ -48,7 +54,7 @@ fn run_transcript(alloc: Global, bytes: &[u8]) -> Result<Transcript, NoMemory>
         Contents::Unread(line) => return Ok(refused(line)),
     };
     match check_file(alloc, &data) {
-        Ok(file) => Ok(answered(answer(alloc, &file)?)),
+        Ok(file) => Ok(answered(answer(alloc, &file, host)?)),
         Err(DefFault::Refused(refusal)) => Ok(refused(form_line(alloc, &refusal)?)),
         Err(DefFault::NoMemory) => Err(NoMemory),
     }
