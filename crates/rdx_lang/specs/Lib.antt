@@ -17,6 +17,7 @@ pub mod TemplateView
 pub mod Programs
 pub mod ProgramView
 pub mod Fitting
+pub mod Modes
 pub mod Scopes
 pub mod Valid
 pub mod Order

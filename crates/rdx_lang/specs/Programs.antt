@@ -1,14 +1,21 @@
--- What a file defines, as plain data: languages, metafunctions, and reduction relations (after the Redex reference manual, "Other Relations"
--- and "Reduction Relations").
-use Rattle.std.specs.Prelude.{ℕ, List, [], ◌∷◌, Option, Some, None, bytes_eq, if◌then◌else◌}
+-- What a file defines, as plain data: languages, metafunctions, judgement forms and reduction relations (after the Redex reference manual, "Other
+-- Relations" and "Reduction Relations").
+use Rattle.std.specs.Prelude.{ℕ, Bool, List, [], ◌∷◌, Option, Some, None, bytes_eq, if◌then◌else◌}
 use Rattle.rdx_lang.specs.Patterns.{Pattern, Language}
 use Rattle.rdx_lang.specs.Templates.{Template, Host}
 
--- what a binding has to meet: what the template makes matches the pattern, whose names are bound from there on; or the host expression does
--- not make false
+-- what a premise asks of a judgement: its name, what makes its inputs, one after the other, and a pattern for the list of its outputs
+pub record Premise : Type 0 where
+  pub judgement : List ℕ
+  pub inputs : List Template
+  pub outputs : Pattern
+
+-- what a binding has to meet: what the template makes matches the pattern; the host expression does not make false; or the judgement has outputs,
+-- for what the inputs are, that match the pattern. The names of a pattern are bound from there on
 pub data Extra : Type 0 where
   such_as : Pattern → Template → Extra
   provided : Host → Extra
+  holds : Premise → Extra
 
 -- a clause of a metafunction: which lists of arguments it takes, what each binding has to meet, one after the other, and what makes the value
 pub record Clause : Type 0 where
@@ -24,7 +31,28 @@ pub record Metafunction : Type 0 where
   pub contract : Option (Pattern × Pattern)
   pub clauses : List Clause
 
--- a rule: its name, which terms it takes a step from, what each binding has to meet, one after the other, and what the step leads to
+-- for each argument of a judgement whether it is an input; else it is an output
+abbrev pub Mode : Type 0
+Mode = List Bool
+
+-- a rule of a judgement: its name, which lists of inputs it is for, what each binding has to meet, one premise after the other, and what makes
+-- the outputs, one after the other
+pub record JudgementRule : Type 0 where
+  pub name : Option (List ℕ)
+  pub inputs : Pattern
+  pub extras : List Extra
+  pub outputs : List Template
+
+-- a judgement: its name, that of its language, its mode, its contract, where it has one, of the list of all arguments, and its rules in their
+-- order
+pub record Judgement : Type 0 where
+  pub name : List ℕ
+  pub language : List ℕ
+  pub mode : Mode
+  pub contract : Option Pattern
+  pub rules : List JudgementRule
+
+-- a rule of a relation: its name, which terms it takes a step from, what each binding has to meet, one after the other, and what the step leads to
 pub record Rule : Type 0 where
   pub name : Option (List ℕ)
   pub pattern : Pattern
@@ -42,6 +70,7 @@ pub record Relation : Type 0 where
 pub record Program : Type 0 where
   pub languages : List Language
   pub metafunctions : List Metafunction
+  pub judgements : List Judgement
   pub relations : List Relation
 
 -- the first of these languages that has this name
@@ -61,6 +90,15 @@ metafunction_among (M ∷ Ms) x = if bytes_eq M.name x then Some M else metafunc
 -- the metafunction of a program that has this name
 abbrev pub metafunction_named : Program → List ℕ → Option Metafunction
 metafunction_named P x = metafunction_among P.metafunctions x
+
+-- the first of these judgements that has this name
+abbrev pub judgement_among : List Judgement → List ℕ → Option Judgement
+judgement_among [] x = None
+judgement_among (J ∷ Js) x = if bytes_eq J.name x then Some J else judgement_among Js x
+
+-- the judgement of a program that has this name
+abbrev pub judgement_named : Program → List ℕ → Option Judgement
+judgement_named P x = judgement_among P.judgements x
 
 -- the first of these relations that has this name
 abbrev pub relation_among : List Relation → List ℕ → Option Relation

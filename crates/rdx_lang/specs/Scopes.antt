@@ -5,7 +5,7 @@ use Rattle.std.specs.List.{list_any}
 use Rattle.rdx_lang.specs.Depths.{Use, uses}
 use Rattle.rdx_lang.specs.Fitting.{Bound}
 use Rattle.rdx_lang.specs.Patterns.{Pattern}
-use Rattle.rdx_lang.specs.Programs.{Extra, such_as, provided}
+use Rattle.rdx_lang.specs.Programs.{Extra, such_as, provided, holds}
 
 -- the use binds x, at depth d; a length name is bound, but at no depth
 abbrev pub binds : Use → List ℕ → ℕ → Bool
@@ -19,6 +19,7 @@ bound_by us x d = list_any (λ u. binds u x d) us
 abbrev pub extra_uses : Extra → List Use
 extra_uses (such_as p t) = uses 0 p
 extra_uses (provided h) = []
+extra_uses (holds q) = uses 0 q.outputs
 
 -- those in extras, in their order
 abbrev pub extras_uses : List Extra → List Use

@@ -55,10 +55,6 @@ NotBound = fits_there (repeated (var (codes "any_2") 1)) ≡ false
 abbrev pub CallDriven : Type 0
 CallDriven = fits_there (repeated (call (codes "f") (one any_1 nil))) ≡ true
 
--- `(g)` does not fit as a call, since g is no metafunction
-abbrev pub NoMetafunction : Type 0
-NoMetafunction = fits_there (call (codes "g") nil) ≡ false
-
 -- and so does a host expression: `(,(+ 1 (term any_1)) ...)` fits
 abbrev pub HostDriven : Type 0
 HostDriven = fits_there (repeated (host (apply Add (more (number (pos 1)) (more (term any_1) none))))) ≡ true
@@ -66,3 +62,7 @@ HostDriven = fits_there (repeated (host (apply Add (more (number (pos 1)) (more 
 -- `,(term any_1)` does not, under no ellipsis
 abbrev pub HostUnderNone : Type 0
 HostUnderNone = fits_there (host (term any_1)) ≡ false
+
+-- `(g)` does not fit as a call, since g is no metafunction
+abbrev pub NoMetafunction : Type 0
+NoMetafunction = fits_there (call (codes "g") nil) ≡ false

@@ -1,31 +1,34 @@
 -- When what a file defines is valid: each name that it uses is defined, once; its patterns are well formed; its templates fit.
-use Rattle.std.specs.Prelude.{ℕ, Bool, true, false, not, ◌&&◌, List, [], ◌∷◌, ◌++◌, Option, Some, None, is_some, map, bytes_eq}
+use Rattle.std.specs.Prelude.{ℕ, Bool, true, false, not, ◌&&◌, List, [], ◌∷◌, ◌++◌, Option, Some, None, is_some, map, option_map, length, bytes_eq}
 use Rattle.std.specs.List.{list_all}
 use Rattle.rdx_lang.specs.Depths.{Use, uses}
-use Rattle.rdx_lang.specs.Fitting.{Called, fits, fits_in}
+use Rattle.rdx_lang.specs.Fitting.{fits, fits_in}
+use Rattle.rdx_lang.specs.Modes.{Callable, fits_mode, rule_fits_mode, is_list_of}
 use Rattle.rdx_lang.specs.Patterns.{Pattern, Language}
-use Rattle.rdx_lang.specs.Programs.{Extra, such_as, provided, Clause, Metafunction, Rule, Relation, Program, language_named, metafunction_named}
+use Rattle.rdx_lang.specs.Programs.{Extra, such_as, provided, holds, Clause, Metafunction, Mode, JudgementRule, Judgement, Rule, Relation, Program, language_named, metafunction_named, judgement_named}
 use Rattle.rdx_lang.specs.Scopes.{bound_by, extra_uses, case_uses}
 use Rattle.rdx_lang.specs.Templates.{Template}
 use Rattle.rdx_lang.specs.WellFormed.{is_well_formed_in}
 
--- beside the metafunctions F, an extra before which these names are used is valid in the language
-abbrev pub is_valid_extra : Called → Language → List Use → Extra → Bool
-is_valid_extra F L us (such_as p t) = is_well_formed_in L p && fits F (bound_by us) 0 t
-is_valid_extra F L us (provided h) = fits_in F (bound_by us) 0 h
+-- beside what may be called, an extra before which these names are used is valid in the language
+abbrev pub is_valid_extra : Callable → Language → List Use → Extra → Bool
+is_valid_extra C L us (such_as p t) = is_well_formed_in L p && fits C.functions (bound_by us) 0 t
+is_valid_extra C L us (provided h) = fits_in C.functions (bound_by us) 0 h
+is_valid_extra C L us (holds q) =
+    fits_mode (C.modes q.judgement) q && (list_all (fits C.functions (bound_by us) 0) q.inputs && is_well_formed_in L q.outputs)
 
 -- extras are, one after the other
-abbrev pub are_valid_extras : Called → Language → List Use → List Extra → Bool
-are_valid_extras F L us [] = true
-are_valid_extras F L us (e ∷ es) = is_valid_extra F L us e && are_valid_extras F L (us ++ extra_uses e) es
+abbrev pub are_valid_extras : Callable → Language → List Use → List Extra → Bool
+are_valid_extras C L us [] = true
+are_valid_extras C L us (e ∷ es) = is_valid_extra C L us e && are_valid_extras C L (us ++ extra_uses e) es
 
 -- a pattern with extras and a result is: each of these sees the names of what comes before it
-abbrev pub is_valid_case : Called → Language → Pattern → List Extra → Template → Bool
-is_valid_case F L p es t = is_well_formed_in L p && (are_valid_extras F L (uses 0 p) es && fits F (bound_by (case_uses p es)) 0 t)
+abbrev pub is_valid_case : Callable → Language → Pattern → List Extra → Template → Bool
+is_valid_case C L p es t = is_well_formed_in L p && (are_valid_extras C L (uses 0 p) es && fits C.functions (bound_by (case_uses p es)) 0 t)
 
 -- a clause is
-abbrev pub is_valid_clause : Called → Language → Clause → Bool
-is_valid_clause F L c = is_valid_case F L c.arguments c.extras c.result
+abbrev pub is_valid_clause : Callable → Language → Clause → Bool
+is_valid_clause C L c = is_valid_case C L c.arguments c.extras c.result
 
 -- both patterns of a contract are well formed, where there is one
 abbrev pub is_valid_contract : Language → Option (Pattern × Pattern) → Bool
@@ -33,13 +36,31 @@ is_valid_contract L None = true
 is_valid_contract L (Some c) = is_well_formed_in L c.0 && is_well_formed_in L c.1
 
 -- a metafunction over this language is valid, if there is one
-abbrev pub is_valid_metafunction : Called → Option Language → Metafunction → Bool
-is_valid_metafunction F None M = false
-is_valid_metafunction F (Some L) M = is_valid_contract L M.contract && list_all (is_valid_clause F L) M.clauses
+abbrev pub is_valid_metafunction : Callable → Option Language → Metafunction → Bool
+is_valid_metafunction C None M = false
+is_valid_metafunction C (Some L) M = is_valid_contract L M.contract && list_all (is_valid_clause C L) M.clauses
 
--- a rule is
-abbrev pub is_valid_rule : Called → Language → Rule → Bool
-is_valid_rule F L r = is_valid_case F L r.pattern r.extras r.result
+-- a rule of a judgement of this mode is: its outputs see the names of its inputs and of its premises
+abbrev pub is_valid_judgement_rule : Callable → Language → Mode → JudgementRule → Bool
+is_valid_judgement_rule C L m r =
+    rule_fits_mode m r
+    && (is_well_formed_in L r.inputs
+    && (are_valid_extras C L (uses 0 r.inputs) r.extras && list_all (fits C.functions (bound_by (case_uses r.inputs r.extras)) 0) r.outputs))
+
+-- the contract of a judgement of this mode is well formed and fits it, where there is one
+abbrev pub is_valid_judgement_contract : Language → Mode → Option Pattern → Bool
+is_valid_judgement_contract L m None = true
+is_valid_judgement_contract L m (Some p) = is_list_of (length m) p && is_well_formed_in L p
+
+-- a judgement over this language is valid, if there is one
+abbrev pub is_valid_judgement : Callable → Option Language → Judgement → Bool
+is_valid_judgement C None J = false
+is_valid_judgement C (Some L) J =
+    is_valid_judgement_contract L J.mode J.contract && list_all (is_valid_judgement_rule C L J.mode) J.rules
+
+-- a rule of a relation is
+abbrev pub is_valid_rule : Callable → Language → Rule → Bool
+is_valid_rule C L r = is_valid_case C L r.pattern r.extras r.result
 
 -- the domain of a relation is well formed, where it has one
 abbrev pub is_valid_domain : Language → Option Pattern → Bool
@@ -47,21 +68,28 @@ is_valid_domain L None = true
 is_valid_domain L (Some p) = is_well_formed_in L p
 
 -- a relation over this language is valid, if there is one
-abbrev pub is_valid_over : Called → Option Language → Relation → Bool
-is_valid_over F None R = false
-is_valid_over F (Some L) R = is_valid_domain L R.domain && list_all (is_valid_rule F L) R.rules
+abbrev pub is_valid_over : Callable → Option Language → Relation → Bool
+is_valid_over C None R = false
+is_valid_over C (Some L) R = is_valid_domain L R.domain && list_all (is_valid_rule C L) R.rules
 
--- x is the name of a metafunction of the program
-abbrev pub has_metafunction : Program → Called
-has_metafunction P x = is_some (metafunction_named P x)
+-- what the rules of a program may call: its metafunctions, and its judgements by their modes
+abbrev pub callable_in : Program → Callable
+callable_in P = record {
+  functions = λ x. is_some (metafunction_named P x);
+  modes = λ x. option_map (λ J. J.mode) (judgement_named P x);
+}
 
 -- a relation is valid beside a program: its language is one of the program's
 abbrev pub is_valid_beside : Program → Relation → Bool
-is_valid_beside P R = is_valid_over (has_metafunction P) (language_named P R.language) R
+is_valid_beside P R = is_valid_over (callable_in P) (language_named P R.language) R
 
 -- a metafunction of a program is
 abbrev pub is_valid_in : Program → Metafunction → Bool
-is_valid_in P M = is_valid_metafunction (has_metafunction P) (language_named P M.language) M
+is_valid_in P M = is_valid_metafunction (callable_in P) (language_named P M.language) M
+
+-- a judgement of a program is
+abbrev pub is_valid_form : Program → Judgement → Bool
+is_valid_form P J = is_valid_judgement (callable_in P) (language_named P J.language) J
 
 -- x is none of these
 abbrev pub is_new : List ℕ → List (List ℕ) → Bool
@@ -73,10 +101,13 @@ abbrev pub are_distinct : List (List ℕ) → Bool
 are_distinct [] = true
 are_distinct (x ∷ xs) = is_new x xs && are_distinct xs
 
--- what a program defines goes by these names; languages, metafunctions and relations share one space of names
+-- what a program defines goes by these names; languages, metafunctions, judgements and relations share one space of names
 abbrev pub defined_names : Program → List (List ℕ)
-defined_names P = map (λ L. L.name) P.languages ++ map (λ M. M.name) P.metafunctions ++ map (λ R. R.name) P.relations
+defined_names P =
+    map (λ L. L.name) P.languages ++ map (λ M. M.name) P.metafunctions ++ map (λ J. J.name) P.judgements ++ map (λ R. R.name) P.relations
 
 -- a program is valid
 abbrev pub is_valid : Program → Bool
-is_valid P = are_distinct (defined_names P) && (list_all (is_valid_in P) P.metafunctions && list_all (is_valid_beside P) P.relations)
+is_valid P =
+    are_distinct (defined_names P)
+    && (list_all (is_valid_in P) P.metafunctions && (list_all (is_valid_form P) P.judgements && list_all (is_valid_beside P) P.relations))

@@ -50,6 +50,8 @@ pub use language::{Language, Ranks};
 pub use matcher::Matcher;
 pub use operation::HostOp;
 pub use pattern::{Item, Kind, Pat, Ref};
-pub use program::{Clause, Extra, Metafunction, Program, Relation, Rule};
+pub use program::{
+    Clause, Extra, JRule, Judgement, Metafunction, Premise, Program, Relation, Rule,
+};
 pub use split::Split;
 pub use template::{HostExpr, TItem, Template};

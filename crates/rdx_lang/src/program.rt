@@ -4,6 +4,17 @@ use crate::{CheckedLang, CheckedPat, HostExpr, Template};
 use rdx_term::Name;
 use std::rc::RcStr;
 
+/// What asks for a judgement.
+#[derive(Drop)]
+pub struct Premise {
+    /// What the judgement goes by.
+    pub judgement: Name,
+    /// What makes its inputs, in their order.
+    pub ins: Vec<Template>,
+    /// What the list of its outputs has to match.
+    pub outs: CheckedPat,
+}
+
 /// What a binding has to meet.
 #[derive(Drop)]
 pub enum Extra {
@@ -11,6 +22,9 @@ pub enum Extra {
     Where(CheckedPat, Template),
     /// `side-condition`: the host expression does not make false.
     Side(HostExpr),
+    /// The judgement has outputs for what the inputs make that match the pattern, whose names are
+    /// bound from there on.
+    Holds(Premise),
 }
 
 /// A clause of a metafunction.
@@ -35,6 +49,34 @@ pub struct Metafunction {
     pub contract: Option<(CheckedPat, CheckedPat)>,
     /// Its clauses, in their order.
     pub clauses: Vec<Clause>,
+}
+
+/// A rule of a judgement.
+#[derive(Drop)]
+pub struct JRule {
+    /// What the rule goes by, where it has a name.
+    pub name: Option<RcStr>,
+    /// Which lists of inputs it is for.
+    pub ins: CheckedPat,
+    /// What each binding has to meet, one after the other: its premises.
+    pub extras: Vec<Extra>,
+    /// What makes the outputs, in their order.
+    pub outs: Vec<Template>,
+}
+
+/// A judgement.
+#[derive(Drop)]
+pub struct Judgement {
+    /// What the judgement goes by.
+    pub name: Name,
+    /// The language of its patterns.
+    pub language: Name,
+    /// Its mode: for each argument whether it is an input; else it is an output.
+    pub inputs: Vec<bool>,
+    /// Its contract, where it has one: of the list of all arguments.
+    pub contract: Option<CheckedPat>,
+    /// Its rules, in their order.
+    pub rules: Vec<JRule>,
 }
 
 /// A rule of a relation.
@@ -70,6 +112,8 @@ pub struct Program {
     pub languages: Vec<CheckedLang>,
     /// The metafunctions, in the file's order.
     pub metafunctions: Vec<Metafunction>,
+    /// The judgements, in the file's order.
+    pub judgements: Vec<Judgement>,
     /// The relations, in the file's order.
     pub relations: Vec<Relation>,
 }

@@ -16,7 +16,8 @@ pub enum DefKind {
     Shape,
     /// No earlier form defines the language. The place and the name are those of the name.
     UnknownLanguage,
-    /// A language has the name of an earlier one, or a nonterminal is defined twice in one form. The place and the name are the second's.
+    /// A form defines a name that an earlier one has, or a nonterminal, a case or a rule has that of an earlier one in its form. The place and the
+    /// name are the second's.
     Duplicate,
     /// A name may not be that of a nonterminal, or of what else it is to name. The place and the name are its own.
     BadName,
@@ -27,12 +28,17 @@ pub enum DefKind {
     EllipsisDepth,
     /// The language is left-recursive. The place is the form's, and the name that of the first nonterminal that reaches itself.
     LeftRecursive,
-    /// No earlier form defines the relation, or the arrow is none. The place and the name are those of the name.
+    /// No earlier form defines the relation, no form of the file defines the judgement, or the arrow is none. The place and the name are those
+    /// of the name.
     UnknownName,
     /// An ellipsis of a template repeats what no name stands in that is bound under one. The place is that of what it repeats.
     EllipsisVariable,
     /// A form, or what stands in it, is Racket that means nothing here. The place is its own.
     RacketEscape,
+    /// A judgement has no mode, or one with an item that is neither `I` nor `O`, or a conclusion, a contract or a premise has another number of
+    /// arguments than its judgement's mode. The place is that of the form, the item, or what has that number, and the name the judgement's,
+    /// where there is a mode.
+    Mode,
 }
 
 /// A form that is refused: why, where, and the name at which it is, where there is one.

@@ -60,7 +60,7 @@ pub(crate) fn is_kept(text: &str) -> bool
 }
 
 /// Whether a language or a bound name may not have this name.
-pub(crate) fn is_bad_name(text: &str) -> bool
+pub fn is_bad_name(text: &str) -> bool
     ensures { result ≡ words.is_bad_name text.now }
 {
     text == "hole" || text == "_" || begins_with_dots(text)
