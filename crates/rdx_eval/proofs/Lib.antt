@@ -1,6 +1,7 @@
 pub mod Gathered
 pub mod HandedOn
 pub mod SaidOn
+pub mod SomeOutputs
 pub mod WithinLimits
 pub mod Sequences
 pub mod OneAnswer
@@ -16,3 +17,4 @@ pub mod Calling
 pub mod LeastValues
 pub mod Examples
 pub mod CallExamples
+pub mod JudgementExamples

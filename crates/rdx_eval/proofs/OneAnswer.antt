@@ -5,21 +5,22 @@ use Rattle.std.specs.declared.cmp.Ordering.{Ordering}
 use Rattle.rdx_term.specs.Model.TotalOrder.{tree_cmp-total}
 use Rattle.rdx_term.specs.Order.{tree_cmp}
 use Rattle.rdx_term.specs.Tree.{Tree, truth}
-use Rattle.rdx_lang.specs.Bindings.{Binding}
+use Rattle.rdx_lang.specs.Bindings.{Binding, no_names}
 use Rattle.rdx_lang.specs.Members.{In}
 use Rattle.rdx_lang.specs.Model.TotalOrders.{binding_cmp-total}
 use Rattle.rdx_lang.specs.Order.{binding_cmp}
 use Rattle.rdx_lang.specs.Patterns.{Pattern, Language}
-use Rattle.rdx_lang.specs.Programs.{Extra, such_as, provided, Clause, Metafunction, Program, language_named, metafunction_named}
+use Rattle.rdx_lang.specs.Programs.{Extra, such_as, provided, holds, Clause, Judgement, JudgementRule, Metafunction, Premise, Program, judgement_named, language_named, metafunction_named}
 use Rattle.rdx_lang.specs.Rules.{Match}
 use Rattle.rdx_lang.specs.Templates.{Template, lit, var, fill, call, host, seq, Items, nil, one, many, Host, term, number, boolean, apply, both, either, Hosts, none, more}
 use Rattle.rdx_lang.proofs.JoinLaws.{one_join}
 use Rattle.rdx_lang.proofs.OrderLaws.{one_listing}
 use Rattle.rdx_eval.specs.Answers.{Answer, value, fault, Fault, undefined, spent, not_context, Then, stops, goes, Both, Gather, Single, Lists, lists}
 use Rattle.rdx_eval.specs.Calls.{Calls}
-use Rattle.rdx_eval.specs.Extending.{Joins, joins_none, joins_more, joins_skip, Matched, matched, By, ByEach, Extend, Survivors}
+use Rattle.rdx_eval.specs.Extending.{Joins, joins_none, joins_more, joins_skip, Matched, matched, MatchedEach, By, ByEach, ByPremise, Extend, Meets, Survivors}
 use Rattle.rdx_eval.specs.Heights.{calls_at}
-use Rattle.rdx_eval.specs.Instantiation.{Inst, InstItems, InstHost, InstHosts, FirstFalse, FirstTrue, Either, EachTurn, agree, numbers, is_false, HostMakes, Makes}
+use Rattle.rdx_eval.specs.Instantiation.{Inst, InstItems, InstHost, InstHosts, FirstFalse, FirstTrue, Either, EachTurn, agree, numbers, is_false, HostMakes, Makes, MakeList}
+use Rattle.rdx_eval.specs.Judgements.{OutputLists, RuleOutputs, RulesOver, OutputsBy}
 use Rattle.rdx_eval.specs.Laws.{Once}
 use Rattle.rdx_eval.specs.Making.{IsList, listed, listed_too_deep, listed_too_large, IsFilled, filled, filled_no_context, filled_too_deep, filled_too_large}
 use Rattle.rdx_eval.specs.Metafunctions.{OneOf, one_of, several, Results, Chosen, Clauses, ClausesOver, ValueBy}
@@ -180,11 +181,35 @@ module _ (C : Calls) (calls : (f : List ℕ) (a : Tree) → Once (C.value_of f a
         once-then (InstHost C b is h) _ (once-host is h)
         (λ t. once-either (not (is_false t)) t (FirstTrue C b is hs) (once-first-true is hs))
 
+  -- the list of what templates make
+  once-make-list : (ts : List Template) → Once (MakeList C b ts)
+  once-make-list ts =
+      once-then (Gather (λ t. Single (Makes C b t)) ts) IsList
+      (once-gather (λ t. Single (Makes C b t)) (λ t. once-single (Makes C b t) (once-inst [] t)) ts) once-list
+
+-- ---- premises
+
+module _ (L : Language) (C : Calls) (calls : (f : List ℕ) (a : Tree) → Once (C.value_of f a))
+    (outputs : (j : List ℕ) (a : Tree) → Once (C.outputs_of j a)) where
+  -- what a premise makes of a binding
+  once-by-premise : (q : Premise) (b : Binding) → Once (ByPremise L C q b)
+  once-by-premise q b =
+      once-then (Then (MakeList C b q.inputs) (C.outputs_of q.judgement)) (MatchedEach L q.outputs b)
+      (once-then (MakeList C b q.inputs) (C.outputs_of q.judgement) (once-make-list C calls b q.inputs) (outputs q.judgement))
+      (once-gather (Matched L q.outputs b) (once-matched L q.outputs b))
+
+  -- the bindings that meet it by itself
+  pub once-meets : (q : Premise) → Once (Meets L C q)
+  once-meets q =
+      once-then (ByPremise L C q no_names) _ (once-by-premise q no_names) (λ bs. once-lists binding_cmp (λ b. In b bs) binding_cmp-total)
+
 -- ---- extras
 
-module _ (L : Language) (C : Calls) (calls : (f : List ℕ) (a : Tree) → Once (C.value_of f a)) (w : Tree) where
+module _ (L : Language) (C : Calls) (calls : (f : List ℕ) (a : Tree) → Once (C.value_of f a))
+    (outputs : (j : List ℕ) (a : Tree) → Once (C.outputs_of j a)) (w : Tree) where
   -- what an extra makes of a binding
   once-by : (e : Extra) (b : Binding) → Once (By L C w e b)
+  once-by (holds q) b = once-by-premise L C calls outputs q b
   once-by (such_as p t) b = once-then (Makes C b t) (Matched L p b) (once-inst C calls b [] t) (once-matched L p b)
   once-by (provided h) b = once-then (HostMakes C b h) _ (once-host C calls b [] h) (λ t. once-gives _)
 
@@ -219,7 +244,8 @@ once-chosen : (bs : List Binding) (R S : Answer Tree → Type 0) → Once R → 
 once-chosen [] R S f g = g
 once-chosen (b ∷ bs) R S f g = f
 
-module _ (C : Calls) (calls : (f : List ℕ) (a : Tree) → Once (C.value_of f a)) (f : List ℕ) (a : Tree) where
+module _ (C : Calls) (calls : (f : List ℕ) (a : Tree) → Once (C.value_of f a))
+    (outputs : (j : List ℕ) (a : Tree) → Once (C.outputs_of j a)) (f : List ℕ) (a : Tree) where
   -- the value by all these bindings
   once-results : (t : Template) (bs : List Binding) → Once (Results C f a t bs)
   once-results t bs =
@@ -230,7 +256,7 @@ module _ (C : Calls) (calls : (f : List ℕ) (a : Tree) → Once (C.value_of f a
   once-clauses : (L : Language) (cs : List Clause) → Once (Clauses L C f a cs)
   once-clauses L [] = once-gives (fault (undefined f a))
   once-clauses L (c ∷ cs) =
-      once-then (Survivors L C a c.arguments c.extras) _ (once-survivors L C calls a c.arguments c.extras)
+      once-then (Survivors L C a c.arguments c.extras) _ (once-survivors L C calls outputs a c.arguments c.extras)
       (λ bs. once-chosen bs (Results C f a c.result bs) (Clauses L C f a cs) (once-results c.result bs) (once-clauses L cs))
 
   -- over a language, where there is one
@@ -243,8 +269,43 @@ module _ (C : Calls) (calls : (f : List ℕ) (a : Tree) → Once (C.value_of f a
   once-value-by P None = once-gives (fault (undefined f a))
   once-value-by P (Some M) = once-over (language_named P M.language) M.clauses
 
--- a call has one value at most, or one fault, at each height
-pub once-call : (P : Program) (n : ℕ) (f : List ℕ) (a : Tree) → Once ((calls_at P n).value_of f a)
-unfolding calls_at
-once-call P zero f a = once-gives (fault (spent f))
-once-call P (suc n) f a = once-value-by (calls_at P n) (once-call P n) f a P (metafunction_named P f)
+-- ---- judgements
+
+module _ (C : Calls) (calls : (f : List ℕ) (a : Tree) → Once (C.value_of f a))
+    (outputs : (j : List ℕ) (a : Tree) → Once (C.outputs_of j a)) (a : Tree) where
+  -- the lists that outputs make of bindings
+  once-output-lists : (ts : List Template) (bs : List Binding) → Once (OutputLists C ts bs)
+  once-output-lists ts = once-gather (λ b. Single (MakeList C b ts)) (λ b. once-single (MakeList C b ts) (once-make-list C calls b ts))
+
+  -- those of a rule
+  once-rule : (L : Language) (r : JudgementRule) → Once (RuleOutputs L C a r)
+  once-rule L r =
+      once-then (Survivors L C a r.inputs r.extras) (OutputLists C r.outputs) (once-survivors L C calls outputs a r.inputs r.extras)
+      (once-output-lists r.outputs)
+
+  -- those of rules over a language, where there is one
+  once-rules-over : (o : Option Language) (rs : List JudgementRule) → Once (RulesOver o C a rs)
+  once-rules-over None rs = once-gives (value [])
+  once-rules-over (Some L) rs =
+      once-then (Gather (RuleOutputs L C a) rs) _ (once-gather (RuleOutputs L C a) (once-rule L) rs)
+      (λ ts. once-lists tree_cmp (λ t. In t ts) tree_cmp-total)
+
+  -- those of a judgement, where there is one
+  once-outputs-by : (P : Program) (o : Option Judgement) → Once (OutputsBy P C o a)
+  once-outputs-by P None = once-gives (value [])
+  once-outputs-by P (Some J) = once-rules-over (language_named P J.language) J.rules
+
+-- ---- at each height
+
+mutual
+  unfolding calls_at
+
+  -- a call has one value at most, or one fault
+  pub once-call : (P : Program) (n : ℕ) (f : List ℕ) (a : Tree) → Once ((calls_at P n).value_of f a)
+  once-call P zero f a = once-gives (fault (spent f))
+  once-call P (suc n) f a = once-value-by (calls_at P n) (once-call P n) (once-outputs P n) f a P (metafunction_named P f)
+
+  -- a judgement has one list of outputs at most, or one fault
+  pub once-outputs : (P : Program) (n : ℕ) (j : List ℕ) (a : Tree) → Once ((calls_at P n).outputs_of j a)
+  once-outputs P zero j a = once-gives (fault (spent j))
+  once-outputs P (suc n) j a = once-outputs-by (calls_at P n) (once-call P n) (once-outputs P n) a P (judgement_named P j)

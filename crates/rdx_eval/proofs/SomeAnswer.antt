@@ -13,14 +13,14 @@ use Rattle.rdx_term.specs.Model.TotalOrder.{tree_cmp-total}
 use Rattle.rdx_term.specs.Order.{tree_cmp}
 use Rattle.rdx_term.specs.Terms.{IsTooDeep, IsTooLarge}
 use Rattle.rdx_term.specs.Tree.{Tree, truth, trees, tree_depth, tree_nodes, tree_holes}
-use Rattle.rdx_lang.specs.Bindings.{Binding}
+use Rattle.rdx_lang.specs.Bindings.{Binding, no_names}
 use Rattle.rdx_lang.specs.Edges.{IsFree}
 use Rattle.rdx_lang.specs.Listing.{IsListing}
 use Rattle.rdx_lang.specs.Members.{In, here, there}
 use Rattle.rdx_lang.specs.Model.TotalOrders.{binding_cmp-total}
 use Rattle.rdx_lang.specs.Order.{binding_cmp, TellsApart}
 use Rattle.rdx_lang.specs.Patterns.{Pattern, Language}
-use Rattle.rdx_lang.specs.Programs.{Extra, such_as, provided, Clause, Metafunction, Program, language_among, language_named, metafunction_named}
+use Rattle.rdx_lang.specs.Programs.{Extra, such_as, provided, holds, Clause, Judgement, JudgementRule, Metafunction, Premise, Program, judgement_named, language_among, language_named, metafunction_named}
 use Rattle.rdx_lang.specs.Rules.{Match}
 use Rattle.rdx_lang.specs.Templates.{Template, lit, var, fill, call, host, seq, Items, nil, one, many, Host, term, number, boolean, apply, both, either, Hosts, none, more}
 use Rattle.rdx_lang.proofs.Collecting.{no_member}
@@ -29,9 +29,10 @@ use Rattle.rdx_lang.proofs.OrderLaws.{binding_cmp-tells}
 use Rattle.rdx_lang.proofs.SomeListings.{has_listing}
 use Rattle.rdx_eval.specs.Answers.{Answer, value, fault, undefined, ambiguous, spent, not_context, too_deep, too_large, Then, stops, goes, Both, Gather, Single, Lists, lists}
 use Rattle.rdx_eval.specs.Calls.{Calls}
-use Rattle.rdx_eval.specs.Extending.{Joins, joins_none, joins_more, joins_skip, Matched, matched, By, ByEach, Extend, Survivors}
+use Rattle.rdx_eval.specs.Extending.{Joins, joins_none, joins_more, joins_skip, Matched, matched, MatchedEach, By, ByEach, ByPremise, Extend, Meets, Survivors}
 use Rattle.rdx_eval.specs.Heights.{calls_at}
-use Rattle.rdx_eval.specs.Instantiation.{Inst, InstItems, InstHost, InstHosts, FirstFalse, FirstTrue, Either, EachTurn, agree, numbers, is_false, HostMakes, Makes}
+use Rattle.rdx_eval.specs.Instantiation.{Inst, InstItems, InstHost, InstHosts, FirstFalse, FirstTrue, Either, EachTurn, agree, numbers, is_false, HostMakes, Makes, MakeList}
+use Rattle.rdx_eval.specs.Judgements.{OutputLists, RuleOutputs, RulesOver, OutputsBy}
 use Rattle.rdx_eval.specs.Laws.{HasAnswer, AreFree}
 use Rattle.rdx_eval.specs.Making as making
 use Rattle.rdx_eval.specs.Making.{IsList, listed_too_deep, listed_too_large, IsFilled, filled, filled_no_context, filled_too_deep, filled_too_large}
@@ -192,11 +193,35 @@ module _ (C : Calls) (calls : (f : List ℕ) (a : Tree) → HasAnswer (C.value_o
         some-then (InstHost C b is h) _ (some-host is h)
         (λ t. some-either (not (is_false t)) t (FirstTrue C b is hs) (some-first-true is hs))
 
+  -- the list of what templates make
+  some-make-list : (ts : List Template) → HasAnswer (MakeList C b ts)
+  some-make-list ts =
+      some-then (Gather (λ t. Single (Makes C b t)) ts) IsList
+      (some-gather (λ t. Single (Makes C b t)) (λ t. some-single (Makes C b t) (some-inst [] t)) ts) some-list
+
+-- ---- premises
+
+module _ (L : Language) (free : IsFree L) (C : Calls) (calls : (f : List ℕ) (a : Tree) → HasAnswer (C.value_of f a))
+    (outputs : (j : List ℕ) (a : Tree) → HasAnswer (C.outputs_of j a)) where
+  -- what a premise makes of a binding
+  some-by-premise : (q : Premise) (b : Binding) → HasAnswer (ByPremise L C q b)
+  some-by-premise q b =
+      some-then (Then (MakeList C b q.inputs) (C.outputs_of q.judgement)) (MatchedEach L q.outputs b)
+      (some-then (MakeList C b q.inputs) (C.outputs_of q.judgement) (some-make-list C calls b q.inputs) (outputs q.judgement))
+      (some-gather (Matched L q.outputs b) (some-matched L free q.outputs b))
+
+  -- the bindings that meet it by itself
+  pub some-meets : (q : Premise) → HasAnswer (Meets L C q)
+  some-meets q =
+      some-then (ByPremise L C q no_names) _ (some-by-premise q no_names) (some-lists binding_cmp binding_cmp-total binding_cmp-tells)
+
 -- ---- extras
 
-module _ (L : Language) (free : IsFree L) (C : Calls) (calls : (f : List ℕ) (a : Tree) → HasAnswer (C.value_of f a)) (w : Tree) where
+module _ (L : Language) (free : IsFree L) (C : Calls) (calls : (f : List ℕ) (a : Tree) → HasAnswer (C.value_of f a))
+    (outputs : (j : List ℕ) (a : Tree) → HasAnswer (C.outputs_of j a)) (w : Tree) where
   -- what an extra makes of a binding
   some-by : (e : Extra) (b : Binding) → HasAnswer (By L C w e b)
+  some-by (holds q) b = some-by-premise L free C calls outputs q b
   some-by (such_as p t) b = some-then (Makes C b t) (Matched L p b) (some-inst C calls b [] t) (some-matched L free p b)
   some-by (provided h) b = some-then (HostMakes C b h) _ (some-host C calls b [] h) (λ t. some-gives _)
 
@@ -245,7 +270,8 @@ some-gathered f a R x xs ts (goes {x = us} (goes {x = u} h e) (goes {x = vs} k d
     let l : ts ≡ u ∷ vs = j ∙ ap (λ (ws : List Tree). ws ++ vs) i in
     subst (λ (ws : List Tree). HasAnswer (OneOf f a ws)) (sym l) (some-one-of f a u vs)
 
-module _ (P : Program) (free : AreFree P) (C : Calls) (calls : (f : List ℕ) (a : Tree) → HasAnswer (C.value_of f a)) (f : List ℕ) (a : Tree) where
+module _ (P : Program) (free : AreFree P) (C : Calls) (calls : (f : List ℕ) (a : Tree) → HasAnswer (C.value_of f a))
+    (outputs : (j : List ℕ) (a : Tree) → HasAnswer (C.outputs_of j a)) (f : List ℕ) (a : Tree) where
   -- the value by some bindings
   some-results : (t : Template) (b : Binding) (bs : List Binding) → HasAnswer (Results C f a t (b ∷ bs))
   some-results t b bs =
@@ -262,7 +288,7 @@ module _ (P : Program) (free : AreFree P) (C : Calls) (calls : (f : List ℕ) (a
   some-clauses : (L : Language) → IsFree L → (cs : List Clause) → HasAnswer (Clauses L C f a cs)
   some-clauses L g [] = some-gives (fault (undefined f a))
   some-clauses L g (c ∷ cs) =
-      some-then (Survivors L C a c.arguments c.extras) _ (some-survivors L g C calls a c.arguments c.extras)
+      some-then (Survivors L C a c.arguments c.extras) _ (some-survivors L g C calls outputs a c.arguments c.extras)
       (λ bs. some-chosen c.result bs (Clauses L C f a cs) (some-clauses L g cs))
 
   -- over a language of the program, where there is one
@@ -276,8 +302,46 @@ module _ (P : Program) (free : AreFree P) (C : Calls) (calls : (f : List ℕ) (a
   some-value-by (Some M) =
       some-over (language_named P M.language) (λ L e. free L (language_among-in P.languages M.language L e)) M.clauses
 
--- a call has a value or a fault, at each height
-pub some-call : (P : Program) → AreFree P → (n : ℕ) (f : List ℕ) (a : Tree) → HasAnswer ((calls_at P n).value_of f a)
-unfolding calls_at
-some-call P free zero f a = some-gives (fault (spent f))
-some-call P free (suc n) f a = some-value-by P free (calls_at P n) (some-call P free n) f a (metafunction_named P f)
+-- ---- judgements
+
+module _ (P : Program) (free : AreFree P) (C : Calls) (calls : (f : List ℕ) (a : Tree) → HasAnswer (C.value_of f a))
+    (outputs : (j : List ℕ) (a : Tree) → HasAnswer (C.outputs_of j a)) (a : Tree) where
+  -- the lists that outputs make of bindings
+  some-output-lists : (ts : List Template) (bs : List Binding) → HasAnswer (OutputLists C ts bs)
+  some-output-lists ts = some-gather (λ b. Single (MakeList C b ts)) (λ b. some-single (MakeList C b ts) (some-make-list C calls b ts))
+
+  -- those of a rule
+  some-rule : (L : Language) → IsFree L → (r : JudgementRule) → HasAnswer (RuleOutputs L C a r)
+  some-rule L g r =
+      some-then (Survivors L C a r.inputs r.extras) (OutputLists C r.outputs) (some-survivors L g C calls outputs a r.inputs r.extras)
+      (some-output-lists r.outputs)
+
+  -- those of rules over a language of the program, where there is one
+  some-rules-over : (o : Option Language) → ((L : Language) → o ≡ Some L → IsFree L) → (rs : List JudgementRule) → HasAnswer (RulesOver o C a rs)
+  some-rules-over None g rs = some-gives (value [])
+  some-rules-over (Some L) g rs =
+      some-then (Gather (RuleOutputs L C a) rs) _ (some-gather (RuleOutputs L C a) (some-rule L (g L refl)) rs)
+      (some-lists tree_cmp tree_cmp-total tree_cmp-equal)
+
+  -- those of a judgement, where there is one
+  some-outputs-by : (o : Option Judgement) → HasAnswer (OutputsBy P C o a)
+  some-outputs-by None = some-gives (value [])
+  some-outputs-by (Some J) =
+      some-rules-over (language_named P J.language) (λ L e. free L (language_among-in P.languages J.language L e)) J.rules
+
+-- ---- at each height
+
+mutual
+  unfolding calls_at
+
+  -- a call has a value or a fault
+  pub some-call : (P : Program) → AreFree P → (n : ℕ) (f : List ℕ) (a : Tree) → HasAnswer ((calls_at P n).value_of f a)
+  some-call P free zero f a = some-gives (fault (spent f))
+  some-call P free (suc n) f a =
+      some-value-by P free (calls_at P n) (some-call P free n) (some-outputs P free n) f a (metafunction_named P f)
+
+  -- a judgement has a list of outputs or a fault
+  pub some-outputs : (P : Program) → AreFree P → (n : ℕ) (j : List ℕ) (a : Tree) → HasAnswer ((calls_at P n).outputs_of j a)
+  some-outputs P free zero j a = some-gives (fault (spent j))
+  some-outputs P free (suc n) j a =
+      some-outputs-by P free (calls_at P n) (some-call P free n) (some-outputs P free n) a (judgement_named P j)

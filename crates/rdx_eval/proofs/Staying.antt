@@ -1,18 +1,20 @@
 -- An answer other than a spent height stays as the height grows: what is put together of what stays stays.
 use Rattle.std.proofs.Common.{◌≡◌, ℕ, zero, suc, ◌+◌, Bool, true, false, not, List, [], ◌∷◌, ◌++◌, Option, Some, None, subst, add-zero, add-suc}
+use Rattle.rdx_term.specs.Order.{tree_cmp}
 use Rattle.rdx_term.specs.Tree.{Tree, truth}
 use Rattle.rdx_lang.specs.Bindings.{Binding}
 use Rattle.rdx_lang.specs.Members.{In}
 use Rattle.rdx_lang.specs.Order.{binding_cmp}
 use Rattle.rdx_lang.specs.Patterns.{Pattern, Language}
-use Rattle.rdx_lang.specs.Programs.{Extra, such_as, provided, Clause, Metafunction, Program, language_named, metafunction_named}
+use Rattle.rdx_lang.specs.Programs.{Extra, such_as, provided, holds, Clause, Judgement, JudgementRule, Metafunction, Premise, Program, judgement_named, language_named, metafunction_named}
 use Rattle.rdx_lang.specs.Rules.{Match}
 use Rattle.rdx_lang.specs.Templates.{Template, lit, var, fill, call, host, seq, Items, nil, one, many, Host, term, number, boolean, apply, both, either, Hosts, none, more}
 use Rattle.rdx_eval.specs.Answers.{Answer, value, fault, spent, Then, stops, goes, Both, Gather, Single, Lists}
 use Rattle.rdx_eval.specs.Calls.{Calls}
-use Rattle.rdx_eval.specs.Extending.{Matched, By, ByEach, Extend, Survivors}
+use Rattle.rdx_eval.specs.Extending.{Matched, MatchedEach, By, ByEach, ByPremise, Extend, Survivors}
 use Rattle.rdx_eval.specs.Heights.{calls_at}
-use Rattle.rdx_eval.specs.Instantiation.{Inst, InstItems, InstHost, InstHosts, FirstFalse, FirstTrue, Either, EachTurn, agree, numbers, is_false, HostMakes, Makes}
+use Rattle.rdx_eval.specs.Instantiation.{Inst, InstItems, InstHost, InstHosts, FirstFalse, FirstTrue, Either, EachTurn, agree, numbers, is_false, HostMakes, Makes, MakeList}
+use Rattle.rdx_eval.specs.Judgements.{OutputLists, RuleOutputs, RulesOver, OutputsBy}
 use Rattle.rdx_eval.specs.Laws.{IsOther, Keeps}
 use Rattle.rdx_eval.specs.Making.{IsList, IsFilled}
 use Rattle.rdx_eval.specs.Metafunctions.{OneOf, Results, Chosen, Clauses, ClausesOver, ValueBy}
@@ -120,12 +122,31 @@ module _ (C D : Calls) (stays : (f : List ℕ) (a : Tree) → Keeps (C.value_of 
           keeps-then (InstHost C b is h) (InstHost D b is h) _ _ (keeps-host is h)
           (λ t. keeps-either (not (is_false t)) t (FirstTrue C b is hs) (FirstTrue D b is hs) (keeps-first-true is hs))
 
+    -- the list of what templates make
+    keeps-make-list : (ts : List Template) → Keeps (MakeList C b ts) (MakeList D b ts)
+    keeps-make-list ts =
+        keeps-list (Gather (λ t. Single (Makes C b t)) ts) (Gather (λ t. Single (Makes D b t)) ts)
+        (keeps-gather (λ t. Single (Makes C b t)) (λ t. Single (Makes D b t)) (λ t. keeps-single (Makes C b t) (Makes D b t) (keeps-inst [] t)) ts)
+
+-- ---- extras, clauses and rules
+
+module _ (C D : Calls) (stays : (f : List ℕ) (a : Tree) → Keeps (C.value_of f a) (D.value_of f a))
+    (outputs : (j : List ℕ) (a : Tree) → Keeps (C.outputs_of j a) (D.outputs_of j a)) where
+  -- what a premise makes of a binding
+  keeps-by-premise : (L : Language) (q : Premise) (b : Binding) → Keeps (ByPremise L C q b) (ByPremise L D q b)
+  keeps-by-premise L q b =
+      keeps-then (Then (MakeList C b q.inputs) (C.outputs_of q.judgement)) (Then (MakeList D b q.inputs) (D.outputs_of q.judgement)) _ _
+      (keeps-then (MakeList C b q.inputs) (MakeList D b q.inputs) (C.outputs_of q.judgement) (D.outputs_of q.judgement)
+      (keeps-make-list C D stays b q.inputs) (outputs q.judgement))
+      (λ ts. keeps-same (MatchedEach L q.outputs b ts))
+
   module _ (L : Language) (w : Tree) where
     -- what an extra makes of a binding
     keeps-by : (e : Extra) (b : Binding) → Keeps (By L C w e b) (By L D w e b)
     keeps-by (such_as p t) b =
-        keeps-then (Makes C b t) (Makes D b t) (Matched L p b) (Matched L p b) (keeps-inst b [] t) (λ u. keeps-same (Matched L p b u))
-    keeps-by (provided h) b = keeps-then (HostMakes C b h) (HostMakes D b h) _ _ (keeps-host b [] h) (λ t. keeps-same _)
+        keeps-then (Makes C b t) (Makes D b t) (Matched L p b) (Matched L p b) (keeps-inst C D stays b [] t) (λ u. keeps-same (Matched L p b u))
+    keeps-by (provided h) b = keeps-then (HostMakes C b h) (HostMakes D b h) _ _ (keeps-host C D stays b [] h) (λ t. keeps-same _)
+    keeps-by (holds q) b = keeps-by-premise L q b
 
     -- what it makes of all
     keeps-by-each : (e : Extra) (bs : List Binding) → Keeps (ByEach L C w e bs) (ByEach L D w e bs)
@@ -151,7 +172,7 @@ module _ (C D : Calls) (stays : (f : List ℕ) (a : Tree) → Keeps (C.value_of 
         let R : Binding → Answer Tree → Type 0 = λ b. Makes C b t in
         let Q : Binding → Answer Tree → Type 0 = λ b. Makes D b t in
         keeps-then (Gather (λ b. Single (R b)) bs) (Gather (λ b. Single (Q b)) bs) (OneOf f a) (OneOf f a)
-        (keeps-gather (λ b. Single (R b)) (λ b. Single (Q b)) (λ b. keeps-single (R b) (Q b) (keeps-inst b [] t)) bs)
+        (keeps-gather (λ b. Single (R b)) (λ b. Single (Q b)) (λ b. keeps-single (R b) (Q b) (keeps-inst C D stays b [] t)) bs)
         (λ ts. keeps-same (OneOf f a ts))
 
     -- that of clauses
@@ -172,19 +193,58 @@ module _ (C D : Calls) (stays : (f : List ℕ) (a : Tree) → Keeps (C.value_of 
     keeps-value-by P None = keeps-same _
     keeps-value-by P (Some M) = keeps-over (language_named P M.language) M.clauses
 
+  module _ (a : Tree) where
+    -- the lists that outputs make of bindings
+    keeps-output-lists : (ts : List Template) (bs : List Binding) → Keeps (OutputLists C ts bs) (OutputLists D ts bs)
+    keeps-output-lists ts =
+        keeps-gather (λ b. Single (MakeList C b ts)) (λ b. Single (MakeList D b ts))
+        (λ b. keeps-single (MakeList C b ts) (MakeList D b ts) (keeps-make-list C D stays b ts))
+
+    -- those of a rule
+    keeps-rule : (L : Language) (r : JudgementRule) → Keeps (RuleOutputs L C a r) (RuleOutputs L D a r)
+    keeps-rule L r =
+        keeps-then (Survivors L C a r.inputs r.extras) (Survivors L D a r.inputs r.extras) (OutputLists C r.outputs) (OutputLists D r.outputs)
+        (keeps-survivors L a r.inputs r.extras) (keeps-output-lists r.outputs)
+
+    -- those of rules over a language, where there is one
+    keeps-rules-over : (o : Option Language) (rs : List JudgementRule) → Keeps (RulesOver o C a rs) (RulesOver o D a rs)
+    keeps-rules-over None rs = keeps-same _
+    keeps-rules-over (Some L) rs =
+        keeps-then (Gather (RuleOutputs L C a) rs) (Gather (RuleOutputs L D a) rs) _ _
+        (keeps-gather (RuleOutputs L C a) (RuleOutputs L D a) (keeps-rule L) rs)
+        (λ ts. keeps-same (Lists tree_cmp (λ t. In t ts)))
+
+    -- those of a judgement, where there is one
+    keeps-outputs-by : (P : Program) (o : Option Judgement) → Keeps (OutputsBy P C o a) (OutputsBy P D o a)
+    keeps-outputs-by P None = keeps-same _
+    keeps-outputs-by P (Some J) = keeps-rules-over (language_named P J.language) J.rules
+
 -- ---- the height
 
 -- a spent height is no other answer
 no_other : {A X : Type 0} (f : List ℕ) (r : Answer A) → IsOther r → r ≡ fault (spent f) → X
 no_other f r o e = absurd (subst IsOther e o)
 
--- answers stay at the next height
-stays-next : (P : Program) (n : ℕ) (f : List ℕ) (a : Tree) → Keeps ((calls_at P n).value_of f a) ((calls_at P (suc n)).value_of f a)
-unfolding calls_at
-stays-next P zero f a = λ r o h. no_other f r o h
-stays-next P (suc n) f a = keeps-value-by (calls_at P n) (calls_at P (suc n)) (stays-next P n) f a P (metafunction_named P f)
+mutual
+  unfolding calls_at
+
+  -- values stay at the next height
+  stays-next : (P : Program) (n : ℕ) (f : List ℕ) (a : Tree) → Keeps ((calls_at P n).value_of f a) ((calls_at P (suc n)).value_of f a)
+  stays-next P zero f a = λ r o h. no_other f r o h
+  stays-next P (suc n) f a =
+      keeps-value-by (calls_at P n) (calls_at P (suc n)) (stays-next P n) (outputs-next P n) f a P (metafunction_named P f)
+
+  -- and so do outputs
+  outputs-next : (P : Program) (n : ℕ) (j : List ℕ) (a : Tree) → Keeps ((calls_at P n).outputs_of j a) ((calls_at P (suc n)).outputs_of j a)
+  outputs-next P zero j a = λ r o h. no_other j r o h
+  outputs-next P (suc n) j a =
+      keeps-outputs-by (calls_at P n) (calls_at P (suc n)) (stays-next P n) (outputs-next P n) a P (judgement_named P j)
 
 -- so they do at every greater height
 pub values-stay : (P : Program) (n k : ℕ) (f : List ℕ) (a : Tree) → Keeps ((calls_at P n).value_of f a) ((calls_at P (n + k)).value_of f a)
 values-stay P n zero f a r o h = rw add-zero h
 values-stay P n (suc k) f a r o h = rw add-suc (stays-next P (n + k) f a r o (values-stay P n k f a r o h))
+
+pub outputs-stay : (P : Program) (n k : ℕ) (j : List ℕ) (a : Tree) → Keeps ((calls_at P n).outputs_of j a) ((calls_at P (n + k)).outputs_of j a)
+outputs-stay P n zero j a r o h = rw add-zero h
+outputs-stay P n (suc k) j a r o h = rw add-suc (outputs-next P (n + k) j a r o (outputs-stay P n k j a r o h))

@@ -1,5 +1,6 @@
 pub mod Parts
 pub mod Metafunctions
+pub mod Judgements
 pub mod Sequences
 pub mod Scopes
 pub mod Stops

@@ -5,10 +5,10 @@ use Rattle.rdx_lang.specs.Bindings.{Binding}
 use Rattle.rdx_lang.specs.Edges.{IsFree}
 use Rattle.rdx_lang.specs.Members.{In}
 use Rattle.rdx_lang.specs.Patterns.{Language}
-use Rattle.rdx_lang.specs.Programs.{Extra, Program}
+use Rattle.rdx_lang.specs.Programs.{Extra, Premise, Program}
 use Rattle.rdx_lang.specs.Templates.{Template}
 use Rattle.rdx_eval.specs.Answers.{Answer, value, fault, Fault, undefined, ambiguous, spent, not_context, too_deep, too_large, lengths_differ, outside, overflow, divide_by_zero}
-use Rattle.rdx_eval.specs.Extending.{Extend}
+use Rattle.rdx_eval.specs.Extending.{Extend, Meets}
 use Rattle.rdx_eval.specs.Heights.{calls_at}
 use Rattle.rdx_eval.specs.Instantiation.{Makes}
 
@@ -35,6 +35,14 @@ OneValue = (P : Program) (n : ℕ) (f : List ℕ) (a : Tree) → Once ((calls_at
 abbrev pub SomeValue : Type 0
 SomeValue = (P : Program) (n : ℕ) (f : List ℕ) (a : Tree) → AreFree P → HasAnswer ((calls_at P n).value_of f a)
 
+-- a judgement has one list of outputs at most for each list of inputs, or one fault
+abbrev pub OneOutputs : Type 0
+OneOutputs = (P : Program) (n : ℕ) (j : List ℕ) (a : Tree) → Once ((calls_at P n).outputs_of j a)
+
+-- and it has one, in languages that are free of left recursion
+abbrev pub SomeOutputs : Type 0
+SomeOutputs = (P : Program) (n : ℕ) (j : List ℕ) (a : Tree) → AreFree P → HasAnswer ((calls_at P n).outputs_of j a)
+
 -- a template makes one term at most, or has one fault
 abbrev pub OneTerm : Type 0
 OneTerm = (P : Program) (n : ℕ) (b : Binding) (t : Template) → Once (Makes (calls_at P n) b t)
@@ -52,6 +60,14 @@ abbrev pub SomeExtension : Type 0
 SomeExtension =
     (L : Language) (P : Program) (n : ℕ) (w : Tree) (es : List Extra) (bs : List Binding) → IsFree L → AreFree P
     → HasAnswer (Extend L (calls_at P n) w es bs)
+
+-- a premise by itself has one answer at most
+abbrev pub OneMeeting : Type 0
+OneMeeting = (L : Language) (P : Program) (n : ℕ) (q : Premise) → Once (Meets L (calls_at P n) q)
+
+-- in languages that are free of left recursion it has one
+abbrev pub SomeMeeting : Type 0
+SomeMeeting = (L : Language) (P : Program) (n : ℕ) (q : Premise) → IsFree L → AreFree P → HasAnswer (Meets L (calls_at P n) q)
 
 -- ---- greater heights
 
@@ -80,3 +96,7 @@ Keeps {A} R S = (r : Answer A) → IsOther r → R r → S r
 -- what a call is answered stays so at every greater height, unless the height was spent
 abbrev pub ValuesStay : Type 0
 ValuesStay = (P : Program) (n k : ℕ) (f : List ℕ) (a : Tree) → Keeps ((calls_at P n).value_of f a) ((calls_at P (n + k)).value_of f a)
+
+-- and so do the outputs of a judgement
+abbrev pub OutputsStay : Type 0
+OutputsStay = (P : Program) (n k : ℕ) (j : List ℕ) (a : Tree) → Keeps ((calls_at P n).outputs_of j a) ((calls_at P (n + k)).outputs_of j a)

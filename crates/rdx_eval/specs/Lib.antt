@@ -5,10 +5,12 @@ pub mod Turns
 pub mod Instantiation
 pub mod Extending
 pub mod Metafunctions
+pub mod Judgements
 pub mod Languages
 pub mod Heights
 pub mod Views
 pub mod Laws
 pub mod Examples
 pub mod CallExamples
+pub mod JudgementExamples
 pub mod Inside

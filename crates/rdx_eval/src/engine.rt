@@ -1,13 +1,14 @@
 // The engine's calls.
 ghost use Rattle.std.specs.Prelude.{◌≡◌};
 
+use crate::extending::listed_bindings;
 use crate::lookup::language_named;
 use crate::room::Room;
 use crate::scope::{Scope, Setting};
 use crate::{EvalFault, evaluation};
 use rdx_delta::HostTable;
 use rdx_lang::{
-    Binding, CheckedLang, CheckedPat, Extra, HostExpr, Matcher, Program, Split, Template,
+    Binding, CheckedLang, CheckedPat, Extra, HostExpr, Matcher, Premise, Program, Split, Template,
 };
 use rdx_term::{Name, NoMemory, Term};
 use std::alloc::Global;
@@ -29,14 +30,15 @@ impl<'a, M: Matcher + Drop> Engine<'a, M> {
     ghost use Rattle.rdx_term.specs.View.{tree_of};
     ghost use Rattle.rdx_lang.specs.Checked.{language_in, pattern_in};
     ghost use Rattle.rdx_lang.specs.Listing.{Matches, Splits};
-    ghost use Rattle.rdx_lang.specs.ProgramView.{program_of, extras_of};
+    ghost use Rattle.rdx_lang.specs.ProgramView.{program_of, extras_of, premise_of};
     ghost use Rattle.rdx_lang.specs.Programs.{language_named};
     ghost use Rattle.rdx_lang.specs.Shown.{binding_of, bindings_of, decompositions_of};
     ghost use Rattle.rdx_lang.specs.TemplateView.{template_of, host_of};
     ghost use Rattle.rdx_eval.specs.Heights.{calls_at, height};
-    ghost use Rattle.rdx_eval.specs.Extending.{ExtendOver};
+    ghost use Rattle.rdx_eval.specs.Extending.{ExtendOver, MeetsOver};
     ghost use Rattle.rdx_eval.specs.Instantiation.{Makes, HostMakes};
-    ghost use Rattle.rdx_eval.specs.Views.{Says, bindings_in};
+    ghost use Rattle.rdx_eval.specs.Judgements.{Holds};
+    ghost use Rattle.rdx_eval.specs.Views.{Says, bindings_in, terms_in};
 
     /// An engine for this program, with this table of host operations and this matcher.
     pub fn new(
@@ -145,6 +147,55 @@ impl<'a, M: Matcher + Drop> Engine<'a, M> {
         let setting = self.setting();
         let room = Room::whole();
         Ok(evaluation::call(&setting, &mut self.matcher, room, HEIGHT, f, args)?)
+    }
+
+    /// The lists of outputs of the judgement of this name for the list of inputs, ascending and
+    /// each once, or the first fault. A name that the program has no judgement of has no outputs.
+    pub fn judge(&mut self, j: &Name, ins: &Term) -> Result<Vec<Term>, EvalFault>
+        ensures answer { Says terms_in
+            ((calls_at (program_of self.old.program.now) height).outputs_of j.now (tree_of ins.now))
+            result }
+        ensures same { self.new.program ≡ self.old.program }
+    {
+        let setting = self.setting();
+        let room = Room::whole();
+        Ok(evaluation::judge(&setting, &mut self.matcher, room, HEIGHT, j, ins)?)
+    }
+
+    /// Whether the judgement of this name has outputs for the list of inputs, or the first fault.
+    pub fn holds(&mut self, j: &Name, ins: &Term) -> Result<bool, EvalFault>
+        ensures answer { Says (λ b. b) (Holds (calls_at (program_of self.old.program.now) height)
+            j.now (tree_of ins.now)) result }
+        ensures same { self.new.program ≡ self.old.program }
+    {
+        let found = self.judge(j, ins)?;
+        Ok(!found.is_empty())
+    }
+
+    /// Which bindings meet the premise by itself, before which no name is bound, in a language of
+    /// the program, ascending and each once; or the first fault.
+    pub fn meet(&mut self, language: &Name, premise: &Premise) -> Result<Vec<Binding>, EvalFault>
+        requires { IsSome (language_named (program_of self.old.program.now) language.now) }
+        ensures answer { Says bindings_in (MeetsOver
+            (language_named (program_of self.old.program.now) language.now)
+            (calls_at (program_of self.old.program.now) height) (premise_of premise.now)) result }
+        ensures same { self.new.program ≡ self.old.program }
+    {
+        let Some(language) = language_named(self.program, language) else {
+            unreachable!()
+        };
+        let setting = self.setting();
+        let none = Binding::new(Vec::new(self.alloc));
+        let found = evaluation::by_premise(
+            &setting,
+            &mut self.matcher,
+            Room::whole(),
+            HEIGHT,
+            language,
+            premise,
+            &none,
+        )?;
+        Ok(listed_bindings(self.alloc, found)?)
     }
 
     /// Which bindings the extras make of these, one extra after the other, in a language of the

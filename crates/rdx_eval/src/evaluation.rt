@@ -1,36 +1,40 @@
-// Evaluation: one recursion over templates, host expressions, calls and extras. How deep it goes is
-// counted, and each function of it has less room than the one that called it. Since each takes of
-// the machine's stack, what it holds is kept small: none is put into another, and what calls none
-// of them stands by itself.
-ghost use Rattle.std.specs.Prelude.{◌≤◌, length, true};
+// Evaluation: one recursion over templates, host expressions, calls, judgements and extras. How
+// deep it goes is counted, and each function of it has less room than the one that called it. Since
+// each takes of the machine's stack, what it holds is kept small: none is put into another, and what
+// calls none of them stands by itself.
+ghost use Rattle.std.specs.Prelude.{◌≤◌, length, map, true};
 ghost use Rattle.rdx_term.specs.Tree.{Tree, truth};
 ghost use Rattle.rdx_term.specs.View.{tree_of};
-ghost use Rattle.rdx_lang.specs.Checked.{language_in};
-ghost use Rattle.rdx_lang.specs.ProgramView.{clauses_of, extra_of, extras_of};
+ghost use Rattle.rdx_lang.specs.Checked.{language_in, pattern_in};
+ghost use Rattle.rdx_lang.specs.ProgramView.{clauses_of, extra_of, extras_of, judgement_rules_of, premise_of};
 ghost use Rattle.rdx_lang.specs.Shown.{binding_of, bindings_of};
 ghost use Rattle.rdx_lang.specs.Templates.{fill, call as calling, apply as applied};
 ghost use Rattle.rdx_lang.specs.TemplateView.{template_of, host_of};
 ghost use Rattle.rdx_eval.specs.Answers.{Then};
-ghost use Rattle.rdx_eval.specs.Extending.{By, ByEach, Extend};
-ghost use Rattle.rdx_eval.specs.Inside.Parts.{items_in, hosts_in, Repeats};
+ghost use Rattle.rdx_eval.specs.Extending.{By, ByEach, ByPremise, Extend, Survivors};
+ghost use Rattle.rdx_eval.specs.Inside.Parts.{items_in, hosts_in, InstList, Repeats};
 ghost use Rattle.rdx_eval.specs.Inside.Scopes.{calls_in, calls_here, bound_here, turns_here};
 ghost use Rattle.rdx_eval.specs.Inside.Stops.{Tells};
 ghost use Rattle.rdx_eval.specs.Instantiation.{Inst, InstItems, InstHost, FirstFalse, FirstTrue};
+ghost use Rattle.rdx_eval.specs.Judgements.{OutputLists, Rules};
 ghost use Rattle.rdx_eval.specs.Making.{IsList};
 ghost use Rattle.rdx_eval.specs.Metafunctions.{Clauses, Results};
 ghost use Rattle.rdx_eval.specs.Views.{terms_in, bindings_in};
 
-use crate::extending::{found_by, listed_bindings, matched, unless_false};
+use crate::extending::{found_by, listed_bindings, matched, matched_each, unless_false};
 use crate::host::{Host, is_false, operate};
-use crate::lookup::{language_named, metafunction_named};
+use crate::lookup::{judgement_named, language_named, metafunction_named};
 use crate::making::{filled, listed};
 use crate::room::Room;
 use crate::scope::{Scope, Setting};
 use crate::stop::Stop;
 use crate::stopping::{spent, undefined};
 use crate::turns::{term_for, turns_around, with_turn};
-use crate::values::one_of;
-use rdx_lang::{Binding, CheckedLang, Clause, Extra, HostExpr, HostOp, Matcher, TItem, Template};
+use crate::values::{ascending, one_of};
+use rdx_lang::{
+    Binding, CheckedLang, CheckedPat, Clause, Extra, HostExpr, HostOp, JRule, Matcher, Premise,
+    TItem, Template,
+};
 use rdx_term::{Name, Term};
 
 /// What the template makes in the scope.
@@ -122,6 +126,28 @@ fn instantiate_list<M: Matcher, H: Host>(
                 found.append(&mut more)?;
             }
         }
+    }
+    listed(scope.setting.alloc, found)
+}
+
+// The list of what the templates make, one after the other.
+#[cycle(evaluation)]
+#[inline(never)]
+fn make_list<M: Matcher, H: Host>(
+    scope: &Scope<H>,
+    matcher: &mut M,
+    room: Room,
+    templates: &[Template],
+) -> Result<Term, Stop>
+    ensures { Tells tree_of (InstList (calls_here scope.now) (bound_here scope.now)
+        (turns_here scope.now)
+        (map template_of templates.now)) result }
+{
+    let room = room.inside()?;
+    let mut found = Vec::new(scope.setting.alloc);
+    for template in templates {
+        let t = instantiate(scope, matcher, room, template)?;
+        found.push(t)?;
     }
     listed(scope.setting.alloc, found)
 }
@@ -305,15 +331,15 @@ fn by_clauses<M: Matcher, H: Host>(
 {
     let room = room.inside()?;
     for clause in clauses {
-        let found = found_by(matcher, language, &clause.args, args)?;
-        let bs = extend(
+        let bs = survivors(
             setting,
             matcher,
             room,
             height,
             language,
+            &clause.args,
             &clause.extras,
-            found,
+            args,
         )?;
         if !bs.is_empty() {
             return result_of(setting, matcher, room, height, f, args, &clause.result, &bs);
@@ -352,6 +378,119 @@ fn result_of<'x, M: Matcher, H: Host>(
         found.push(t)?;
     }
     one_of(setting.alloc, f, args, found)
+}
+
+/// The lists of outputs of the judgement of this name for the list of inputs, ascending and each
+/// once.
+#[cycle(evaluation)]
+#[inline(never)]
+pub(crate) fn judge<M: Matcher, H: Host>(
+    setting: &Setting<H>,
+    matcher: &mut M,
+    room: Room,
+    height: usize,
+    j: &Name,
+    ins: &Term,
+) -> Result<Vec<Term>, Stop>
+    ensures { Tells terms_in ((calls_in setting.now height).outputs_of j.now (tree_of ins.now))
+        result }
+{
+    let room = room.inside()?;
+    if height == 0 {
+        return Err(spent(setting.alloc, j)?);
+    }
+    let Some(judgement) = judgement_named(setting.program, j) else {
+        return Ok(Vec::new(setting.alloc));
+    };
+    let Some(language) = language_named(setting.program, &judgement.language) else {
+        return Ok(Vec::new(setting.alloc));
+    };
+    let rules = judgement.rules.as_slice();
+    by_rules(setting, matcher, room, height - 1, language, rules, ins)
+}
+
+// The lists of outputs that the rules of a judgement make of the inputs, ascending and each once.
+#[cycle(evaluation)]
+#[inline(never)]
+fn by_rules<M: Matcher, H: Host>(
+    setting: &Setting<H>,
+    matcher: &mut M,
+    room: Room,
+    height: usize,
+    language: &CheckedLang,
+    rules: &[JRule],
+    ins: &Term,
+) -> Result<Vec<Term>, Stop>
+    ensures { Tells terms_in (Rules (language_in language.now) (calls_in setting.now height)
+        (tree_of ins.now) (judgement_rules_of rules.now)) result }
+{
+    let room = room.inside()?;
+    let mut found = Vec::new(setting.alloc);
+    for rule in rules {
+        let bs = survivors(
+            setting,
+            matcher,
+            room,
+            height,
+            language,
+            &rule.ins,
+            &rule.extras,
+            ins,
+        )?;
+        let mut more = output_lists(setting, matcher, room, height, &rule.outs, &bs)?;
+        found.append(&mut more)?;
+    }
+    Ok(ascending(setting.alloc, found)?)
+}
+
+// The lists that the outputs of a rule make of all these bindings, in their order.
+#[cycle(evaluation)]
+#[inline(never)]
+fn output_lists<'x, M: Matcher, H: Host>(
+    setting: &'x Setting<'x, H>,
+    matcher: &mut M,
+    room: Room,
+    height: usize,
+    templates: &[Template],
+    bs: &'x [Binding],
+) -> Result<Vec<Term>, Stop>
+    ensures { Tells terms_in (OutputLists (calls_in setting.now height)
+        (map template_of templates.now) (bindings_of bs.now)) result }
+{
+    let room = room.inside()?;
+    let mut found = Vec::new(setting.alloc);
+    for binding in bs {
+        let scope = Scope {
+            setting,
+            height,
+            b: binding,
+            turns: &[],
+        };
+        let t = make_list(&scope, matcher, room, templates)?;
+        found.push(t)?;
+    }
+    Ok(found)
+}
+
+// The bindings by which the pattern matches the term and that meet the extras.
+#[cycle(evaluation)]
+#[inline(never)]
+fn survivors<M: Matcher, H: Host>(
+    setting: &Setting<H>,
+    matcher: &mut M,
+    room: Room,
+    height: usize,
+    language: &CheckedLang,
+    pat: &CheckedPat,
+    extras: &[Extra],
+    t: &Term,
+) -> Result<Vec<Binding>, Stop>
+    ensures { Tells bindings_in (Survivors (language_in language.now) (calls_in setting.now height)
+        (tree_of t.now) (pattern_in pat.now) (extras_of extras.now)) result }
+{
+    let room = room.inside()?;
+    let found = found_by(matcher, language, pat, t)?;
+    extend(setting, matcher, room, height, language, extras, found)
 }
 
 /// What the extras make of the bindings, one extra after the other. The clause holds whatever the
@@ -433,5 +572,35 @@ fn by<'x, M: Matcher, H: Host>(
             let t = evaluate(&scope, matcher, room, h)?;
             Ok(unless_false(setting.alloc, &t, b)?)
         }
+        Extra::Holds(premise) => {
+            by_premise(setting, matcher, room, height, language, premise, b)
+        }
     }
+}
+
+/// What a premise makes of one binding.
+#[cycle(evaluation)]
+#[inline(never)]
+pub(crate) fn by_premise<'x, M: Matcher, H: Host>(
+    setting: &'x Setting<'x, H>,
+    matcher: &mut M,
+    room: Room,
+    height: usize,
+    language: &CheckedLang,
+    premise: &Premise,
+    b: &'x Binding,
+) -> Result<Vec<Binding>, Stop>
+    ensures { Tells bindings_in (ByPremise (language_in language.now) (calls_in setting.now height)
+        (premise_of premise.now) (binding_of b.now)) result }
+{
+    let room = room.inside()?;
+    let scope = Scope {
+        setting,
+        height,
+        b,
+        turns: &[],
+    };
+    let ins = make_list(&scope, matcher, room, &premise.ins)?;
+    let found = judge(setting, matcher, room, height, &premise.judgement, &ins)?;
+    Ok(matched_each(setting.alloc, language, matcher, &premise.outs, b, &found)?)
 }

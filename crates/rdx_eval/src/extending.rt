@@ -1,5 +1,5 @@
 // Which bindings a pattern finds, and which come of one binding where an extra has made its term.
-ghost use Rattle.std.specs.Prelude.{◌≡◌, IfOk};
+ghost use Rattle.std.specs.Prelude.{◌≡◌, IfOk, map};
 ghost use Rattle.rdx_term.specs.View.{tree_of};
 ghost use Rattle.rdx_lang.specs.Checked.{language_in, pattern_in};
 ghost use Rattle.rdx_lang.specs.Listing.{IsListing, Matches};
@@ -7,7 +7,7 @@ ghost use Rattle.rdx_lang.specs.Members.{In};
 ghost use Rattle.rdx_lang.specs.Order.{binding_cmp};
 ghost use Rattle.rdx_lang.specs.Shown.{binding_of, bindings_of};
 ghost use Rattle.rdx_eval.specs.Answers.{value};
-ghost use Rattle.rdx_eval.specs.Extending.{Joins, Matched, unless_false as kept};
+ghost use Rattle.rdx_eval.specs.Extending.{Joins, Matched, MatchedEach, unless_false as kept};
 ghost use Rattle.rdx_eval.specs.Views.{bindings_in};
 
 use crate::host::is_false;
@@ -68,6 +68,28 @@ pub(crate) fn matched<M: Matcher>(
 {
     let others = matcher.matches(language, pat, t)?;
     joins(alloc, b, &others)
+}
+
+/// The joins of a binding with those by which the pattern matches one of the terms, in the terms'
+/// order.
+#[inline(never)]
+pub(crate) fn matched_each<M: Matcher>(
+    alloc: Global,
+    language: &CheckedLang,
+    matcher: &mut M,
+    pat: &CheckedPat,
+    b: &Binding,
+    ts: &[Term],
+) -> Result<Vec<Binding>, NoMemory>
+    ensures { IfOk result (λ found. MatchedEach (language_in language.now) (pattern_in pat.now)
+        (binding_of b.now) (map tree_of ts.now) (value (bindings_in found))) }
+{
+    let mut found = Vec::new(alloc);
+    for t in ts {
+        let mut more = matched(alloc, language, matcher, pat, b, t)?;
+        found.append(&mut more)?;
+    }
+    Ok(found)
 }
 
 /// The binding alone, unless the term is false.

@@ -1,6 +1,7 @@
 //! Laws of evaluation: functions that do nothing, whose contracts are the laws.
-ghost use Rattle.rdx_eval.specs.Laws.{OneValue, SomeValue, ValuesStay, OneTerm, SomeTerm, OneExtension, SomeExtension};
+ghost use Rattle.rdx_eval.specs.Laws.{OneValue, SomeValue, OneOutputs, SomeOutputs, ValuesStay, OutputsStay, OneTerm, SomeTerm, OneExtension, SomeExtension, OneMeeting, SomeMeeting};
 ghost use Rattle.rdx_eval.specs.CallExamples.{RemainderOfNegative, CutTowardZero, WrongKind, ByZero, AndStops, AndGivesTheLast, NothingToFail, OrStops, NothingHolds, FalseTakesAway, ZeroIsTrue, SpentAtNone, NotThere};
+ghost use Rattle.rdx_eval.specs.JudgementExamples.{SpentJudgement, NoJudgement, NoRule, AllRules, NotMet, LaterFault};
 ghost use Rattle.rdx_eval.specs.Examples.{OneTurn, TwoLengths, OtherWayRound, NoTurn, SideBySide, InnermostTurns, TurnsInTurns, Unbound, NoContext, ContextFirst, WhereBinds, WhereMeets};
 
 /// A call has one value, or one fault, where the program's languages are free of left recursion.
@@ -9,10 +10,18 @@ pub fn one_value()
     ensures some { SomeValue }
 {}
 
+/// A judgement has one listing of its outputs for each list of inputs, or one fault, where the
+/// program's languages are free of left recursion.
+pub fn one_output_list()
+    ensures one { OneOutputs }
+    ensures some { SomeOutputs }
+{}
+
 /// The value of a call, or its fault, is the same at every greater height, unless the height was
-/// spent.
+/// spent; and so are the outputs of a judgement.
 pub fn values_stay()
     ensures stay { ValuesStay }
+    ensures outputs { OutputsStay }
 {}
 
 /// A template makes of a binding one term, or has one fault, where the program's languages are free
@@ -27,6 +36,13 @@ pub fn one_term()
 pub fn one_extension()
     ensures one { OneExtension }
     ensures some { SomeExtension }
+{}
+
+/// A premise by itself is met by one list of bindings, or has one fault, in languages that are free
+/// of left recursion.
+pub fn one_meeting()
+    ensures one { OneMeeting }
+    ensures some { SomeMeeting }
 {}
 
 /// Worked examples: what the definitions say of small templates, bindings and extras.
@@ -61,4 +77,15 @@ pub fn worked_calls()
     ensures zero_is_true { ZeroIsTrue }
     ensures spent_at_none { SpentAtNone }
     ensures not_there { NotThere }
+{}
+
+/// Worked examples: judgements at no height, those that are not there or have no rules, and which
+/// outputs rules give together.
+pub fn worked_judgements()
+    ensures spent_judgement { SpentJudgement }
+    ensures no_judgement { NoJudgement }
+    ensures no_rule { NoRule }
+    ensures all_rules { AllRules }
+    ensures not_met { NotMet }
+    ensures later_fault { LaterFault }
 {}

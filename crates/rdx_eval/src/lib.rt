@@ -1,5 +1,5 @@
-//! Evaluation: what templates make of bindings, what host expressions and metafunctions make of
-//! terms, and which bindings meet extras.
+//! Evaluation: what templates make of bindings, what host expressions, metafunctions and judgements
+//! make of terms, and which bindings meet extras.
 //!
 //! An [`Engine`] evaluates over a program, with a table of host operations and a matcher of any
 //! kind. What is answered is said by relations with the answer last (`specs/Answers.antt`): a value,

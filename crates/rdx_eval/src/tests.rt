@@ -75,6 +75,7 @@ fn nothing(alloc: Global) -> Program {
     Program {
         languages: Vec::new(alloc),
         metafunctions: Vec::new(alloc),
+        judgements: Vec::new(alloc),
         relations: Vec::new(alloc),
     }
 }

@@ -14,7 +14,8 @@ use Rattle.rdx_eval.proofs.OneAnswer.{once-gives, once-then, once-both, once-gat
 use Rattle.rdx_reduce.specs.Model.TotalOrder.{step_cmp-total}
 use Rattle.rdx_reduce.specs.Steps.{step_cmp, StepBy, RuleSteps, AllSteps, Steps}
 
-module _ (L : Language) (C : Calls) (calls : (f : List ℕ) (a : Tree) → Once (C.value_of f a)) (t : Tree) where
+module _ (L : Language) (C : Calls) (calls : (f : List ℕ) (a : Tree) → Once (C.value_of f a))
+    (outputs : (j : List ℕ) (a : Tree) → Once (C.outputs_of j a)) (t : Tree) where
   -- the step by a rule with a binding
   once-step : (i : ℕ) (r : Rule) (b : Binding) → Once (StepBy C i r b)
   once-step i r b = once-then (Makes C b r.result) _ (once-inst C calls b [] r.result) (λ u. once-gives (value (record { rule = i; reduct = u })))
@@ -22,7 +23,7 @@ module _ (L : Language) (C : Calls) (calls : (f : List ℕ) (a : Tree) → Once 
   -- the steps by a rule
   once-rule : (i : ℕ) (r : Rule) → Once (RuleSteps L C t i r)
   once-rule i r =
-      once-then (Survivors L C t r.pattern r.extras) _ (once-survivors L C calls t r.pattern r.extras)
+      once-then (Survivors L C t r.pattern r.extras) _ (once-survivors L C calls outputs t r.pattern r.extras)
       (once-gather (λ b. Single (StepBy C i r b)) (λ b. once-single (StepBy C i r b) (once-step i r b)))
 
   -- the steps by all rules

@@ -15,7 +15,8 @@ use Rattle.rdx_reduce.specs.Model.TotalOrder.{step_cmp-total}
 use Rattle.rdx_reduce.specs.Steps.{step_cmp, StepBy, RuleSteps, AllSteps, Steps}
 use Rattle.rdx_reduce.proofs.StepOrder.{step_cmp-tells}
 
-module _ (L : Language) (free : IsFree L) (C : Calls) (calls : (f : List ℕ) (a : Tree) → HasAnswer (C.value_of f a)) (t : Tree) where
+module _ (L : Language) (free : IsFree L) (C : Calls) (calls : (f : List ℕ) (a : Tree) → HasAnswer (C.value_of f a))
+    (outputs : (j : List ℕ) (a : Tree) → HasAnswer (C.outputs_of j a)) (t : Tree) where
   -- the step by a rule with a binding
   some-step : (i : ℕ) (r : Rule) (b : Binding) → HasAnswer (StepBy C i r b)
   some-step i r b = some-then (Makes C b r.result) _ (some-inst C calls b [] r.result) (λ u. some-gives (value (record { rule = i; reduct = u })))
@@ -23,7 +24,7 @@ module _ (L : Language) (free : IsFree L) (C : Calls) (calls : (f : List ℕ) (a
   -- the steps by a rule
   some-rule : (i : ℕ) (r : Rule) → HasAnswer (RuleSteps L C t i r)
   some-rule i r =
-      some-then (Survivors L C t r.pattern r.extras) _ (some-survivors L free C calls t r.pattern r.extras)
+      some-then (Survivors L C t r.pattern r.extras) _ (some-survivors L free C calls outputs t r.pattern r.extras)
       (some-gather (λ b. Single (StepBy C i r b)) (λ b. some-single (StepBy C i r b) (some-step i r b)))
 
   -- the steps by all rules

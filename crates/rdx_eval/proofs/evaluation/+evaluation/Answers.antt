@@ -1,33 +1,38 @@
-use Rattle.std.proofs.Common.{arith, ◌≡◌, ℕ, ◌+◌, ◌-◌, ◌<◌, ◌≤◌, true, false, List, [], ◌∷◌, ◌++◌, Option, Some, length, drop, map, refl, ap, sym, ◌∙◌, subst}
+use Rattle.std.proofs.Common.{arith, ◌≡◌, ℕ, ◌+◌, ◌-◌, ◌≤◌, true, List, [], ◌∷◌, ◌++◌, Option, Some, length, drop, map, refl, ap, sym, ◌∙◌, subst}
 use Rattle.std.proofs.lemmas.Grind.{common_steps}
 use Rattle.rdx_term.specs.Tree.{Tree, truth}
 use Rattle.rdx_term.specs.View.{tree_of}
+use Rattle.rdx_term.specs.declared.term.Term as code_term
 use Rattle.rdx_lang.specs.Bindings.{Binding}
 use Rattle.rdx_lang.specs.Checked.{language_in, pattern_in}
 use Rattle.rdx_lang.specs.Patterns.{Language}
-use Rattle.rdx_lang.specs.ProgramView.{clause_of, clauses_of, extra_of, extras_of, metafunction_of, program_of}
-use Rattle.rdx_lang.specs.Programs.{Clause, Extra, Program, such_as, provided}
+use Rattle.rdx_lang.specs.ProgramView.{clause_of, clauses_of, extra_of, extras_of, judgement_of, judgement_rule_of, judgement_rules_of, metafunction_of, premise_of, program_of}
+use Rattle.rdx_lang.specs.Programs.{Extra, JudgementRule, Premise, Program, such_as, provided}
 use Rattle.rdx_lang.specs.Shown.{binding_of, bindings_of}
-use Rattle.rdx_lang.specs.Templates.{Template, fill, call, seq, Host, apply, more}
+use Rattle.rdx_lang.specs.Templates.{Template, fill, call, Host, apply, more}
 use Rattle.rdx_lang.specs.TemplateView.{Part, just, repeated, part_of, template_of, host_of, hosts_of}
 use Rattle.rdx_lang.specs.declared.binding.Binding as code_binding
 use Rattle.rdx_lang.specs.declared.program.Clause as code_clause
 use Rattle.rdx_lang.specs.declared.program.Extra as code_extra
+use Rattle.rdx_lang.specs.declared.program.JRule as code_rule
+use Rattle.rdx_lang.specs.declared.template.Template as code_template
 use Rattle.rdx_lang.proofs.Rest.{rest_at, rest_none}
 use Rattle.rdx_eval.specs.Answers.{Answer, value, fault, spent, undefined, stops, goes, Then, Single, lists}
 use Rattle.rdx_eval.specs.Calls.{Calls}
-use Rattle.rdx_eval.specs.Extending.{By, ByEach, Extend, Survivors}
+use Rattle.rdx_eval.specs.Extending.{By, ByEach, ByPremise, Extend, MatchedEach, Survivors}
 use Rattle.rdx_eval.specs.Languages.{language_found}
+use Rattle.rdx_eval.specs.Inside.Judgements.{judgement_found}
 use Rattle.rdx_eval.specs.Inside.Metafunctions.{metafunction_found}
-use Rattle.rdx_eval.specs.Inside.Parts.{items_in, hosts_in, InstPart, Repeats}
+use Rattle.rdx_eval.specs.Inside.Parts.{items_in, hosts_in, InstPart, InstList, Repeats}
 use Rattle.rdx_eval.specs.Inside.Scopes.{calls_in, calls_here, bound_here, turns_here}
-use Rattle.rdx_eval.specs.Instantiation.{Inst, InstItems, InstHost, InstHosts, FirstFalse, FirstTrue, Makes, agree, numbers, replied}
+use Rattle.rdx_eval.specs.Instantiation.{Inst, InstItems, InstHost, FirstFalse, FirstTrue, Makes, MakeList, agree, numbers, replied}
+use Rattle.rdx_eval.specs.Judgements.{OutputLists, RuleOutputs, Rules, RulesOver}
 use Rattle.rdx_eval.specs.Making.{IsList, IsFilled}
 use Rattle.rdx_eval.specs.Metafunctions.{Clauses, ClausesOver, Results, OneOf}
 use Rattle.rdx_eval.specs.Turns.{lengths}
 use Rattle.rdx_eval.specs.Views.{terms_in, bindings_in}
 use Rattle.rdx_delta.specs.Delta.{delta}
-use Rattle.rdx_eval.proofs.Calling.{at-none, at-some, value-no_metafunction, value-over}
+use Rattle.rdx_eval.proofs.Calling.{at-none, at-some, outputs-no_judgement, outputs-none, outputs-over, outputs-some, value-no_metafunction, value-over}
 use Rattle.rdx_eval.proofs.ExtraAfterExtra.{extends-next, extends-fault}
 use Rattle.rdx_eval.proofs.Gathered.{gathers-next, gathers-fault, gathers-end}
 use Rattle.rdx_eval.proofs.GoingOn.{and-false, and-next, and-fault, or-true, or-next, or-fault, tries-fault, tries-taken, tries-next}
@@ -167,6 +172,53 @@ instantiate_list-returns g t c =
     (λ q h. goes (items_gathered C b is (map part_of xs) (value (terms_in c.loop-item.found))
     (gathers-end (InstPart C b is) (map part_of xs) _ (terms_in c.loop-item.found)
     (rest_none part_of xs c.loop-item.item-index c.loop-item-test.false) c.loop-item.invariant)) h) c.listed.ensures
+
+-- ---- templates, one after the other
+
+pub make_list-returns-in_err-t : goal.make_list-returns-in_err-t
+make_list-returns-in_err-t g t c =
+    let C : Calls = calls_here c.args.scope.now in
+    let b : Binding = bound_here c.args.scope.now in
+    let is : List ℕ = turns_here c.args.scope.now in
+    let R : Template → Answer (List Tree) → Type 0 = λ (u : Template). Single (Inst C b is u) in
+    let xs = c.args.templates.now in
+    let i : ℕ = c.loop-template.template-index in
+    let x = c.template-item.result in
+    let e : map template_of (drop i xs) ≡ template_of x ∷ map template_of (drop (i + 1) xs) =
+    rest_at template_of xs i x c.loop-template-test.true c.template-item.is in
+    error_handed_on tree_of tree_of (Inst C b is (template_of x)) (InstList C b is (map template_of xs))
+    c.from_residual-in_err-t.result _ c.from_residual-in_err-t.ensures.1
+    (λ f h. stops (gathers-fault R (map template_of xs) (template_of x) _ _ (terms_in c.loop-template.found) f e (stops h) c.loop-template.invariant))
+    c.in_err-t.ensures
+
+pub make_list-loop-template-preserved : goal.make_list-loop-template-preserved
+make_list-loop-template-preserved g t c =
+    let C : Calls = calls_here c.args.scope.now in
+    let b : Binding = bound_here c.args.scope.now in
+    let is : List ℕ = turns_here c.args.scope.now in
+    let R : Template → Answer (List Tree) → Type 0 = λ (u : Template). Single (Inst C b is u) in
+    let xs = c.args.templates.now in
+    let i : ℕ = c.loop-template.template-index in
+    let x = c.template-item.result in
+    let e : map template_of (drop i xs) ≡ template_of x ∷ map template_of (drop (i + 1) xs) =
+    rest_at template_of xs i x c.loop-template-test.true c.template-item.is in
+    let d : terms_in c.push.new.self ≡ terms_in c.loop-template.found ++ tree_of c.in_ok-t.t ∷ [] = grind (arith, common_steps) in
+    gathers-next R (map template_of xs) (template_of x) _ _ (terms_in c.loop-template.found) (tree_of c.in_ok-t.t ∷ []) (terms_in c.push.new.self) e d
+    (goes c.in_ok-t.ensures refl) c.loop-template.invariant
+
+pub make_list-returns : goal.make_list-returns
+make_list-returns g t c =
+    let C : Calls = calls_here c.args.scope.now in
+    let b : Binding = bound_here c.args.scope.now in
+    let is : List ℕ = turns_here c.args.scope.now in
+    let R : Template → Answer (List Tree) → Type 0 = λ (u : Template). Single (Inst C b is u) in
+    let xs = c.args.templates.now in
+    let ts : List Tree = terms_in c.loop-template.found in
+    handed_on tree_of (IsList ts) (InstList C b is (map template_of xs)) c.listed.result
+    (λ q h. goes
+    (gathers-end R (map template_of xs) _ ts (rest_none template_of xs c.loop-template.template-index c.loop-template-test.false)
+    c.loop-template.invariant) h)
+    c.listed.ensures
 
 -- ---- an ellipsis
 
@@ -414,11 +466,11 @@ by_clauses-returns-in_err-bs g t c =
     let x = c.clause-item.result in
     let e : clauses_of (drop i xs) ≡ clause_of x ∷ clauses_of (drop (i + 1) xs) =
     rest_at clause_of xs i x c.loop-clause-test.true c.clause-item.is in
-    error_handed_on bindings_in tree_of (Extend L C a (extras_of c.deref.result.now) (bindings_in c.in_ok-found.found)) (Clauses L C f a (clauses_of xs))
+    error_handed_on bindings_in tree_of (Survivors L C a (pattern_in x.args) (extras_of c.deref.result.now)) (Clauses L C f a (clauses_of xs))
     c.from_residual-in_err-bs.result _ c.from_residual-in_err-bs.ensures.1
-    (λ q h. tries-fault L C f a (clauses_of xs) _ c.loop-clause.invariant (clause_of x) _ e q (goes (lists c.in_ok-found.ensures)
-    (subst (λ (es : List code_extra.Extra). Extend L C a (extras_of es) (bindings_in c.in_ok-found.found) (fault q)) c.deref.ensures.value h)))
-    (c.in_err-bs.ensures a)
+    (λ q h. tries-fault L C f a (clauses_of xs) _ c.loop-clause.invariant (clause_of x) _ e q
+    (subst (λ (es : List code_extra.Extra). Survivors L C a (pattern_in x.args) (extras_of es) (fault q)) c.deref.ensures.value h))
+    c.in_err-bs.ensures
 
 pub by_clauses-returns-then-not-is_empty : goal.by_clauses-returns-then-not-is_empty
 by_clauses-returns-then-not-is_empty g t c =
@@ -433,9 +485,7 @@ by_clauses-returns-then-not-is_empty g t c =
     rest_at clause_of xs i x c.loop-clause-test.true c.clause-item.is in
     let bs : List Binding = bindings_in c.in_ok-bs.bs in
     let s : Survivors L C a (pattern_in x.args) (extras_of x.extras.items) (value bs) =
-    goes (lists c.in_ok-found.ensures)
-    (subst (λ (es : List code_extra.Extra). Extend L C a (extras_of es) (bindings_in c.in_ok-found.found) (value bs)) c.deref.ensures.value
-    (c.in_ok-bs.ensures a)) in
+    subst (λ (es : List code_extra.Extra). Survivors L C a (pattern_in x.args) (extras_of es) (value bs)) c.deref.ensures.value c.in_ok-bs.ensures in
     let n : 1 ≤ length bs = grind (arith, common_steps) in
     handed_on tree_of (Results C f a (template_of x.result) (bindings_of c.deref-then-not-is_empty.result.now)) (Clauses L C f a (clauses_of xs)) c.result_of.result
     (λ r h. tries-taken L C f a (clauses_of xs) _ c.loop-clause.invariant (clause_of x) _ e bs s n r
@@ -455,9 +505,7 @@ by_clauses-loop-clause-preserved g t c =
     rest_at clause_of xs i x c.loop-clause-test.true c.clause-item.is in
     let bs : List Binding = bindings_in c.in_ok-bs.bs in
     let s : Survivors L C a (pattern_in x.args) (extras_of x.extras.items) (value bs) =
-    goes (lists c.in_ok-found.ensures)
-    (subst (λ (es : List code_extra.Extra). Extend L C a (extras_of es) (bindings_in c.in_ok-found.found) (value bs)) c.deref.ensures.value
-    (c.in_ok-bs.ensures a)) in
+    subst (λ (es : List code_extra.Extra). Survivors L C a (pattern_in x.args) (extras_of es) (value bs)) c.deref.ensures.value c.in_ok-bs.ensures in
     let n : length bs ≡ 0 = grind (arith, common_steps) in
     tries-next L C f a (clauses_of xs) _ c.loop-clause.invariant (clause_of x) _ e bs s n
 
@@ -513,7 +561,187 @@ result_of-returns g t c =
     (gathers-end R (bindings_of xs) _ (terms_in c.loop-b.found) (rest_none binding_of xs c.loop-b.b-index c.loop-b-test.false) c.loop-b.invariant) h)
     c.one_of.ensures
 
+-- ---- judgements
+
+pub judge-returns-then-height-eq0 : goal.judge-returns-then-height-eq0
+judge-returns-then-height-eq0 g t c =
+    let P : Program = program_of c.args.setting.now.program.now in
+    let n : ℕ = c.args.height in
+    let j : List ℕ = c.args.j.now in
+    let a : Tree = tree_of c.args.ins.now in
+    stops_for terms_in ((calls_in c.args.setting.now n).outputs_of j a) _ (spent j) c.in_ok-spent.ensures (outputs-none P n j a c.if-height-eq0.true)
+
+pub judge-returns-in_default : goal.judge-returns-in_default
+judge-returns-in_default g t c =
+    let P : Program = program_of c.args.setting.now.program.now in
+    let n : ℕ = c.args.height in
+    let C : Calls = calls_in c.args.setting.now (n - 1) in
+    let j : List ℕ = c.args.j.now in
+    let a : Tree = tree_of c.args.ins.now in
+    let e : [] ≡ terms_in c.new.result = sym (ap (λ (ts : List code_term.Term). map tree_of ts) c.new.ensures.items) in
+    subst (λ (ts : List Tree). (calls_in c.args.setting.now n).outputs_of j a (value ts)) e
+    (outputs-some P n (n - 1) j a _ (omega arith) refl
+    (outputs-no_judgement P C j a (judgement_found c.judgement_named.result) c.judgement_named.ensures (ap judgement_found c.in_default.is)))
+
+pub judge-returns-in_default-language_named : goal.judge-returns-in_default-language_named
+judge-returns-in_default-language_named g t c =
+    let P : Program = program_of c.args.setting.now.program.now in
+    let n : ℕ = c.args.height in
+    let C : Calls = calls_in c.args.setting.now (n - 1) in
+    let j : List ℕ = c.args.j.now in
+    let a : Tree = tree_of c.args.ins.now in
+    let J = judgement_of c.in-Some.judgement.now in
+    let d : judgement_found c.judgement_named.result ≡ Some J = ap judgement_found c.in-Some.is in
+    let e : [] ≡ terms_in c.new-in_default-language_named.result =
+    sym (ap (λ (ts : List code_term.Term). map tree_of ts) c.new-in_default-language_named.ensures.items) in
+    subst (λ (ts : List Tree). (calls_in c.args.setting.now n).outputs_of j a (value ts)) e
+    (outputs-some P n (n - 1) j a _ (omega arith) refl
+    (outputs-over P C j a (judgement_found c.judgement_named.result) c.judgement_named.ensures J d
+    (language_found c.language_named.result) c.language_named.ensures _
+    (subst (λ (o : Option Language). RulesOver o C a J.rules (value [])) (sym (ap language_found c.in_default-language_named.is)) refl)))
+
+pub judge-returns : goal.judge-returns
+judge-returns g t c =
+    let P : Program = program_of c.args.setting.now.program.now in
+    let n : ℕ = c.args.height in
+    let C : Calls = calls_in c.args.setting.now (n - 1) in
+    let j : List ℕ = c.args.j.now in
+    let a : Tree = tree_of c.args.ins.now in
+    let J = judgement_of c.in-Some.judgement.now in
+    let d : judgement_found c.judgement_named.result ≡ Some J = ap judgement_found c.in-Some.is in
+    let L : Language = language_in c.in-Some-language_named.language.now in
+    handed_on terms_in (Rules L C a (judgement_rules_of c.as_slice-rules.result.now)) ((calls_in c.args.setting.now n).outputs_of j a)
+    c.by_rules.result
+    (λ r h. outputs-some P n (n - 1) j a r (omega arith) refl
+    (outputs-over P C j a (judgement_found c.judgement_named.result) c.judgement_named.ensures J d
+    (language_found c.language_named.result) c.language_named.ensures r
+    (subst (λ (o : Option Language). RulesOver o C a J.rules r) (sym (ap language_found c.in-Some-language_named.is))
+    (subst (λ (rs : List code_rule.JRule). Rules L C a (judgement_rules_of rs) r) c.as_slice-rules.ensures.value h))))
+    c.by_rules.ensures
+
+-- ---- rules
+
+pub by_rules-returns-in_err-bs : goal.by_rules-returns-in_err-bs
+by_rules-returns-in_err-bs g t c =
+    let C : Calls = calls_in c.args.setting.now c.args.height in
+    let L : Language = language_in c.args.language.now in
+    let a : Tree = tree_of c.args.ins.now in
+    let R : JudgementRule → Answer (List Tree) → Type 0 = RuleOutputs L C a in
+    let xs = c.args.rules.now in
+    let i : ℕ = c.loop-rule.rule-index in
+    let x = c.rule-item.result in
+    let e : judgement_rules_of (drop i xs) ≡ judgement_rule_of x ∷ judgement_rules_of (drop (i + 1) xs) =
+    rest_at judgement_rule_of xs i x c.loop-rule-test.true c.rule-item.is in
+    error_handed_on bindings_in terms_in (Survivors L C a (pattern_in x.ins) (extras_of c.deref.result.now)) (Rules L C a (judgement_rules_of xs))
+    c.from_residual-in_err-bs.result _ c.from_residual-in_err-bs.ensures.1
+    (λ f h. stops (gathers-fault R (judgement_rules_of xs) (judgement_rule_of x) _ _ (terms_in c.loop-rule.found) f e
+    (stops (subst (λ (es : List code_extra.Extra). Survivors L C a (pattern_in x.ins) (extras_of es) (fault f)) c.deref.ensures.value h))
+    c.loop-rule.invariant))
+    c.in_err-bs.ensures
+
+pub by_rules-returns-in_err-more : goal.by_rules-returns-in_err-more
+by_rules-returns-in_err-more g t c =
+    let C : Calls = calls_in c.args.setting.now c.args.height in
+    let L : Language = language_in c.args.language.now in
+    let a : Tree = tree_of c.args.ins.now in
+    let R : JudgementRule → Answer (List Tree) → Type 0 = RuleOutputs L C a in
+    let xs = c.args.rules.now in
+    let i : ℕ = c.loop-rule.rule-index in
+    let x = c.rule-item.result in
+    let ts = c.deref-in-loop-rule.result.now in
+    let cs = c.deref-in-loop-rule-2.result.now in
+    let bs : List Binding = bindings_in c.in_ok-bs.bs in
+    let e : judgement_rules_of (drop i xs) ≡ judgement_rule_of x ∷ judgement_rules_of (drop (i + 1) xs) =
+    rest_at judgement_rule_of xs i x c.loop-rule-test.true c.rule-item.is in
+    let s : Survivors L C a (pattern_in x.ins) (extras_of x.extras.items) (value bs) =
+    subst (λ (es : List code_extra.Extra). Survivors L C a (pattern_in x.ins) (extras_of es) (value bs)) c.deref.ensures.value c.in_ok-bs.ensures in
+    error_handed_on terms_in terms_in (OutputLists C (map template_of ts) (bindings_of cs)) (Rules L C a (judgement_rules_of xs))
+    c.from_residual-in_err-more.result _ c.from_residual-in_err-more.ensures.1
+    (λ f h. stops (gathers-fault R (judgement_rules_of xs) (judgement_rule_of x) _ _ (terms_in c.loop-rule.found) f e
+    (goes s (subst (λ (us : List code_template.Template). OutputLists C (map template_of us) bs (fault f)) c.deref-in-loop-rule.ensures.value
+    (subst (λ (ds : List code_binding.Binding). OutputLists C (map template_of ts) (bindings_of ds) (fault f)) c.deref-in-loop-rule-2.ensures.value h)))
+    c.loop-rule.invariant))
+    c.in_err-more.ensures
+
+pub by_rules-loop-rule-preserved : goal.by_rules-loop-rule-preserved
+by_rules-loop-rule-preserved g t c =
+    let C : Calls = calls_in c.args.setting.now c.args.height in
+    let L : Language = language_in c.args.language.now in
+    let a : Tree = tree_of c.args.ins.now in
+    let R : JudgementRule → Answer (List Tree) → Type 0 = RuleOutputs L C a in
+    let xs = c.args.rules.now in
+    let i : ℕ = c.loop-rule.rule-index in
+    let x = c.rule-item.result in
+    let ts = c.deref-in-loop-rule.result.now in
+    let bs : List Binding = bindings_in c.in_ok-bs.bs in
+    let more : List Tree = terms_in c.in_ok-more.more in
+    let e : judgement_rules_of (drop i xs) ≡ judgement_rule_of x ∷ judgement_rules_of (drop (i + 1) xs) =
+    rest_at judgement_rule_of xs i x c.loop-rule-test.true c.rule-item.is in
+    let s : Survivors L C a (pattern_in x.ins) (extras_of x.extras.items) (value bs) =
+    subst (λ (es : List code_extra.Extra). Survivors L C a (pattern_in x.ins) (extras_of es) (value bs)) c.deref.ensures.value c.in_ok-bs.ensures in
+    let o : OutputLists C (map template_of x.outs.items) bs (value more) =
+    subst (λ (us : List code_template.Template). OutputLists C (map template_of us) bs (value more)) c.deref-in-loop-rule.ensures.value
+    (subst (λ (ds : List code_binding.Binding). OutputLists C (map template_of ts) (bindings_of ds) (value more)) c.deref-in-loop-rule-2.ensures.value
+    c.in_ok-more.ensures) in
+    let d : terms_in c.append.new.self ≡ terms_in c.loop-rule.found ++ more = grind (arith, common_steps) in
+    gathers-next R (judgement_rules_of xs) (judgement_rule_of x) _ _ (terms_in c.loop-rule.found) more (terms_in c.append.new.self) e d (goes s o)
+    c.loop-rule.invariant
+
+pub by_rules-returns : goal.by_rules-returns
+by_rules-returns g t c =
+    let C : Calls = calls_in c.args.setting.now c.args.height in
+    let L : Language = language_in c.args.language.now in
+    let a : Tree = tree_of c.args.ins.now in
+    let xs = c.args.rules.now in
+    goes
+    (gathers-end (RuleOutputs L C a) (judgement_rules_of xs) _ (terms_in c.loop-rule.found)
+    (rest_none judgement_rule_of xs c.loop-rule.rule-index c.loop-rule-test.false) c.loop-rule.invariant)
+    (lists c.in_ok-ascending.ensures)
+
+pub output_lists-returns-in_err-t : goal.output_lists-returns-in_err-t
+output_lists-returns-in_err-t g t c =
+    let C : Calls = calls_in c.args.setting.now c.args.height in
+    let ts : List Template = map template_of c.args.templates.now in
+    let R : Binding → Answer (List Tree) → Type 0 = λ (b : Binding). Single (MakeList C b ts) in
+    let xs = c.args.bs.now in
+    let i : ℕ = c.loop-binding.binding-index in
+    let x = c.binding-item.result in
+    let e : bindings_of (drop i xs) ≡ binding_of x ∷ bindings_of (drop (i + 1) xs) = rest_at binding_of xs i x c.loop-binding-test.true c.binding-item.is in
+    error_handed_on tree_of terms_in (MakeList C (binding_of x) ts) (OutputLists C ts (bindings_of xs))
+    c.from_residual-in_err-t.result _ c.from_residual-in_err-t.ensures.1
+    (λ f h. gathers-fault R (bindings_of xs) (binding_of x) _ _ (terms_in c.loop-binding.found) f e (stops h) c.loop-binding.invariant) c.in_err-t.ensures
+
+pub output_lists-loop-binding-preserved : goal.output_lists-loop-binding-preserved
+output_lists-loop-binding-preserved g t c =
+    let C : Calls = calls_in c.args.setting.now c.args.height in
+    let ts : List Template = map template_of c.args.templates.now in
+    let R : Binding → Answer (List Tree) → Type 0 = λ (b : Binding). Single (MakeList C b ts) in
+    let xs = c.args.bs.now in
+    let i : ℕ = c.loop-binding.binding-index in
+    let x = c.binding-item.result in
+    let e : bindings_of (drop i xs) ≡ binding_of x ∷ bindings_of (drop (i + 1) xs) = rest_at binding_of xs i x c.loop-binding-test.true c.binding-item.is in
+    let d : terms_in c.push.new.self ≡ terms_in c.loop-binding.found ++ tree_of c.in_ok-t.t ∷ [] = grind (arith, common_steps) in
+    gathers-next R (bindings_of xs) (binding_of x) _ _ (terms_in c.loop-binding.found) (tree_of c.in_ok-t.t ∷ []) (terms_in c.push.new.self) e d
+    (goes c.in_ok-t.ensures refl) c.loop-binding.invariant
+
+pub output_lists-returns : goal.output_lists-returns
+output_lists-returns g t c =
+    let C : Calls = calls_in c.args.setting.now c.args.height in
+    let ts : List Template = map template_of c.args.templates.now in
+    let xs = c.args.bs.now in
+    gathers-end (λ (b : Binding). Single (MakeList C b ts)) (bindings_of xs) _ (terms_in c.loop-binding.found)
+    (rest_none binding_of xs c.loop-binding.binding-index c.loop-binding-test.false) c.loop-binding.invariant
+
 -- ---- extras
+
+pub survivors-returns : goal.survivors-returns
+survivors-returns g t c =
+    let C : Calls = calls_in c.args.setting.now c.args.height in
+    let L : Language = language_in c.args.language.now in
+    let w : Tree = tree_of c.args.t.now in
+    let es = extras_of c.args.extras.now in
+    handed_on bindings_in (Extend L C w es (bindings_in c.in_ok-found.found)) (Survivors L C w (pattern_in c.args.pat.now) es) c.extend.result
+    (λ q h. goes (lists c.in_ok-found.ensures) h) (c.extend.ensures w)
 
 pub extend-returns-in_err-bs : goal.extend-returns-in_err-bs
 extend-returns-in_err-bs g t c w =
@@ -618,3 +846,41 @@ by-returns-in_ok-unless_false-in-Side g t c w =
     let e : extra_of c.args.extra.now ≡ provided (host_of c.in-Side.h) = ap extra_of c.in-Side.is in
     subst (λ (x : Extra). By L C w x b (value (bindings_in c.in_ok-unless_false-in-Side.field-0))) (sym e)
     (goes c.in_ok-t-in-Side.ensures (ap value c.in_ok-unless_false-in-Side.ensures))
+
+-- ---- premises
+
+pub by_premise-returns-in_err-ins : goal.by_premise-returns-in_err-ins
+by_premise-returns-in_err-ins g t c =
+    let C : Calls = calls_in c.args.setting.now c.args.height in
+    let L : Language = language_in c.args.language.now in
+    let q : Premise = premise_of c.args.premise.now in
+    let b : Binding = binding_of c.args.b.now in
+    error_handed_on tree_of bindings_in (MakeList C b (map template_of c.deref.result.now)) (ByPremise L C q b)
+    c.from_residual-in_err-ins.result _ c.from_residual-in_err-ins.ensures.1
+    (λ f h. stops (stops (subst (λ (ts : List code_template.Template). MakeList C b (map template_of ts) (fault f)) c.deref.ensures.value h)))
+    c.in_err-ins.ensures
+
+pub by_premise-returns-in_err-found : goal.by_premise-returns-in_err-found
+by_premise-returns-in_err-found g t c =
+    let C : Calls = calls_in c.args.setting.now c.args.height in
+    let L : Language = language_in c.args.language.now in
+    let q : Premise = premise_of c.args.premise.now in
+    let b : Binding = binding_of c.args.b.now in
+    let u : Tree = tree_of c.in_ok-ins.ins in
+    let m : MakeList C b q.inputs (value u) =
+    subst (λ (ts : List code_template.Template). MakeList C b (map template_of ts) (value u)) c.deref.ensures.value c.in_ok-ins.ensures in
+    error_handed_on terms_in bindings_in (C.outputs_of q.judgement u) (ByPremise L C q b)
+    c.from_residual-in_err-found.result _ c.from_residual-in_err-found.ensures.1 (λ f h. stops (goes m h)) c.in_err-found.ensures
+
+pub by_premise-returns : goal.by_premise-returns
+by_premise-returns g t c =
+    let C : Calls = calls_in c.args.setting.now c.args.height in
+    let L : Language = language_in c.args.language.now in
+    let q : Premise = premise_of c.args.premise.now in
+    let b : Binding = binding_of c.args.b.now in
+    let u : Tree = tree_of c.in_ok-ins.ins in
+    let bs : List Binding = bindings_in c.in_ok-matched_each.field-0 in
+    let m : MakeList C b q.inputs (value u) =
+    subst (λ (ts : List code_template.Template). MakeList C b (map template_of ts) (value u)) c.deref.ensures.value c.in_ok-ins.ensures in
+    goes (goes m c.in_ok-found.ensures)
+    (subst (λ (ts : List code_term.Term). MatchedEach L q.outputs b (map tree_of ts) (value bs)) c.deref-2.ensures.value c.in_ok-matched_each.ensures)

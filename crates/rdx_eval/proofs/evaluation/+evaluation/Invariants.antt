@@ -2,15 +2,16 @@ use Rattle.std.proofs.Common.{ℕ, ◌-◌, ◌++◌, ◌∷◌, [], drop, map}
 use Rattle.rdx_term.specs.Tree.{Tree}
 use Rattle.rdx_term.specs.View.{tree_of}
 use Rattle.rdx_lang.specs.Checked.{language_in}
-use Rattle.rdx_lang.specs.ProgramView.{clauses_of, extra_of, extras_of}
+use Rattle.rdx_lang.specs.ProgramView.{clauses_of, extra_of, extras_of, judgement_rules_of}
 use Rattle.rdx_lang.specs.Shown.{bindings_of}
-use Rattle.rdx_lang.specs.Templates.{Host}
+use Rattle.rdx_lang.specs.Templates.{Host, Template}
 use Rattle.rdx_lang.specs.TemplateView.{part_of, host_of, template_of}
 use Rattle.rdx_eval.specs.Answers.{Single}
 use Rattle.rdx_eval.specs.Extending.{By}
 use Rattle.rdx_eval.specs.Inside.Parts.{InstPart, hosts_in}
 use Rattle.rdx_eval.specs.Inside.Scopes.{calls_in, calls_here, bound_here, turns_here}
-use Rattle.rdx_eval.specs.Instantiation.{Inst, InstHost, Makes, numbers}
+use Rattle.rdx_eval.specs.Instantiation.{Inst, InstHost, Makes, MakeList, numbers}
+use Rattle.rdx_eval.specs.Judgements.{RuleOutputs}
 use Rattle.rdx_eval.specs.Views.{terms_in, bindings_in}
 use Rattle.rdx_lang.specs.Bindings.{Binding}
 use Rattle.rdx_eval.proofs.ExtraAfterExtra.{Extends}
@@ -29,6 +30,9 @@ decreases-call_with g l = l.room.left
 
 abbrev pub decreases-instantiate_list : goal.decreases-instantiate_list
 decreases-instantiate_list g l = l.room.left
+
+abbrev pub decreases-make_list : goal.decreases-make_list
+decreases-make_list g l = l.room.left
 
 abbrev pub decreases-repeat : goal.decreases-repeat
 decreases-repeat g l = l.room.left
@@ -54,6 +58,18 @@ decreases-by_clauses g l = l.room.left
 abbrev pub decreases-result_of : goal.decreases-result_of
 decreases-result_of g l = l.room.left
 
+abbrev pub decreases-judge : goal.decreases-judge
+decreases-judge g l = l.room.left
+
+abbrev pub decreases-by_rules : goal.decreases-by_rules
+decreases-by_rules g l = l.room.left
+
+abbrev pub decreases-output_lists : goal.decreases-output_lists
+decreases-output_lists g l = l.room.left
+
+abbrev pub decreases-survivors : goal.decreases-survivors
+decreases-survivors g l = l.room.left
+
 abbrev pub decreases-extend : goal.decreases-extend
 decreases-extend g l = l.room.left
 
@@ -63,9 +79,17 @@ decreases-by_each g l = l.room.left
 abbrev pub decreases-by : goal.decreases-by
 decreases-by g l = l.room.left
 
+abbrev pub decreases-by_premise : goal.decreases-by_premise
+decreases-by_premise g l = l.room.left
+
 abbrev pub invariant-instantiate_list-loop-item : goal.invariant-instantiate_list-loop-item
 invariant-instantiate_list-loop-item g l =
     Gathers (InstPart (calls_here l.scope) (bound_here l.scope) (turns_here l.scope)) (map part_of l.items) (map part_of (drop l.item-index l.items)) (terms_in l.found)
+
+abbrev pub invariant-make_list-loop-template : goal.invariant-make_list-loop-template
+invariant-make_list-loop-template g l =
+    Gathers (λ (t : Template). Single (Inst (calls_here l.scope) (bound_here l.scope) (turns_here l.scope) t))
+    (map template_of l.templates) (map template_of (drop l.template-index l.templates)) (terms_in l.found)
 
 abbrev pub invariant-repeat-loop-turn : goal.invariant-repeat-loop-turn
 invariant-repeat-loop-turn g l =
@@ -93,6 +117,16 @@ abbrev pub invariant-result_of-loop-b : goal.invariant-result_of-loop-b
 invariant-result_of-loop-b g l =
     Gathers (λ (b : Binding). Single (Makes (calls_in l.setting l.height) b (template_of l.template))) (bindings_of l.bs) (bindings_of (drop l.b-index l.bs))
     (terms_in l.found)
+
+abbrev pub invariant-by_rules-loop-rule : goal.invariant-by_rules-loop-rule
+invariant-by_rules-loop-rule g l =
+    Gathers (RuleOutputs (language_in l.language) (calls_in l.setting l.height) (tree_of l.ins))
+    (judgement_rules_of l.rules) (judgement_rules_of (drop l.rule-index l.rules)) (terms_in l.found)
+
+abbrev pub invariant-output_lists-loop-binding : goal.invariant-output_lists-loop-binding
+invariant-output_lists-loop-binding g l =
+    Gathers (λ (b : Binding). Single (MakeList (calls_in l.setting l.height) b (map template_of l.templates)))
+    (bindings_of l.bs) (bindings_of (drop l.binding-index l.bs)) (terms_in l.found)
 
 abbrev pub invariant-extend-loop-extra : goal.invariant-extend-loop-extra
 invariant-extend-loop-extra g l =
