@@ -1,6 +1,7 @@
--- The worked examples of relations and of metafunctions.
+-- The worked examples of relations, of metafunctions and of judgements.
 use Rattle.std.proofs.Common.{refl}
 use Rattle.std.specs.Str.{chars}
+use Rattle.rdx_defs.specs.JudgementExamples.{AheadMeans, BehindMeans, SeesNoOutput, ConfirmsTerm, ConclusionRefused, NoModeRefused, UnknownRefused}
 use Rattle.rdx_defs.specs.MetafunctionExamples.{ClosesContract, CallsAnother, OtherNameRefused, NamedClauseRefused}
 use Rattle.rdx_defs.specs.RelationExamples.{BindsBehind, NameRefused, ArrowRefused, ExtraRefused, ResultRefused, ClashRefused}
 
@@ -47,3 +48,33 @@ other_name_refused = refl
 pub named_clause_refused : NamedClauseRefused
 unfolding chars
 named_clause_refused = refl
+
+-- ---- judgements
+
+pub ahead_means : AheadMeans
+unfolding chars
+ahead_means s = record { passes = refl; parts = _; is_form = refl; is_read = refl }
+
+pub behind_means : BehindMeans
+unfolding chars
+behind_means s = record { passes = refl; parts = _; is_form = refl; is_read = refl }
+
+pub sees_no_output : SeesNoOutput
+unfolding chars
+sees_no_output s = record { passes = refl; parts = _; is_form = refl; is_read = refl }
+
+pub confirms_term : ConfirmsTerm
+unfolding chars
+confirms_term s = record { passes = refl; parts = _; is_form = refl; is_read = refl }
+
+pub conclusion_refused : ConclusionRefused
+unfolding chars
+conclusion_refused = refl
+
+pub no_mode_refused : NoModeRefused
+unfolding chars
+no_mode_refused = refl
+
+pub unknown_refused : UnknownRefused
+unfolding chars
+unknown_refused = refl

@@ -7,22 +7,26 @@ use Rattle.rdx_grammar.specs.Unbuilt.{unbuilt_at}
 use Rattle.rdx_grammar.specs.declared.shape.fault.DefKind.TheVariants.{Shape, BadName, BadPattern, EllipsisDepth, UnknownName, EllipsisVariable, RacketEscape}
 use Rattle.rdx_grammar.proofs.Firsts.{nothing, none_of}
 use Rattle.rdx_defs.specs.Inside.BareStands as bare_stands
-use Rattle.rdx_defs.specs.Inside.Branches.{Outline, relation_outline, metafunction_outline}
+use Rattle.rdx_defs.specs.Inside.Branches.{Outline, relation_outline, metafunction_outline, judgement_outline, question_outline}
 use Rattle.rdx_defs.specs.Inside.ByNames.{outline_faults}
 use Rattle.rdx_defs.specs.Inside.FormRefusals.{early_refusal, late_refusal, form_refusal}
+use Rattle.rdx_defs.specs.JudgementForms.{JudgementForm, judgement_form}
+use Rattle.rdx_defs.specs.JudgementRefusal.{judgement_refusal, lone_premise_stands, premise_refusal}
+use Rattle.rdx_defs.specs.JudgementStands.{judgement_stands}
 use Rattle.rdx_defs.specs.MetafunctionForms.{ClauseForm, clause_form, ContractForm, MetafunctionForm, metafunction_form, function_or, function_by, clauses_function, function_in}
 use Rattle.rdx_defs.specs.MetafunctionRefusal.{metafunction_refusal}
 use Rattle.rdx_defs.specs.MetafunctionStands.{clause_stands, clauses_stand, function_stands, metafunction_stands}
 use Rattle.rdx_defs.specs.RelationForms.{RelationForm, relation_form}
-use Rattle.rdx_defs.specs.RelationRefusal.{stands_refusal, relation_refusal}
+use Rattle.rdx_defs.specs.RelationRefusal.{relation_refusal}
 use Rattle.rdx_defs.specs.RelationStands.{relation_stands}
 use Rattle.rdx_defs.specs.Scope.{Scope}
-use Rattle.rdx_defs.specs.StandChecks.{shape_faults, shape_at, repeated_at, repeated_name_at, bad_names, bad_name_at, bad_places, bad_place_at, depth_faults, depth_fault_at, bad_arrow_at, undriven_places, undriven_at, escape_at}
+use Rattle.rdx_defs.specs.StandChecks.{shape_faults, shape_at, repeated_at, repeated_name_at, bad_names, bad_name_at, bad_places, bad_place_at, depth_faults, depth_fault_at, unknown_names, unknown_name_at, undriven_places, undriven_at, escape_at, mode_faults, misfit_at, mode_fault_at}
+use Rattle.rdx_defs.specs.StandRefusal.{stands_refusal}
 use Rattle.rdx_defs.specs.Stands.{Stand}
 use Rattle.rdx_defs.specs.declared.stands.faults.Check.{Check}
 use Rattle.rdx_defs.specs.declared.stands.faults.Check.TheVariants.{Places, Depths, Driving, Escapes}
-use Rattle.rdx_defs.proofs.BareChecks.{bare, bare-relation, bare-function, shapes-bare, repeated-bare, bad_names-bare, bad_arrows-bare}
-use Rattle.rdx_defs.proofs.NamesBound.{faults, relation-faults, function-faults}
+use Rattle.rdx_defs.proofs.BareChecks.{bare, bare-relation, bare-function, bare-judgement, bare-question, shapes-bare, repeated-bare, bad_names-bare, unknown_names-bare, mode_faults-bare}
+use Rattle.rdx_defs.proofs.NamesBound.{faults, relation-faults, function-faults, judgement-faults, question-faults}
 
 -- the first of these is that of three, or else of the others
 after_three : (a b c : Option Refusal) (os : List (Option Refusal)) → first_refusal (a ∷ b ∷ c ∷ os) ≡ or_else (first_refusal (a ∷ b ∷ c ∷ [])) (first_refusal os)
@@ -35,6 +39,11 @@ after_three None None None os = refl
 alone : {A : Type 0} (o : Option A) → or_else o None ≡ o
 alone None = refl
 alone (Some x) = refl
+
+-- the checks that have to know what is bound, and those behind them
+abbrev pub late_checks : Scope → List (List ℕ) → List Stand → List (Option Refusal)
+late_checks S ns ss =
+    bad_place_at S ns ss ∷ depth_fault_at S ns ss ∷ unknown_name_at S ss ∷ undriven_at S ss ∷ escape_at S ss ∷ mode_fault_at ss ∷ []
 
 -- ---- what stands in a form, and its outline
 
@@ -51,38 +60,39 @@ module _ (S : Scope) (ns : List (List ℕ)) (ss rs : List Stand) (o : Outline) (
       ∙ ap early_refusal same
 
   -- and the late ones by the outline
-  late : first_refusal (bad_place_at S ns ss ∷ depth_fault_at S ns ss ∷ bad_arrow_at ss ∷ undriven_at S ss ∷ escape_at S ss ∷ []) ≡ late_refusal S ns rs o
+  late : first_refusal (late_checks S ns ss) ≡ late_refusal S ns rs o
   late =
       (λ i.
       first_refusal
       (option_map (unnamed BadPattern) (first (alike Places i))
       ∷ option_map (named EllipsisDepth) (first (alike Depths i))
-      ∷ option_map (named UnknownName) (first (sym (bad_arrows-bare ss) i))
+      ∷ option_map (named UnknownName) (first (sym (unknown_names-bare S ss) i))
       ∷ option_map (unnamed EllipsisVariable) (first (alike Driving i))
       ∷ option_map (unnamed RacketEscape) (first (alike Escapes i))
+      ∷ option_map misfit_at (first (sym (mode_faults-bare ss) i))
       ∷ []))
       ∙ ap (λ (us : List Stand). late_refusal S ns us o) same
 
   -- both together
   form-refused : stands_refusal S ns ss ≡ form_refusal S ns rs o
   form-refused =
-      after_three (shape_at ss) (repeated_name_at ss) (bad_name_at ss) (bad_place_at S ns ss ∷ depth_fault_at S ns ss ∷ bad_arrow_at ss ∷ undriven_at S ss ∷ escape_at S ss ∷ [])
+      after_three (shape_at ss) (repeated_name_at ss) (bad_name_at ss) (late_checks S ns ss)
       ∙ (λ i. or_else (early i) (late i))
 
 -- ---- relations
 
 -- where nothing is unbuilt
 pub relation-refused : (S : Scope) (ns : List (List ℕ)) (d : Sexp) (r : RelationForm) → unbuilt_at d ≡ None → relation_form d ≡ Some r
-    → relation_refusal S ns d ≡ form_refusal S ns (bare_stands.relation_stands r) (relation_outline r)
+    → relation_refusal S ns d ≡ form_refusal S ns (bare_stands.relation_stands S r) (relation_outline r)
 relation-refused S ns d r u e =
-    let ss = relation_stands ns d (Some r) in
-    (λ i. first_refusal (u i ∷ stands_refusal S ns (relation_stands ns d (e i)) ∷ []))
+    let ss = relation_stands S ns d (Some r) in
+    (λ i. first_refusal (u i ∷ stands_refusal S ns (relation_stands S ns d (e i)) ∷ []))
     ∙ alone (stands_refusal S ns ss)
-    ∙ form-refused S ns ss (bare_stands.relation_stands r) (relation_outline r) (bare-relation ns d r) (λ k. relation-faults k S ns d r)
+    ∙ form-refused S ns ss (bare_stands.relation_stands S r) (relation_outline r) (bare-relation S ns d r) (λ k. relation-faults k S ns d r)
 
 -- without the parts of a relation
 pub no-relation : (S : Scope) (ns : List (List ℕ)) (d : Sexp) → relation_form d ≡ None → relation_refusal S ns d ≡ or_else (unbuilt_at d) (Some (unnamed Shape d))
-no-relation S ns d e i = first_refusal (unbuilt_at d ∷ stands_refusal S ns (relation_stands ns d (e i)) ∷ [])
+no-relation S ns d e i = first_refusal (unbuilt_at d ∷ stands_refusal S ns (relation_stands S ns d (e i)) ∷ [])
 
 -- ---- metafunctions
 
@@ -96,17 +106,39 @@ no-contract m e = by_contract m.contract e
 
 -- where nothing is unbuilt
 pub metafunction-refused : (S : Scope) (ns : List (List ℕ)) (d : Sexp) (m : MetafunctionForm) → unbuilt_at d ≡ None → metafunction_form d ≡ Some m
-    → metafunction_refusal S ns d ≡ form_refusal S ns (bare_stands.function_stands m (function_in m)) (metafunction_outline m (function_in m))
+    → metafunction_refusal S ns d ≡ form_refusal S ns (bare_stands.function_stands S m (function_in m)) (metafunction_outline m (function_in m))
 metafunction-refused S ns d m u e =
     let f = function_in m in
-    let ss = function_stands ns m f in
-    (λ i. first_refusal (u i ∷ stands_refusal S ns (metafunction_stands ns d (e i)) ∷ []))
+    let ss = function_stands S ns m f in
+    (λ i. first_refusal (u i ∷ stands_refusal S ns (metafunction_stands S ns d (e i)) ∷ []))
     ∙ alone (stands_refusal S ns ss)
-    ∙ form-refused S ns ss (bare_stands.function_stands m f) (metafunction_outline m f) (bare-function ns m f) (λ k. function-faults k S ns m f (no-contract m))
+    ∙ form-refused S ns ss (bare_stands.function_stands S m f) (metafunction_outline m f) (bare-function S ns m f) (λ k. function-faults k S ns m f (no-contract m))
 
 -- without the parts of a metafunction
 pub no-metafunction : (S : Scope) (ns : List (List ℕ)) (d : Sexp) → metafunction_form d ≡ None → metafunction_refusal S ns d ≡ or_else (unbuilt_at d) (Some (unnamed Shape d))
-no-metafunction S ns d e i = first_refusal (unbuilt_at d ∷ stands_refusal S ns (metafunction_stands ns d (e i)) ∷ [])
+no-metafunction S ns d e i = first_refusal (unbuilt_at d ∷ stands_refusal S ns (metafunction_stands S ns d (e i)) ∷ [])
+
+-- ---- judgements
+
+-- where nothing is unbuilt
+pub judgement-refused : (S : Scope) (ns : List (List ℕ)) (d : Sexp) (f : JudgementForm) → unbuilt_at d ≡ None → judgement_form d ≡ Some f
+    → judgement_refusal S ns d ≡ form_refusal S ns (bare_stands.judgement_stands S d f) (judgement_outline f)
+judgement-refused S ns d f u e =
+    let ss = judgement_stands S ns d (Some f) in
+    (λ i. first_refusal (u i ∷ stands_refusal S ns (judgement_stands S ns d (e i)) ∷ []))
+    ∙ alone (stands_refusal S ns ss)
+    ∙ form-refused S ns ss (bare_stands.judgement_stands S d f) (judgement_outline f) (bare-judgement S ns d f) (λ k. judgement-faults k S ns d f)
+
+-- without the parts of a judgement
+pub no-judgement : (S : Scope) (ns : List (List ℕ)) (d : Sexp) → judgement_form d ≡ None → judgement_refusal S ns d ≡ or_else (unbuilt_at d) (Some (unnamed Shape d))
+no-judgement S ns d e i = first_refusal (unbuilt_at d ∷ stands_refusal S ns (judgement_stands S ns d (e i)) ∷ [])
+
+-- a premise by itself, and a template behind it
+pub question-refused : (S : Scope) (ns : List (List ℕ)) (d : Sexp) (t : Option Sexp)
+    → premise_refusal S ns d t ≡ form_refusal S ns (bare_stands.question_stands S d t) (question_outline d t)
+question-refused S ns d t =
+    form-refused S ns (lone_premise_stands S ns d t) (bare_stands.question_stands S d t) (question_outline d t) (bare-question S ns d t)
+    (λ k. question-faults k S ns d t)
 
 -- ---- what is not refused
 
@@ -126,53 +158,72 @@ pub record ArePassed (S : Scope) (ns : List (List ℕ)) (ss : List Stand) : Type
   pub names : bad_names ss ≡ []
   pub places : bad_places S ns ss ≡ []
   pub depths : depth_faults S ns ss ≡ []
+  pub known : unknown_names S ss ≡ []
   pub driving : undriven_places S ss ≡ []
+  pub modes : mode_faults ss ≡ []
 
 -- so it is where nothing is refused
 pub stands-passed : (S : Scope) (ns : List (List ℕ)) (ss : List Stand) → stands_refusal S ns ss ≡ None → ArePassed S ns ss
 stands-passed S ns ss e =
-    let a = none_of (shape_at ss) (repeated_name_at ss ∷ bad_name_at ss ∷ bad_place_at S ns ss ∷ depth_fault_at S ns ss ∷ bad_arrow_at ss ∷ undriven_at S ss ∷ escape_at S ss ∷ []) e in
-    let b = none_of (repeated_name_at ss) (bad_name_at ss ∷ bad_place_at S ns ss ∷ depth_fault_at S ns ss ∷ bad_arrow_at ss ∷ undriven_at S ss ∷ escape_at S ss ∷ []) a.1 in
-    let c = none_of (bad_name_at ss) (bad_place_at S ns ss ∷ depth_fault_at S ns ss ∷ bad_arrow_at ss ∷ undriven_at S ss ∷ escape_at S ss ∷ []) b.1 in
-    let d = none_of (bad_place_at S ns ss) (depth_fault_at S ns ss ∷ bad_arrow_at ss ∷ undriven_at S ss ∷ escape_at S ss ∷ []) c.1 in
-    let f = none_of (depth_fault_at S ns ss) (bad_arrow_at ss ∷ undriven_at S ss ∷ escape_at S ss ∷ []) d.1 in
-    let g = none_of (bad_arrow_at ss) (undriven_at S ss ∷ escape_at S ss ∷ []) f.1 in
-    let h = none_of (undriven_at S ss) (escape_at S ss ∷ []) g.1 in
+    let a = none_of (shape_at ss) (repeated_name_at ss ∷ bad_name_at ss ∷ late_checks S ns ss) e in
+    let b = none_of (repeated_name_at ss) (bad_name_at ss ∷ late_checks S ns ss) a.1 in
+    let c = none_of (bad_name_at ss) (late_checks S ns ss) b.1 in
+    let d = none_of (bad_place_at S ns ss) (depth_fault_at S ns ss ∷ unknown_name_at S ss ∷ undriven_at S ss ∷ escape_at S ss ∷ mode_fault_at ss ∷ []) c.1 in
+    let f = none_of (depth_fault_at S ns ss) (unknown_name_at S ss ∷ undriven_at S ss ∷ escape_at S ss ∷ mode_fault_at ss ∷ []) d.1 in
+    let g = none_of (unknown_name_at S ss) (undriven_at S ss ∷ escape_at S ss ∷ mode_fault_at ss ∷ []) f.1 in
+    let h = none_of (undriven_at S ss) (escape_at S ss ∷ mode_fault_at ss ∷ []) g.1 in
+    let k = none_of (escape_at S ss) (mode_fault_at ss ∷ []) h.1 in
+    let l = none_of (mode_fault_at ss) [] k.1 in
     record {
       shapes = nothing (unnamed Shape) (shape_faults ss) a.0;
       names = nothing (named BadName) (bad_names ss) c.0;
       places = nothing (unnamed BadPattern) (bad_places S ns ss) d.0;
       depths = nothing (named EllipsisDepth) (depth_faults S ns ss) f.0;
+      known = nothing (named UnknownName) (unknown_names S ss) g.0;
       driving = nothing (unnamed EllipsisVariable) (undriven_places S ss) h.0;
+      modes = nothing misfit_at (mode_faults ss) l.0;
     }
 
 -- a relation that is not refused
-pub relation-passed : (S : Scope) (ns : List (List ℕ)) (d : Sexp) (r : RelationForm) → relation_form d ≡ Some r → relation_refusal S ns d ≡ None → ArePassed S ns (relation_stands ns d (Some r))
+pub relation-passed : (S : Scope) (ns : List (List ℕ)) (d : Sexp) (r : RelationForm) → relation_form d ≡ Some r → relation_refusal S ns d ≡ None → ArePassed S ns (relation_stands S ns d (Some r))
 relation-passed S ns d r e f =
-    let a = none_of (unbuilt_at d) (stands_refusal S ns (relation_stands ns d (relation_form d)) ∷ []) f in
-    let b = none_of (stands_refusal S ns (relation_stands ns d (relation_form d))) [] a.1 in
-    stands-passed S ns (relation_stands ns d (Some r)) (ap (λ (o : Option RelationForm). stands_refusal S ns (relation_stands ns d o)) (sym e) ∙ b.0)
+    let a = none_of (unbuilt_at d) (stands_refusal S ns (relation_stands S ns d (relation_form d)) ∷ []) f in
+    let b = none_of (stands_refusal S ns (relation_stands S ns d (relation_form d))) [] a.1 in
+    stands-passed S ns (relation_stands S ns d (Some r)) (ap (λ (o : Option RelationForm). stands_refusal S ns (relation_stands S ns d o)) (sym e) ∙ b.0)
 
 -- a metafunction
 pub metafunction-passed : (S : Scope) (ns : List (List ℕ)) (d : Sexp) (m : MetafunctionForm) → metafunction_form d ≡ Some m → metafunction_refusal S ns d ≡ None
-    → ArePassed S ns (function_stands ns m (function_in m))
+    → ArePassed S ns (function_stands S ns m (function_in m))
 metafunction-passed S ns d m e f =
-    let a = none_of (unbuilt_at d) (stands_refusal S ns (metafunction_stands ns d (metafunction_form d)) ∷ []) f in
-    let b = none_of (stands_refusal S ns (metafunction_stands ns d (metafunction_form d))) [] a.1 in
-    stands-passed S ns (function_stands ns m (function_in m)) (ap (λ (o : Option MetafunctionForm). stands_refusal S ns (metafunction_stands ns d o)) (sym e) ∙ b.0)
+    let a = none_of (unbuilt_at d) (stands_refusal S ns (metafunction_stands S ns d (metafunction_form d)) ∷ []) f in
+    let b = none_of (stands_refusal S ns (metafunction_stands S ns d (metafunction_form d))) [] a.1 in
+    stands-passed S ns (function_stands S ns m (function_in m)) (ap (λ (o : Option MetafunctionForm). stands_refusal S ns (metafunction_stands S ns d o)) (sym e) ∙ b.0)
+
+-- a judgement
+pub judgement-passed : (S : Scope) (ns : List (List ℕ)) (d : Sexp) (f : JudgementForm) → judgement_form d ≡ Some f → judgement_refusal S ns d ≡ None
+    → ArePassed S ns (judgement_stands S ns d (Some f))
+judgement-passed S ns d f e g =
+    let a = none_of (unbuilt_at d) (stands_refusal S ns (judgement_stands S ns d (judgement_form d)) ∷ []) g in
+    let b = none_of (stands_refusal S ns (judgement_stands S ns d (judgement_form d))) [] a.1 in
+    stands-passed S ns (judgement_stands S ns d (Some f)) (ap (λ (o : Option JudgementForm). stands_refusal S ns (judgement_stands S ns d o)) (sym e) ∙ b.0)
+
+-- a premise by itself, and a template behind it
+pub question-passed : (S : Scope) (ns : List (List ℕ)) (d : Sexp) (t : Option Sexp) → premise_refusal S ns d t ≡ None
+    → ArePassed S ns (lone_premise_stands S ns d t)
+question-passed S ns d t e = stands-passed S ns (lone_premise_stands S ns d t) e
 
 -- a metafunction without a name is refused
-first-misshaped : (ns : List (List ℕ)) (x : List ℕ) (d : Sexp) (o : Option ClauseForm) (f : Option Sexp) (ss : List Stand) → function_or o f ≡ None → shape_faults (clause_stands ns x d o ++ ss) ≡ [] → ⊥
-first-misshaped ns x d None f ss e h = absurd cc
-first-misshaped ns x d (Some c) f ss e h = absurd cc
+first-misshaped : (S : Scope) (ns : List (List ℕ)) (x : List ℕ) (d : Sexp) (o : Option ClauseForm) (f : Option Sexp) (ss : List Stand) → function_or o f ≡ None → shape_faults (clause_stands S ns x d o ++ ss) ≡ [] → ⊥
+first-misshaped S ns x d None f ss e h = absurd cc
+first-misshaped S ns x d (Some c) f ss e h = absurd cc
 
-pub some-function : (ns : List (List ℕ)) (m : MetafunctionForm) → (m.clauses ≡ [] → ⊥) → function_in m ≡ None → shape_faults (function_stands ns m None) ≡ [] → ⊥
-some-function ns m n e h = by_clauses m.clauses n (by_contract m.contract e) h
+pub some-function : (S : Scope) (ns : List (List ℕ)) (m : MetafunctionForm) → (m.clauses ≡ [] → ⊥) → function_in m ≡ None → shape_faults (function_stands S ns m None) ≡ [] → ⊥
+some-function S ns m n e h = by_clauses m.clauses n (by_contract m.contract e) h
   where
     by_contract : (o : Option ContractForm) → function_by o m.clauses ≡ None → clauses_function m.clauses ≡ None
     by_contract None f = f
     by_contract (Some c) f = absurd cc
 
-    by_clauses : (ds : List Sexp) → (ds ≡ [] → ⊥) → clauses_function ds ≡ None → shape_faults (clauses_stand ns [] ds) ≡ [] → ⊥
+    by_clauses : (ds : List Sexp) → (ds ≡ [] → ⊥) → clauses_function ds ≡ None → shape_faults (clauses_stand S ns [] ds) ≡ [] → ⊥
     by_clauses [] n f g = n refl
-    by_clauses (d ∷ ds) n f g = first-misshaped ns [] d (clause_form d) (clauses_function ds) (clauses_stand ns [] ds) f g
+    by_clauses (d ∷ ds) n f g = first-misshaped S ns [] d (clause_form d) (clauses_function ds) (clauses_stand S ns [] ds) f g

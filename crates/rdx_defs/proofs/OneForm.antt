@@ -1,9 +1,13 @@
--- A datum is one relation at most, or it has one refusal as one; and so it is with metafunctions.
+-- A datum is one relation at most, or it has one refusal as one; and so it is with metafunctions and judgements.
 use Rattle.std.proofs.Common.{◌≡◌, Option, Some, None, refl, sym, ap, ◌∙◌, ◌⊎◌, inl, inr}
 use Rattle.std.specs.Prelude.{IsSome}
 use Rattle.rdx_grammar.specs.Refusal.{Refusal, unnamed, refusal_of, or_else}
 use Rattle.rdx_grammar.specs.Unbuilt.{unbuilt_at}
 use Rattle.rdx_grammar.specs.declared.shape.fault.DefKind.TheVariants.{Shape}
+use Rattle.rdx_defs.specs.JudgementForms.{judgement_form}
+use Rattle.rdx_defs.specs.JudgementLaws.{OneJudgement, OneJudgementRefusal, NeverBothJudgement, NeverNeitherJudgement}
+use Rattle.rdx_defs.specs.JudgementReading.{judgement_reading}
+use Rattle.rdx_defs.specs.JudgementRefusal.{judgement_refusal}
 use Rattle.rdx_defs.specs.MetafunctionForms.{metafunction_form}
 use Rattle.rdx_defs.specs.MetafunctionLaws.{OneMetafunction, OneMetafunctionRefusal, NeverBothMetafunction, NeverNeitherMetafunction}
 use Rattle.rdx_defs.specs.MetafunctionReading.{metafunction_reading}
@@ -12,7 +16,7 @@ use Rattle.rdx_defs.specs.RelationForms.{relation_form}
 use Rattle.rdx_defs.specs.RelationLaws.{OneRelation, OneRelationRefusal, NeverBothRelation, NeverNeitherRelation}
 use Rattle.rdx_defs.specs.RelationReading.{relation_reading}
 use Rattle.rdx_defs.specs.RelationRefusal.{relation_refusal}
-use Rattle.rdx_defs.proofs.FormRefusals.{no-relation, no-metafunction}
+use Rattle.rdx_defs.proofs.FormRefusals.{no-relation, no-metafunction, no-judgement}
 use Rattle.rdx_defs.proofs.OneReading.{same_some, not_some}
 
 -- what is not refused is there, where whatever is not there is refused
@@ -49,3 +53,17 @@ never_both_metafunction S ns d f q a e = not_some (metafunction_refusal S ns d) 
 
 pub never_neither_metafunction : NeverNeitherMetafunction
 never_neither_metafunction S ns d = there_or_refused (metafunction_form d) (metafunction_refusal S ns d) (unbuilt_at d) (unnamed Shape d) (no-metafunction S ns d)
+
+-- ---- judgements
+
+pub one_judgement : OneJudgement
+one_judgement S ns d j k a b = a.is_read ∙ ap (judgement_reading S ns) (same_some (judgement_form d) a.parts b.parts a.is_form b.is_form) ∙ sym b.is_read
+
+pub one_judgement_refusal : OneJudgementRefusal
+one_judgement_refusal S ns d r q e f = same_some (judgement_refusal S ns d) (refusal_of r) (refusal_of q) e f
+
+pub never_both_judgement : NeverBothJudgement
+never_both_judgement S ns d j q a e = not_some (judgement_refusal S ns d) (refusal_of q) a.passes e
+
+pub never_neither_judgement : NeverNeitherJudgement
+never_neither_judgement S ns d = there_or_refused (judgement_form d) (judgement_refusal S ns d) (unbuilt_at d) (unnamed Shape d) (no-judgement S ns d)

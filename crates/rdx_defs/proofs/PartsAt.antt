@@ -1,6 +1,6 @@
 -- What a form has at each of its parts, for loops over them.
 use Rattle.std.proofs.Common.{◌≡◌, ◌++◌, ◌<◌, ℕ, zero, suc, List, [], ◌∷◌, length, get_or, map, IsTrue, sym, subst, arith}
-use Rattle.std.specs.Prelude.{Option, Some}
+use Rattle.std.specs.Prelude.{Option, Some, None}
 use Rattle.rdx_sexp.specs.Sexp.{Sexp}
 use Rattle.rdx_term.specs.Spelling.{is_name}
 use Rattle.rdx_grammar.specs.Occurrences.{Occurrence}
@@ -9,9 +9,13 @@ use Rattle.rdx_grammar.specs.Parts.{text_of}
 use Rattle.rdx_grammar.specs.PatternChecks.{Bound, bound_by, all_bound}
 use Rattle.rdx_grammar.specs.Readable.{IsReadable}
 use Rattle.rdx_grammar.specs.declared.patterns.position.Position.TheVariants.{Query}
-use Rattle.rdx_defs.specs.ExtraForms.{ExtraForm, such_that, provided, name, no_extra, extra_form}
-use Rattle.rdx_defs.specs.Inside.Branches.{Takes, one, Branch}
-use Rattle.rdx_defs.specs.Inside.PartsHave.{AreReadable, ExtraHas, ExtrasHave, BranchHas, BranchesHave, AloneHave, BindNames}
+use Rattle.rdx_defs.specs.Arguments.{Arguments, patterns_in}
+use Rattle.rdx_defs.specs.ExtraForms.{ExtraForm, such_that, provided, confirmed, holding, name, no_extra, ExtraPlace, of_case, of_rule, form_at}
+use Rattle.rdx_defs.specs.Headed.{Headed, headed}
+use Rattle.rdx_defs.specs.Inside.Branches.{Takes, one, each, Branch, RuleBranch, Question}
+use Rattle.rdx_defs.specs.Inside.PartsHave.{AreReadable, Wanted, ArgumentsHave, PremiseHas, ExtraHas, ExtrasHave, BranchHas, BranchesHave, RuleHas, RulesHave, QuestionHas, QuestionsHave, AloneHave, BindNames}
+use Rattle.rdx_defs.specs.Scope.{Scope}
+use Rattle.rdx_defs.specs.Stands.{premise_arguments}
 
 -- ---- of several, the one at a place
 
@@ -27,19 +31,32 @@ datum-readable [] i d h e r = absurd (omega arith)
 datum-readable (c ∷ ds) zero d h e r = subst IsReadable (sym e) r.0
 datum-readable (c ∷ ds) (suc i) d h e r = datum-readable ds i d (omega arith) e r.1
 
-module _ (P : Takes → Type 0) where
+module _ (S : Scope) (W : Wanted) where
   -- extras
-  pub extras-at : (ds : List Sexp) (i : ℕ) (d : Sexp) → i < length ds → d ≡ get_or ds i d → ExtrasHave P ds → ExtraHas P (extra_form d)
-  extras-at [] i d h e r = absurd (omega arith)
-  extras-at (c ∷ ds) zero d h e r = subst (λ z. ExtraHas P (extra_form z)) (sym e) r.0
-  extras-at (c ∷ ds) (suc i) d h e r = extras-at ds i d (omega arith) e r.1
+  pub extras-at : (k : ExtraPlace) (ds : List Sexp) (i : ℕ) (d : Sexp) → i < length ds → d ≡ get_or ds i d → ExtrasHave S W k ds → ExtraHas S W (form_at k d)
+  extras-at k [] i d h e r = absurd (omega arith)
+  extras-at k (c ∷ ds) zero d h e r = subst (λ z. ExtraHas S W (form_at k z)) (sym e) r.0
+  extras-at k (c ∷ ds) (suc i) d h e r = extras-at k ds i d (omega arith) e r.1
 
   -- branches
-  pub branches-at : {C : Type 0} (v : C → Branch) (xs : List C) (i : ℕ) (x : C) → i < length xs → x ≡ get_or xs i x → BranchesHave P (map v xs) → BranchHas P (v x)
+  pub branches-at : {C : Type 0} (v : C → Branch) (xs : List C) (i : ℕ) (x : C) → i < length xs → x ≡ get_or xs i x → BranchesHave S W (map v xs) → BranchHas S W (v x)
   branches-at v [] i x h e r = absurd (omega arith)
-  branches-at v (y ∷ xs) zero x h e r = subst (λ z. BranchHas P (v z)) (sym e) r.0
+  branches-at v (y ∷ xs) zero x h e r = subst (λ z. BranchHas S W (v z)) (sym e) r.0
   branches-at v (y ∷ xs) (suc i) x h e r = branches-at v xs i x (omega arith) e r.1
 
+  -- rules
+  pub rules-at : {C : Type 0} (v : C → RuleBranch) (xs : List C) (i : ℕ) (x : C) → i < length xs → x ≡ get_or xs i x → RulesHave S W (map v xs) → RuleHas S W (v x)
+  rules-at v [] i x h e r = absurd (omega arith)
+  rules-at v (y ∷ xs) zero x h e r = subst (λ z. RuleHas S W (v z)) (sym e) r.0
+  rules-at v (y ∷ xs) (suc i) x h e r = rules-at v xs i x (omega arith) e r.1
+
+  -- premises by themselves
+  pub questions-at : {C : Type 0} (v : C → Question) (xs : List C) (i : ℕ) (x : C) → i < length xs → x ≡ get_or xs i x → QuestionsHave S W (map v xs) → QuestionHas S W (v x)
+  questions-at v [] i x h e r = absurd (omega arith)
+  questions-at v (y ∷ xs) zero x h e r = subst (λ z. QuestionHas S W (v z)) (sym e) r.0
+  questions-at v (y ∷ xs) (suc i) x h e r = questions-at v xs i x (omega arith) e r.1
+
+module _ (P : Takes → Type 0) where
   -- patterns that stand by themselves
   pub alone-at : {C : Type 0} (v : C → Sexp) (xs : List C) (i : ℕ) (x : C) → i < length xs → x ≡ get_or xs i x → AloneHave P (map v xs) → P (one (v x))
   alone-at v [] i x h e r = absurd (omega arith)
@@ -68,19 +85,34 @@ binds-some o x e h = (subst (λ p. BindNames (bounds_of p)) e h).0
 
 -- ---- what has more has less
 
-module _ (P R : Takes → Type 0) (f : (w : Takes) → P w → R w) where
+module _ (S : Scope) (P R : Wanted) (f : (w : Takes) → P.taken w → R.taken w) (g : (q : Headed) → P.asked q → R.asked q) where
+  -- arguments
+  pub arguments-weaker : (a : Arguments) → ArgumentsHave S P a → ArgumentsHave S R a
+  arguments-weaker a h = record { patterns = f (each (patterns_in a)) h.patterns; readable = h.readable }
+
+  -- a premise
+  pub premise-weaker : (o : Option Headed) → PremiseHas S P o → PremiseHas S R o
+  premise-weaker None h = tt
+  premise-weaker (Some q) h = (g q h.0, arguments-weaker (premise_arguments S q) h.1)
+
   -- an extra
-  pub extra-weaker : (e : ExtraForm) → ExtraHas P e → ExtraHas R e
+  pub extra-weaker : (e : ExtraForm) → ExtraHas S P e → ExtraHas S R e
   extra-weaker (such_that p t) h = (f (one p) h.0, h.1)
   extra-weaker (provided t) h = h
+  extra-weaker (confirmed t) h = h
+  extra-weaker (holding d) h = premise-weaker (headed d) h
   extra-weaker name h = tt
   extra-weaker no_extra h = tt
 
   -- extras
-  pub extras-weaker : (ds : List Sexp) → ExtrasHave P ds → ExtrasHave R ds
-  extras-weaker [] h = tt
-  extras-weaker (d ∷ ds) h = (extra-weaker (extra_form d) h.0, extras-weaker ds h.1)
+  pub extras-weaker : (k : ExtraPlace) (ds : List Sexp) → ExtrasHave S P k ds → ExtrasHave S R k ds
+  extras-weaker k [] h = tt
+  extras-weaker k (d ∷ ds) h = (extra-weaker (form_at k d) h.0, extras-weaker k ds h.1)
 
   -- a branch
-  pub branch-weaker : (b : Branch) → BranchHas P b → BranchHas R b
-  branch-weaker b h = record { takes = f b.takes h.takes; result = h.result; extras = extras-weaker b.extras h.extras }
+  pub branch-weaker : (b : Branch) → BranchHas S P b → BranchHas S R b
+  branch-weaker b h = record { takes = f b.takes h.takes; result = h.result; extras = extras-weaker of_case b.extras h.extras }
+
+  -- a rule
+  pub rule-weaker : (r : RuleBranch) → RuleHas S P r → RuleHas S R r
+  rule-weaker r h = record { arguments = arguments-weaker r.arguments h.arguments; premises = extras-weaker of_rule r.premises h.premises }

@@ -14,7 +14,7 @@ use Rattle.rdx_grammar.specs.PatternChecks.{when}
 use Rattle.rdx_sexp.specs.declared.datum.Datum.{Datum}
 use Rattle.rdx_defs.specs.Inside.FormViews.{stand_of}
 use Rattle.rdx_defs.specs.StandChecks.{label, repeated_names}
-use Rattle.rdx_defs.specs.Stands.{Stand, misshaped, function, arrow, pattern, template, condition, named}
+use Rattle.rdx_defs.specs.Stands.{Stand, misshaped, function, judgement, asked, arrow, pattern, template, condition, plain, misfit, named}
 use Rattle.rdx_defs.specs.declared.stands.collecting.Stand as code_stand
 use Rattle.rdx_defs.specs.declared.stands.collecting.Stand.TheVariants as stands
 
@@ -79,10 +79,14 @@ pub repeated-alike : (xs ys : List (List ℕ)) (ss : List Stand) → ((x : List 
 repeated-alike xs ys [] h = refl
 repeated-alike xs ys (misshaped d ∷ ss) h = repeated-alike xs ys ss h
 repeated-alike xs ys (function d ∷ ss) h = repeated-alike xs ys ss h
+repeated-alike xs ys (judgement d ∷ ss) h = repeated-alike xs ys ss h
+repeated-alike xs ys (asked d ∷ ss) h = repeated-alike xs ys ss h
 repeated-alike xs ys (arrow d ∷ ss) h = repeated-alike xs ys ss h
 repeated-alike xs ys (pattern bs p ∷ ss) h = repeated-alike xs ys ss h
 repeated-alike xs ys (template bs t ∷ ss) h = repeated-alike xs ys ss h
 repeated-alike xs ys (condition bs t ∷ ss) h = repeated-alike xs ys ss h
+repeated-alike xs ys (plain os ∷ ss) h = repeated-alike xs ys ss h
+repeated-alike xs ys (misfit d n ∷ ss) h = repeated-alike xs ys ss h
 repeated-alike xs ys (named again d ∷ ss) h =
     λ i. when (h (label d) i) d ++ repeated-alike (label d ∷ xs) (label d ∷ ys) ss (λ x. ap (λ b. bytes_eq x (label d) || b) (h x)) i
 
@@ -91,8 +95,12 @@ pub no-name : (s : code_stand.Stand) → ((again : Bool) (d : Bor Datum) → s �
     → repeated_names seen (stand_of s ∷ rest) ≡ repeated_names seen rest
 no-name (stands.Misshaped d) h seen rest = refl
 no-name (stands.Function d) h seen rest = refl
+no-name (stands.Judgement d) h seen rest = refl
+no-name (stands.Asked d) h seen rest = refl
 no-name (stands.Arrow d) h seen rest = refl
 no-name (stands.Pattern d) h seen rest = refl
 no-name (stands.Template d) h seen rest = refl
 no-name (stands.Condition d) h seen rest = refl
+no-name (stands.Plain d) h seen rest = refl
+no-name (stands.Misfit d j) h seen rest = refl
 no-name (stands.Named again d) h seen rest = absurd (h again d refl)

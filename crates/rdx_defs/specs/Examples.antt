@@ -19,7 +19,7 @@ names = (codes "E", 0) ∷ (codes "x", 1) ∷ (codes "y", 0) ∷ (codes "x", 0) 
 
 -- `f` is the one metafunction
 abbrev pub scope : Scope
-scope = record { metafunctions = codes "f" ∷ [] }
+scope = record { metafunctions = codes "f" ∷ []; judgements = [] }
 
 -- the datum passes the checks, and is this template
 abbrev pub IsTemplate : Sexp → Template → Type 0

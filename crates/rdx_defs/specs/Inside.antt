@@ -11,3 +11,4 @@ pub mod BareStands
 pub mod PartsHave
 pub mod ByNames
 pub mod FormRefusals
+pub mod ScopeParts

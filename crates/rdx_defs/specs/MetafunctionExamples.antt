@@ -59,7 +59,7 @@ ClosesContract =
 abbrev pub CallsAnother : Type 0
 CallsAnother =
     (s : Span)
-    → MeansMetafunction (record { metafunctions = codes "g" ∷ [] })
+    → MeansMetafunction (record { metafunctions = codes "g" ∷ []; judgements = [] })
     (group s (word s (codes "define-metafunction") ∷ word s (codes "L")
     ∷ group s (group s (word s (codes "f") ∷ word s (codes "any_1") ∷ []) ∷ group s (word s (codes "g") ∷ word s (codes "any_1") ∷ []) ∷ []) ∷ []))
     (record {

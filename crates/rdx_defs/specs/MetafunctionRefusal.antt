@@ -5,9 +5,9 @@ use Rattle.rdx_grammar.specs.Refusal.{Refusal, first_refusal}
 use Rattle.rdx_grammar.specs.Unbuilt.{unbuilt_at}
 use Rattle.rdx_defs.specs.MetafunctionForms.{metafunction_form}
 use Rattle.rdx_defs.specs.MetafunctionStands.{metafunction_stands}
-use Rattle.rdx_defs.specs.RelationRefusal.{stands_refusal}
 use Rattle.rdx_defs.specs.Scope.{Scope}
+use Rattle.rdx_defs.specs.StandRefusal.{stands_refusal}
 
 -- the refusal of a datum as a metafunction in this scope, over the nonterminals ns; S0 comes first
 abbrev pub metafunction_refusal : Scope → List (List ℕ) → Sexp → Option Refusal
-metafunction_refusal S ns d = first_refusal (unbuilt_at d ∷ stands_refusal S ns (metafunction_stands ns d (metafunction_form d)) ∷ [])
+metafunction_refusal S ns d = first_refusal (unbuilt_at d ∷ stands_refusal S ns (metafunction_stands S ns d (metafunction_form d)) ∷ [])

@@ -6,7 +6,9 @@ use Rattle.rdx_grammar.specs.Occurrences.{occurrences}
 use Rattle.rdx_grammar.specs.Parts.{text_of}
 use Rattle.rdx_grammar.specs.PatternChecks as patterns
 use Rattle.rdx_grammar.specs.Reading.{is_pattern}
+use Rattle.rdx_defs.specs.ExtraForms.{of_case}
 use Rattle.rdx_defs.specs.MetafunctionForms.{ClauseForm, clause_form, ContractForm, MetafunctionForm, function_in}
+use Rattle.rdx_defs.specs.Scope.{Scope}
 use Rattle.rdx_defs.specs.Stands.{Stand, misshaped, function, pattern, template, argument_occurrences, bound_among, names_bound, bound_by_extras, extras_stand}
 
 -- ---- clauses
@@ -16,22 +18,22 @@ abbrev pub bound_by_arguments : List (List ℕ) → ClauseForm → List patterns
 bound_by_arguments ns c = bound_among ns (argument_occurrences c.arguments)
 
 -- in its arguments and its extras
-abbrev pub bound_by_clause : List (List ℕ) → ClauseForm → List patterns.Bound
-bound_by_clause ns c = bound_by_arguments ns c ++ bound_by_extras ns c.extras
+abbrev pub bound_by_clause : Scope → List (List ℕ) → ClauseForm → List patterns.Bound
+bound_by_clause S ns c = bound_by_arguments ns c ++ bound_by_extras of_case S ns c.extras
 
 -- what stands in the clause d of the metafunction x; a clause of another one has not its shape
-abbrev pub clause_stands : List (List ℕ) → List ℕ → Sexp → Option ClauseForm → List Stand
-clause_stands ns x d None = misshaped d ∷ []
-clause_stands ns x d (Some c) =
+abbrev pub clause_stands : Scope → List (List ℕ) → List ℕ → Sexp → Option ClauseForm → List Stand
+clause_stands S ns x d None = misshaped d ∷ []
+clause_stands S ns x d (Some c) =
     if bytes_eq (text_of c.function) x
-    then pattern [] (argument_occurrences c.arguments) ∷ template (names_bound (bound_by_clause ns c)) c.result
-    ∷ extras_stand ns (bound_by_arguments ns c) true c.extras
+    then pattern [] (argument_occurrences c.arguments) ∷ template (names_bound (bound_by_clause S ns c)) c.result
+    ∷ extras_stand of_case S ns (bound_by_arguments ns c) true c.extras
     else misshaped d ∷ []
 
 -- what stands in clauses
-abbrev pub clauses_stand : List (List ℕ) → List ℕ → List Sexp → List Stand
-clauses_stand ns x [] = []
-clauses_stand ns x (d ∷ ds) = clause_stands ns x d (clause_form d) ++ clauses_stand ns x ds
+abbrev pub clauses_stand : Scope → List (List ℕ) → List ℕ → List Sexp → List Stand
+clauses_stand S ns x [] = []
+clauses_stand S ns x (d ∷ ds) = clause_stands S ns x d (clause_form d) ++ clauses_stand S ns x ds
 
 -- ---- contracts: each pattern stands by itself
 
@@ -48,11 +50,11 @@ contract_stands (Some c) = patterns_stand items_of_list (sexps c.arguments) ++ p
 -- ---- forms
 
 -- what stands in a form with these parts, where its metafunction has this name; without one no clause has its shape
-abbrev pub function_stands : List (List ℕ) → MetafunctionForm → Option Sexp → List Stand
-function_stands ns m None = clauses_stand ns [] m.clauses
-function_stands ns m (Some f) = function f ∷ contract_stands m.contract ++ clauses_stand ns (text_of f) m.clauses
+abbrev pub function_stands : Scope → List (List ℕ) → MetafunctionForm → Option Sexp → List Stand
+function_stands S ns m None = clauses_stand S ns [] m.clauses
+function_stands S ns m (Some f) = function f ∷ contract_stands m.contract ++ clauses_stand S ns (text_of f) m.clauses
 
 -- what stands in the form d, which has these parts
-abbrev pub metafunction_stands : List (List ℕ) → Sexp → Option MetafunctionForm → List Stand
-metafunction_stands ns d None = misshaped d ∷ []
-metafunction_stands ns d (Some m) = function_stands ns m (function_in m)
+abbrev pub metafunction_stands : Scope → List (List ℕ) → Sexp → Option MetafunctionForm → List Stand
+metafunction_stands S ns d None = misshaped d ∷ []
+metafunction_stands S ns d (Some m) = function_stands S ns m (function_in m)

@@ -16,7 +16,7 @@ use Rattle.rdx_defs.specs.Scope.{Scope}
 
 -- without a metafunction
 abbrev pub no_scope : Scope
-no_scope = record { metafunctions = [] }
+no_scope = record { metafunctions = []; judgements = [] }
 
 -- a number, wherever it stands
 abbrev pub number : Span → ℕ → Sexp

@@ -5,7 +5,7 @@ use Rattle.rdx_lang.specs.Programs.{Rule, Relation}
 use Rattle.rdx_grammar.specs.Parts.{text_of}
 use Rattle.rdx_grammar.specs.Reading.{reading}
 use Rattle.rdx_grammar.specs.declared.patterns.position.Position.TheVariants.{Query}
-use Rattle.rdx_defs.specs.ExtraForms.{ExtraForm, such_that, provided, name, no_extra, extra_form}
+use Rattle.rdx_defs.specs.ExtraForms.{ExtraForm, such_that, provided, confirmed, holding, name, no_extra, of_case, extra_form}
 use Rattle.rdx_defs.specs.ExtraReading.{extras_reading}
 use Rattle.rdx_defs.specs.RelationForms.{CaseForm, case_form, RelationForm}
 use Rattle.rdx_defs.specs.RelationStands.{bound_by_case}
@@ -18,6 +18,8 @@ use Rattle.rdx_defs.specs.TemplateReading.{template_reading}
 abbrev pub name_before : Sexp → ExtraForm → Option (List ℕ) → Option (List ℕ)
 name_before d (such_that p t) later = later
 name_before d (provided h) later = later
+name_before d (confirmed t) later = later
+name_before d (holding e) later = later
 name_before d name later = Some (label d)
 name_before d no_extra later = later
 
@@ -31,8 +33,8 @@ abbrev pub rule_reading : Scope → List (List ℕ) → CaseForm → Rule
 rule_reading S ns c = record {
   name = first_name c.extras;
   pattern = reading ns Query c.pattern;
-  extras = extras_reading S ns (bound_in ns c.pattern) c.extras;
-  result = template_reading S (names_bound (bound_by_case ns c)) c.result;
+  extras = extras_reading of_case S ns (bound_in ns c.pattern) c.extras;
+  result = template_reading S (names_bound (bound_by_case S ns c)) c.result;
 }
 
 -- the rule of a case, before the rules behind it

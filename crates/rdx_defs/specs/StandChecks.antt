@@ -1,20 +1,20 @@
--- The checks of a form of a relation or a metafunction, one by one: each gives all the places at which it refuses, in the order in which they
+-- The checks of a form of a relation, a metafunction or a judgement, one by one: each gives all the places at which it refuses, in the order in which they
 -- stand.
-use Rattle.std.specs.Prelude.{ℕ, Bool, not, ◌||◌, List, [], ◌∷◌, ◌++◌, Option, flat_map, option_map, codes, bytes_eq, if◌then◌else◌}
+use Rattle.std.specs.Prelude.{ℕ, Bool, not, ◌||◌, List, [], ◌∷◌, ◌++◌, Option, is_some, flat_map, option_map, codes, bytes_eq, if◌then◌else◌}
 use Rattle.std.specs.List.{list_any}
-use Rattle.rdx_sexp.specs.Sexp.{integer, truth, text, symbol, keyword, Sexp, leaf, list}
+use Rattle.rdx_sexp.specs.Sexp.{integer, truth, text, symbol, keyword, Sexp, leaf, list, span_of}
 use Rattle.rdx_term.specs.Spelling.{is_symbol_spelling}
 use Rattle.rdx_term.specs.Text.{tree_text}
 use Rattle.rdx_term.specs.Tree as tree
-use Rattle.rdx_grammar.specs.Names.{is_one_of, begins_with_dots}
+use Rattle.rdx_grammar.specs.Names.{is_one_of, begins_with_dots, is_bad_name}
 use Rattle.rdx_grammar.specs.Parts.{is_word, text_of}
 use Rattle.rdx_grammar.specs.PatternChecks as patterns
 use Rattle.rdx_grammar.specs.PatternChecks.{when, keyword_faults, bad_binders, bad_occurrences, clashes}
 use Rattle.rdx_grammar.specs.Refusal.{Refusal, unnamed, named_at, first}
 use Rattle.rdx_grammar.specs.Refusal as refusal
-use Rattle.rdx_grammar.specs.declared.shape.fault.DefKind.TheVariants.{Shape, Duplicate, BadName, BadPattern, EllipsisDepth, UnknownName, EllipsisVariable, RacketEscape}
-use Rattle.rdx_defs.specs.Scope.{Scope}
-use Rattle.rdx_defs.specs.Stands.{Stand, misshaped, function, arrow, pattern, template, condition, named, bound_among}
+use Rattle.rdx_grammar.specs.declared.shape.fault.DefKind.TheVariants.{Shape, Duplicate, BadName, BadPattern, EllipsisDepth, UnknownName, EllipsisVariable, RacketEscape, Mode}
+use Rattle.rdx_defs.specs.Scope.{Scope, mode_of}
+use Rattle.rdx_defs.specs.Stands.{Stand, misshaped, function, judgement, asked, arrow, pattern, template, condition, plain, misfit, named, bound_among}
 use Rattle.rdx_defs.specs.TemplateChecks.{bad_parts, shallow_parts, undriven_parts, escapes}
 use Rattle.rdx_defs.specs.TemplateOccurrences.{template_parts, host_parts}
 use Rattle.rdx_defs.specs.TemplateShapes.{template_shapes, host_shapes}
@@ -24,10 +24,14 @@ use Rattle.rdx_defs.specs.TemplateShapes.{template_shapes, host_shapes}
 abbrev pub shape_fault : Stand → List Sexp
 shape_fault (misshaped d) = d ∷ []
 shape_fault (function d) = []
+shape_fault (judgement d) = []
+shape_fault (asked d) = []
 shape_fault (arrow d) = []
 shape_fault (pattern bs os) = keyword_faults os
 shape_fault (template bs t) = template_shapes t
 shape_fault (condition bs h) = host_shapes h
+shape_fault (plain os) = keyword_faults os
+shape_fault (misfit d n) = []
 shape_fault (named again d) = when again d
 
 -- all such data
@@ -38,7 +42,7 @@ shape_faults ss = flat_map shape_fault ss
 abbrev pub shape_at : List Stand → Option Refusal
 shape_at ss = option_map (unnamed Shape) (first (shape_faults ss))
 
--- ---- S3, Duplicate: two cases have one name
+-- ---- S3, Duplicate: two cases, or two rules, have one name
 
 -- the text of a name: a symbol and a string with one text are one name
 abbrev pub label : Sexp → List ℕ
@@ -57,20 +61,28 @@ label_text x = if is_symbol_spelling x then x else tree_text (tree.text x)
 abbrev pub repeated_name : List (List ℕ) → Stand → List Sexp
 repeated_name seen (misshaped d) = []
 repeated_name seen (function d) = []
+repeated_name seen (judgement d) = []
+repeated_name seen (asked d) = []
 repeated_name seen (arrow d) = []
 repeated_name seen (pattern bs os) = []
 repeated_name seen (template bs t) = []
 repeated_name seen (condition bs h) = []
+repeated_name seen (plain os) = []
+repeated_name seen (misfit d n) = []
 repeated_name seen (named again d) = when (list_any (λ x. bytes_eq (label d) x) seen) d
 
 -- the names that come so far, with one thing more
 abbrev pub names_with : List (List ℕ) → Stand → List (List ℕ)
 names_with seen (misshaped d) = seen
 names_with seen (function d) = seen
+names_with seen (judgement d) = seen
+names_with seen (asked d) = seen
 names_with seen (arrow d) = seen
 names_with seen (pattern bs os) = seen
 names_with seen (template bs t) = seen
 names_with seen (condition bs h) = seen
+names_with seen (plain os) = seen
+names_with seen (misfit d n) = seen
 names_with seen (named again d) = label d ∷ seen
 
 -- the names that come among these, or among those before
@@ -78,7 +90,7 @@ abbrev pub repeated_names : List (List ℕ) → List Stand → List Sexp
 repeated_names seen [] = []
 repeated_names seen (s ∷ ss) = repeated_name seen s ++ repeated_names (names_with seen s) ss
 
--- the refusal of a second case with one name
+-- the refusal of a second case or rule with one name
 abbrev pub repeated_at : Sexp → Refusal
 repeated_at d = named_at Duplicate d (label_text (label d))
 
@@ -86,7 +98,7 @@ repeated_at d = named_at Duplicate d (label_text (label d))
 abbrev pub repeated_name_at : List Stand → Option Refusal
 repeated_name_at ss = option_map repeated_at (first (repeated_names [] ss))
 
--- ---- S4, BadName: a metafunction has a name that it may not have, or a name is bound that may not be
+-- ---- S4, BadName: a metafunction or a judgement has a name that it may not have, or a name is bound that may not be
 
 -- no metafunction may have this name
 abbrev pub is_bad_function : List ℕ → Bool
@@ -97,10 +109,14 @@ is_bad_function x =
 abbrev pub bad_name : Stand → List Sexp
 bad_name (misshaped d) = []
 bad_name (function d) = when (is_bad_function (text_of d)) d
+bad_name (judgement d) = when (is_bad_name (text_of d)) d
+bad_name (asked d) = []
 bad_name (arrow d) = []
 bad_name (pattern bs os) = bad_binders os
 bad_name (template bs t) = []
 bad_name (condition bs h) = []
+bad_name (plain os) = []
+bad_name (misfit d n) = []
 bad_name (named again d) = []
 
 -- all of them
@@ -115,10 +131,14 @@ bad_name_at ss = option_map (refusal.named BadName) (first (bad_names ss))
 abbrev pub bad_place : Scope → List (List ℕ) → Stand → List Sexp
 bad_place S ns (misshaped d) = []
 bad_place S ns (function d) = []
+bad_place S ns (judgement d) = []
+bad_place S ns (asked d) = []
 bad_place S ns (arrow d) = []
 bad_place S ns (pattern bs os) = bad_occurrences ns os
 bad_place S ns (template bs t) = bad_parts (template_parts S bs 0 t)
 bad_place S ns (condition bs h) = bad_parts (host_parts S bs 0 h)
+bad_place S ns (plain os) = []
+bad_place S ns (misfit d n) = []
 bad_place S ns (named again d) = []
 
 -- all such places
@@ -133,10 +153,14 @@ bad_place_at S ns ss = option_map (unnamed BadPattern) (first (bad_places S ns s
 abbrev pub depth_fault : Scope → List (List ℕ) → Stand → List Sexp
 depth_fault S ns (misshaped d) = []
 depth_fault S ns (function d) = []
+depth_fault S ns (judgement d) = []
+depth_fault S ns (asked d) = []
 depth_fault S ns (arrow d) = []
 depth_fault S ns (pattern bs os) = clashes bs (bound_among ns os)
 depth_fault S ns (template bs t) = shallow_parts bs (template_parts S bs 0 t)
 depth_fault S ns (condition bs h) = shallow_parts bs (host_parts S bs 0 h)
+depth_fault S ns (plain os) = []
+depth_fault S ns (misfit d n) = []
 depth_fault S ns (named again d) = []
 
 -- all such symbols
@@ -147,32 +171,40 @@ depth_faults S ns ss = flat_map (depth_fault S ns) ss
 abbrev pub depth_fault_at : Scope → List (List ℕ) → List Stand → Option Refusal
 depth_fault_at S ns ss = option_map (refusal.named EllipsisDepth) (first (depth_faults S ns ss))
 
--- ---- S8, UnknownName: an arrow is none
-abbrev pub bad_arrow : Stand → List Sexp
-bad_arrow (misshaped d) = []
-bad_arrow (function d) = []
-bad_arrow (arrow d) = when (not (is_word (codes "-->") d)) d
-bad_arrow (pattern bs os) = []
-bad_arrow (template bs t) = []
-bad_arrow (condition bs h) = []
-bad_arrow (named again d) = []
+-- ---- S8, UnknownName: a premise asks for what is no judgement of the file, or an arrow is none
+abbrev pub unknown_name : Scope → Stand → List Sexp
+unknown_name S (misshaped d) = []
+unknown_name S (function d) = []
+unknown_name S (judgement d) = []
+unknown_name S (asked d) = when (not (is_some (mode_of S (text_of d)))) d
+unknown_name S (arrow d) = when (not (is_word (codes "-->") d)) d
+unknown_name S (pattern bs os) = []
+unknown_name S (template bs t) = []
+unknown_name S (condition bs h) = []
+unknown_name S (plain os) = []
+unknown_name S (misfit d n) = []
+unknown_name S (named again d) = []
 
--- all such arrows
-abbrev pub bad_arrows : List Stand → List Sexp
-bad_arrows ss = flat_map bad_arrow ss
+-- all such symbols
+abbrev pub unknown_names : Scope → List Stand → List Sexp
+unknown_names S ss = flat_map (unknown_name S) ss
 
 -- the refusal at the first
-abbrev pub bad_arrow_at : List Stand → Option Refusal
-bad_arrow_at ss = option_map (refusal.named UnknownName) (first (bad_arrows ss))
+abbrev pub unknown_name_at : Scope → List Stand → Option Refusal
+unknown_name_at S ss = option_map (refusal.named UnknownName) (first (unknown_names S ss))
 
 -- ---- S9, EllipsisVariable: an ellipsis of a template is driven by no name
 abbrev pub undriven_place : Scope → Stand → List Sexp
 undriven_place S (misshaped d) = []
 undriven_place S (function d) = []
+undriven_place S (judgement d) = []
+undriven_place S (asked d) = []
 undriven_place S (arrow d) = []
 undriven_place S (pattern bs os) = []
 undriven_place S (template bs t) = undriven_parts S bs (template_parts S bs 0 t)
 undriven_place S (condition bs h) = undriven_parts S bs (host_parts S bs 0 h)
+undriven_place S (plain os) = []
+undriven_place S (misfit d n) = []
 undriven_place S (named again d) = []
 
 -- all items that such ellipses repeat
@@ -187,10 +219,14 @@ undriven_at S ss = option_map (unnamed EllipsisVariable) (first (undriven_places
 abbrev pub escape_place : Scope → Stand → List Sexp
 escape_place S (misshaped d) = []
 escape_place S (function d) = []
+escape_place S (judgement d) = []
+escape_place S (asked d) = []
 escape_place S (arrow d) = []
 escape_place S (pattern bs os) = patterns.escapes os
 escape_place S (template bs t) = escapes (template_parts S bs 0 t)
 escape_place S (condition bs h) = escapes (host_parts S bs 0 h)
+escape_place S (plain os) = []
+escape_place S (misfit d n) = []
 escape_place S (named again d) = []
 
 -- all such data
@@ -200,3 +236,29 @@ escape_places S ss = flat_map (escape_place S) ss
 -- the refusal at the first
 abbrev pub escape_at : Scope → List Stand → Option Refusal
 escape_at S ss = option_map (unnamed RacketEscape) (first (escape_places S ss))
+
+-- ---- S11, Mode: something does not fit the mode of a judgement, or a judgement has no mode
+abbrev pub mode_fault : Stand → List (Sexp × Option Sexp)
+mode_fault (misshaped d) = []
+mode_fault (function d) = []
+mode_fault (judgement d) = []
+mode_fault (asked d) = []
+mode_fault (arrow d) = []
+mode_fault (pattern bs os) = []
+mode_fault (template bs t) = []
+mode_fault (condition bs h) = []
+mode_fault (plain os) = []
+mode_fault (misfit d n) = (d, n) ∷ []
+mode_fault (named again d) = []
+
+-- all such data, each with the name of the judgement, where there is one
+abbrev pub mode_faults : List Stand → List (Sexp × Option Sexp)
+mode_faults ss = flat_map mode_fault ss
+
+-- the refusal of such a datum
+abbrev pub misfit_at : Sexp × Option Sexp → Refusal
+misfit_at m = record { kind = Mode; place = (span_of m.0).start; name = option_map text_of m.1 }
+
+-- the refusal at the first
+abbrev pub mode_fault_at : List Stand → Option Refusal
+mode_fault_at ss = option_map misfit_at (first (mode_faults ss))

@@ -1,9 +1,9 @@
-// What may stand behind the template of a case or a clause.
+// What a binding has to meet, as it is written.
 ghost use Rattle.std.specs.Prelude.{◌≡◌, Some};
 ghost use Rattle.rdx_defs.specs.ExtraForms as model;
-ghost use Rattle.rdx_defs.specs.Inside.FormViews.{extra_form_of};
+ghost use Rattle.rdx_defs.specs.Inside.FormViews.{extra_form_of, place_of};
 
-use rdx_grammar::shape::is_word;
+use rdx_grammar::shape::{is_symbol, is_word};
 use rdx_sexp::{Datum, Form};
 
 /// One of these things.
@@ -11,12 +11,25 @@ use rdx_sexp::{Datum, Form};
 pub(crate) enum ExtraForm<'a> {
     /// `(where p t)`
     SuchThat(&'a Datum, &'a Datum),
-    /// `(side-condition h)`
+    /// `(side-condition h)` of a case or a clause.
     Provided(&'a Datum),
+    /// `(side-condition t)` of a rule.
+    Confirmed(&'a Datum),
+    /// What has to be a premise `(K d ...)`.
+    Holding(&'a Datum),
     /// A name.
     Name,
     /// What is none of these.
     NoExtra,
+}
+
+/// Where such things stand.
+#[derive(Clone, Copy)]
+pub(crate) enum ExtraPlace {
+    /// Behind the template of a case or a clause.
+    OfCase,
+    /// Among the premises of a rule.
+    OfRule,
 }
 
 // A list of these parts as an extra.
@@ -25,6 +38,7 @@ fn extra_among(parts: &[Datum]) -> ExtraForm<'_>
 {
     match parts {
         [word, host] if is_word(word, "side-condition") => ExtraForm::Provided(host),
+        [word, premise] if is_word(word, "judgment-holds") => ExtraForm::Holding(premise),
         [word, pattern, template] if is_word(word, "where") => {
             ExtraForm::SuchThat(pattern, template)
         }
@@ -32,13 +46,65 @@ fn extra_among(parts: &[Datum]) -> ExtraForm<'_>
     }
 }
 
-/// A datum as an extra; a symbol or a string is a name.
-pub(crate) fn extra_form(d: &Datum) -> ExtraForm<'_>
+// A datum as an extra; a symbol or a string is a name.
+fn extra_form(d: &Datum) -> ExtraForm<'_>
     ensures { extra_form_of result ≡ model.extra_form d.now }
 {
     match &d.form {
         Form::Int(_) | Form::Bool(_) | Form::Key(_) => ExtraForm::NoExtra,
         Form::Str(_) | Form::Sym(_) => ExtraForm::Name,
         Form::List(parts) => extra_among(parts),
+    }
+}
+
+// Whether the head of a list gives it another meaning than that of a premise.
+fn is_extra_head(head: &Datum) -> bool
+    ensures { result ≡ model.is_extra_head head.now }
+{
+    is_word(head, "where") || is_word(head, "side-condition") || is_word(head, "judgment-holds")
+}
+
+// A list with such a head, by what stands behind that.
+fn extra_behind<'a>(word: &Datum, parts: &'a [Datum]) -> ExtraForm<'a>
+    ensures { extra_form_of result ≡ model.extra_behind word.now parts.now }
+{
+    match parts {
+        [template] if is_word(word, "side-condition") => ExtraForm::Confirmed(template),
+        [premise] if is_word(word, "judgment-holds") => ExtraForm::Holding(premise),
+        [pattern, template] if is_word(word, "where") => ExtraForm::SuchThat(pattern, template),
+        _ => ExtraForm::NoExtra,
+    }
+}
+
+// The list of these parts as a premise.
+fn premise_among<'a>(d: &'a Datum, parts: &'a [Datum]) -> ExtraForm<'a>
+    ensures { extra_form_of result ≡ model.premise_among d.now (Some parts.now) }
+{
+    match parts {
+        [head, behind @ ..] if is_extra_head(head) => extra_behind(head, behind),
+        [head, ..] if is_symbol(head) => ExtraForm::Holding(d),
+        _ => ExtraForm::NoExtra,
+    }
+}
+
+// A datum as a premise.
+fn premise_form(d: &Datum) -> ExtraForm<'_>
+    ensures { extra_form_of result ≡ model.premise_form d.now }
+{
+    match &d.form {
+        Form::Int(_) | Form::Bool(_) | Form::Key(_) | Form::Str(_) | Form::Sym(_) => {
+            ExtraForm::NoExtra
+        }
+        Form::List(parts) => premise_among(d, parts),
+    }
+}
+
+/// A datum as what it is to be at such a place.
+pub(crate) fn form_at(place: ExtraPlace, d: &Datum) -> ExtraForm<'_>
+    ensures { extra_form_of result ≡ model.form_at (place_of place) d.now }
+{
+    match place {
+        ExtraPlace::OfCase => extra_form(d),
+        ExtraPlace::OfRule => premise_form(d),
     }
 }

@@ -1,6 +1,8 @@
 //! Laws of the definitions: functions that do nothing, whose contracts are the laws.
 ghost use Rattle.rdx_defs.specs.Examples.{BareEllipsisRefused, Calls, CountRefused, DepthRefused, EscapeRefused, Evaluates, Fills, KeywordFirst, KeywordRefused, ListsBehind, Repeats, ShapeRefused, StandsForItself, UndrivenRefused};
 ghost use Rattle.rdx_defs.specs.Laws.{NeverBothHost, NeverBothTemplate, NeverNeitherHost, NeverNeitherTemplate, OneHost, OneHostRefusal, OneTemplate, OneTemplateRefusal};
+ghost use Rattle.rdx_defs.specs.JudgementExamples.{AheadMeans, BehindMeans, SeesNoOutput, ConfirmsTerm, ConclusionRefused, NoModeRefused, UnknownRefused};
+ghost use Rattle.rdx_defs.specs.JudgementLaws.{NeverBothJudgement, NeverNeitherJudgement, OneJudgement, OneJudgementRefusal};
 ghost use Rattle.rdx_defs.specs.MetafunctionExamples.{CallsAnother, ClosesContract, NamedClauseRefused, OtherNameRefused};
 ghost use Rattle.rdx_defs.specs.MetafunctionLaws.{NeverBothMetafunction, NeverNeitherMetafunction, OneMetafunction, OneMetafunctionRefusal};
 ghost use Rattle.rdx_defs.specs.RelationExamples.{ArrowRefused, BindsBehind, ClashRefused, ExtraRefused, NameRefused, ResultRefused};
@@ -31,6 +33,15 @@ pub fn one_metafunction()
     ensures refusal { OneMetafunctionRefusal }
     ensures never_both { NeverBothMetafunction }
     ensures never_neither { NeverNeitherMetafunction }
+{}
+
+/// Over given nonterminals, a datum is one judgement at most, or has one refusal at most, and always
+/// one of both.
+pub fn one_judgement()
+    ensures one { OneJudgement }
+    ensures one_refusal { OneJudgementRefusal }
+    ensures never_both { NeverBothJudgement }
+    ensures never_neither { NeverNeitherJudgement }
 {}
 
 /// With a given name, over given nonterminals, a datum is one relation at most, or has one refusal
@@ -76,4 +87,15 @@ pub fn worked_metafunctions()
     ensures calls { CallsAnother }
     ensures other_name { OtherNameRefused }
     ensures named_clause { NamedClauseRefused }
+{}
+
+/// Worked examples: what data are as judgements, and where others are refused as ones.
+pub fn worked_judgements()
+    ensures ahead { AheadMeans }
+    ensures behind { BehindMeans }
+    ensures own_output { SeesNoOutput }
+    ensures side_condition { ConfirmsTerm }
+    ensures conclusion { ConclusionRefused }
+    ensures no_mode { NoModeRefused }
+    ensures unknown_first { UnknownRefused }
 {}

@@ -1,16 +1,19 @@
-//! Templates, host expressions, metafunctions and relations from data.
+//! Templates, host expressions, metafunctions, judgements and relations from data.
 //!
 //! [`read_template`] and [`read_host`] give the template and the host expression that a datum is
-//! where some names are bound; [`read_metafunction`] and [`read_relation`] give the metafunction that
-//! a `define-metafunction` form is, and the relation that a `reduction-relation` form is, over a
-//! language; or they refuse it at the first place of the check with the least number that refuses
-//! it. A metafunction is known in the whole file, so each of these is given a [`Scope`], which
-//! [`scope_of`] finds before any form is read. What forms mean follows the Redex reference manual
+//! where some names are bound; [`read_metafunction`], [`read_judgement`] and [`read_relation`] give
+//! the metafunction that a `define-metafunction` form is, the judgement that a `define-judgment-form`
+//! form is, and the relation that a `reduction-relation` form is, over a language, and
+//! [`read_premise`] a premise by itself; or they refuse it at the first place of the check with the
+//! least number that refuses it. Metafunctions and judgements are known in the whole file, so each of
+//! these is given a [`Scope`], which [`scope_of`] finds before any form is read. What forms mean follows the Redex reference manual
 //! ("Terms", "Other Relations", "Reduction Relations"), and host expressions the Racket reference.
 #![tactic(auto)]
 
+mod arguments;
 mod branches;
 mod extras;
+mod judgements;
 pub mod laws;
 mod metafunctions;
 mod operations;
@@ -20,9 +23,10 @@ mod scopes;
 mod stands;
 mod templates;
 
+pub use judgements::{ReadPremise, judgement_name, read_judgement, read_premise};
 pub use metafunctions::{metafunction_name, read_metafunction};
 pub use operations::operation_text;
 pub use relations::read_relation;
 pub use scope::Scope;
-pub use scopes::scope_of;
+pub use scopes::{judgement_languages, scope_of};
 pub use templates::{read_host, read_template};

@@ -1,51 +1,89 @@
 -- What stands in a form, without what is bound before it.
-use Rattle.std.specs.Prelude.{ℕ, Bool, true, false, List, [], ◌∷◌, ◌++◌, Option, Some, None, map}
+use Rattle.std.specs.Prelude.{ℕ, Bool, true, false, List, [], ◌∷◌, ◌++◌, Option, Some, None, map, if◌then◌else◌}
 use Rattle.rdx_sexp.specs.Sexp.{Sexp}
+use Rattle.rdx_lang.specs.Programs.{Mode}
 use Rattle.rdx_grammar.specs.Occurrences.{occurrences}
-use Rattle.rdx_defs.specs.ExtraForms.{extra_form}
+use Rattle.rdx_grammar.specs.Parts.{text_of}
+use Rattle.rdx_defs.specs.Arguments.{Arguments, is_misfit}
+use Rattle.rdx_defs.specs.ExtraForms.{ExtraForm, such_that, provided, confirmed, holding, name, no_extra, ExtraPlace, of_case, of_rule, form_at}
+use Rattle.rdx_defs.specs.Headed.{Headed, headed}
 use Rattle.rdx_defs.specs.Inside.Branches.{Branch, taken_occurrences, case_branch, clause_branch, own_clause, contract_patterns}
+use Rattle.rdx_defs.specs.JudgementForms.{RuleForm, rule_form, own_rule, JudgementForm, judgement_in, mode_form, own_mode}
+use Rattle.rdx_defs.specs.JudgementStands.{rule_arguments, name_stands, missing_mode, options_stand}
 use Rattle.rdx_defs.specs.MetafunctionForms.{ClauseForm, clause_form, MetafunctionForm}
 use Rattle.rdx_defs.specs.MetafunctionReading.{text_in}
 use Rattle.rdx_defs.specs.RelationForms.{CaseForm, case_form, RelationForm}
 use Rattle.rdx_defs.specs.RelationStands.{domain_stands}
-use Rattle.rdx_defs.specs.Stands.{Stand, misshaped, function, arrow, pattern, template, extra_stands, is_named}
+use Rattle.rdx_defs.specs.Scope.{Scope, mode_of}
+use Rattle.rdx_defs.specs.Stands.{Stand, misshaped, function, asked, arrow, pattern, template, condition, named, plain_argument, premise_arguments, misfits, is_named}
 
 -- a pattern that stands by itself
 abbrev pub lone_pattern : Sexp → Stand
 lone_pattern p = pattern [] (occurrences 0 p)
 
--- in extras
-abbrev pub extras_stand : Bool → List Sexp → List Stand
-extras_stand again [] = []
-extras_stand again (d ∷ ds) = extra_stands [] again d (extra_form d) ++ extras_stand (is_named again (extra_form d)) ds
+-- in arguments with such flags
+abbrev pub flagged_stand : List Bool → List Sexp → List Stand
+flagged_stand [] ds = []
+flagged_stand (f ∷ fs) [] = []
+flagged_stand (true ∷ fs) (d ∷ ds) = lone_pattern d ∷ flagged_stand fs ds
+flagged_stand (false ∷ fs) (d ∷ ds) = template [] d ∷ flagged_stand fs ds
+
+-- where there are flags
+abbrev pub arguments_by : Option (List Bool) → List Sexp → List Stand
+arguments_by None ds = map plain_argument ds
+arguments_by (Some fs) ds = flagged_stand fs ds
+
+-- in arguments
+abbrev pub arguments_stand : Arguments → List Stand
+arguments_stand a = arguments_by a.flags a.items
+
+-- in d, which has to be a premise
+abbrev pub held_stands : Scope → Sexp → Option Headed → List Stand
+held_stands S d None = misshaped d ∷ []
+held_stands S d (Some q) =
+    asked q.head ∷ misfits (is_misfit (mode_of S (text_of q.head)) q.arguments) d q.head ++ arguments_stand (premise_arguments S q)
+
+-- in the extra d
+abbrev pub extra_stands : Scope → Bool → Sexp → ExtraForm → List Stand
+extra_stands S again d (such_that p t) = lone_pattern p ∷ template [] t ∷ []
+extra_stands S again d (provided h) = condition [] h ∷ []
+extra_stands S again d (confirmed t) = template [] t ∷ []
+extra_stands S again d (holding e) = held_stands S e (headed e)
+extra_stands S again d name = named again d ∷ []
+extra_stands S again d no_extra = misshaped d ∷ []
+
+-- in extras at such a place
+abbrev pub extras_stand : ExtraPlace → Scope → Bool → List Sexp → List Stand
+extras_stand k S again [] = []
+extras_stand k S again (d ∷ ds) = extra_stands S again d (form_at k d) ++ extras_stand k S (is_named again (form_at k d)) ds
 
 -- in a branch
-abbrev pub branch_stands : Bool → Branch → List Stand
-branch_stands again b = pattern [] (taken_occurrences b.takes) ∷ template [] b.result ∷ extras_stand again b.extras
+abbrev pub branch_stands : Scope → Bool → Branch → List Stand
+branch_stands S again b = pattern [] (taken_occurrences b.takes) ∷ template [] b.result ∷ extras_stand of_case S again b.extras
 
 -- in the case d
-abbrev pub case_stands : Sexp → Option CaseForm → List Stand
-case_stands d None = misshaped d ∷ []
-case_stands d (Some c) = arrow c.arrow ∷ branch_stands false (case_branch c)
+abbrev pub case_stands : Scope → Sexp → Option CaseForm → List Stand
+case_stands S d None = misshaped d ∷ []
+case_stands S d (Some c) = arrow c.arrow ∷ branch_stands S false (case_branch c)
 
 -- in cases
-abbrev pub cases_stand : List Sexp → List Stand
-cases_stand [] = []
-cases_stand (d ∷ ds) = case_stands d (case_form d) ++ cases_stand ds
+abbrev pub cases_stand : Scope → List Sexp → List Stand
+cases_stand S [] = []
+cases_stand S (d ∷ ds) = case_stands S d (case_form d) ++ cases_stand S ds
 
 -- in a relation with these parts
-abbrev pub relation_stands : RelationForm → List Stand
-relation_stands r = domain_stands r.domain ++ cases_stand r.cases
+abbrev pub relation_stands : Scope → RelationForm → List Stand
+relation_stands S r = domain_stands r.domain ++ cases_stand S r.cases
 
 -- in the clause d
-abbrev pub clause_stands : Sexp → Option ClauseForm → List Stand
-clause_stands d None = misshaped d ∷ []
-clause_stands d (Some c) = branch_stands true (clause_branch c)
+abbrev pub clause_stands : Scope → Sexp → Option ClauseForm → List Stand
+clause_stands S d None = misshaped d ∷ []
+clause_stands S d (Some c) = branch_stands S true (clause_branch c)
 
 -- in clauses of the metafunction x
-abbrev pub clauses_stand : List ℕ → List Sexp → List Stand
-clauses_stand x [] = []
-clauses_stand x (d ∷ ds) = clause_stands d (own_clause x (clause_form d)) ++ clauses_stand x ds
+abbrev pub clauses_stand : Scope → List ℕ → List Sexp → List Stand
+clauses_stand S x [] = []
+clauses_stand S x (d ∷ ds) = clause_stands S d (own_clause x (clause_form d)) ++ clauses_stand S x ds
 
 -- the name of a metafunction, where there is one, and the patterns of its contract
 abbrev pub head_stands : List Sexp → Option Sexp → List Stand
@@ -53,5 +91,37 @@ head_stands ps None = []
 head_stands ps (Some f) = function f ∷ map lone_pattern ps
 
 -- in a metafunction with these parts that goes by this name
-abbrev pub function_stands : MetafunctionForm → Option Sexp → List Stand
-function_stands m f = head_stands (contract_patterns m.contract) f ++ clauses_stand (text_in f) m.clauses
+abbrev pub function_stands : Scope → MetafunctionForm → Option Sexp → List Stand
+function_stands S m f = head_stands (contract_patterns m.contract) f ++ clauses_stand S (text_in f) m.clauses
+
+-- ---- judgements
+
+-- in the conclusion of a rule, by such a mode
+abbrev pub conclusion_stands : Option Mode → RuleForm → List Stand
+conclusion_stands m r =
+    misfits (is_misfit m r.parts.arguments) r.conclusion r.parts.head ++ arguments_stand (rule_arguments m r)
+
+-- in the rule d
+abbrev pub rule_stands : Scope → Option Mode → Sexp → Option RuleForm → List Stand
+rule_stands S m d None = misshaped d ∷ []
+rule_stands S m d (Some r) =
+    if r.is_last
+    then extras_stand of_rule S true r.premises ++ name_stands r.name ++ conclusion_stands m r
+    else conclusion_stands m r ++ extras_stand of_rule S true r.premises ++ name_stands r.name
+
+-- in rules of the judgement of this name
+abbrev pub rules_stand : Scope → Option Sexp → Option Mode → List Sexp → List Stand
+rules_stand S j m [] = []
+rules_stand S j m (d ∷ ds) = rule_stands S m d (own_rule j (rule_form d)) ++ rules_stand S j m ds
+
+-- in the form d of a judgement with these parts
+abbrev pub judgement_stands : Scope → Sexp → JudgementForm → List Stand
+judgement_stands S d f =
+    missing_mode d (mode_form f)
+    ++ options_stand (judgement_in f) (own_mode f) [] f.options
+    ++ rules_stand S (judgement_in f) (own_mode f) f.rules
+
+-- in a premise by itself, and behind it
+abbrev pub question_stands : Scope → Sexp → Option Sexp → List Stand
+question_stands S d None = held_stands S d (headed d)
+question_stands S d (Some t) = held_stands S d (headed d) ++ template [] t ∷ []

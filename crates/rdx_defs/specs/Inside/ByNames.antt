@@ -1,20 +1,24 @@
 -- What a form gives by the names that are bound before each place, without the symbols that bind them.
-use Rattle.std.specs.Prelude.{ℕ, Bool, not, ◌&&◌, List, [], ◌∷◌, ◌++◌, flat_map, bytes_eq, nat_eq}
+use Rattle.std.specs.Prelude.{ℕ, Bool, true, false, not, ◌&&◌, List, [], ◌∷◌, ◌++◌, Option, Some, None, flat_map, bytes_eq, nat_eq, if◌then◌else◌}
 use Rattle.std.specs.List.{list_any}
 use Rattle.rdx_sexp.specs.Sexp.{Sexp}
 use Rattle.rdx_lang.specs.Programs as model
 use Rattle.rdx_lang.specs.Programs.{Extra, such_as}
+use Rattle.rdx_lang.specs.Templates.{term}
 use Rattle.rdx_grammar.specs.Occurrences.{Occurrence, occurrences}
 use Rattle.rdx_grammar.specs.Parts.{text_of}
 use Rattle.rdx_grammar.specs.PatternChecks as patterns
 use Rattle.rdx_grammar.specs.PatternChecks.{when, bad_occurrences}
 use Rattle.rdx_grammar.specs.Reading.{reading}
 use Rattle.rdx_grammar.specs.declared.patterns.position.Position.TheVariants.{Query}
+use Rattle.rdx_defs.specs.Arguments.{Arguments, patterns_in}
 use Rattle.rdx_defs.specs.Bound.{Bound}
-use Rattle.rdx_defs.specs.ExtraForms.{ExtraForm, such_that, provided, name, no_extra, extra_form}
-use Rattle.rdx_defs.specs.Inside.Branches.{Takes, one, Branch, Outline, taken_occurrences, bound_by_taken}
+use Rattle.rdx_defs.specs.ExtraForms.{ExtraForm, such_that, provided, confirmed, holding, name, no_extra, ExtraPlace, of_case, of_rule, form_at}
+use Rattle.rdx_defs.specs.ExtraReading.{held_reading}
+use Rattle.rdx_defs.specs.Headed.{Headed, headed}
+use Rattle.rdx_defs.specs.Inside.Branches.{Takes, one, Branch, RuleBranch, Question, Outline, taken_occurrences, bound_by_taken}
 use Rattle.rdx_defs.specs.Scope.{Scope}
-use Rattle.rdx_defs.specs.Stands.{bound_among, names_bound}
+use Rattle.rdx_defs.specs.Stands.{bound_among, names_bound, premise_arguments}
 use Rattle.rdx_defs.specs.TemplateChecks.{bad_parts, shallow_parts, undriven_parts, escapes}
 use Rattle.rdx_defs.specs.TemplateOccurrences.{TemplatePart, template_parts, host_parts}
 use Rattle.rdx_defs.specs.TemplateReading.{template_reading, host_reading}
@@ -27,21 +31,40 @@ use Rattle.rdx_defs.specs.declared.stands.faults.Check.TheVariants.{Places, Dept
 abbrev pub taken_names : List (List ℕ) → Takes → Bound
 taken_names ns w = names_bound (bound_by_taken ns w)
 
--- an extra
-abbrev pub extra_names : List (List ℕ) → ExtraForm → Bound
-extra_names ns (such_that p t) = taken_names ns (one p)
-extra_names ns (provided h) = []
-extra_names ns name = []
-extra_names ns no_extra = []
+-- patterns that stand by themselves
+abbrev pub patterns_names : List (List ℕ) → List Sexp → Bound
+patterns_names ns ds = flat_map (λ d. taken_names ns (one d)) ds
 
--- extras
-abbrev pub extras_names : List (List ℕ) → List Sexp → Bound
-extras_names ns [] = []
-extras_names ns (d ∷ ds) = extra_names ns (extra_form d) ++ extras_names ns ds
+-- a premise
+abbrev pub premise_names : Scope → List (List ℕ) → Option Headed → Bound
+premise_names S ns None = []
+premise_names S ns (Some q) = patterns_names ns (patterns_in (premise_arguments S q))
+
+-- an extra
+abbrev pub extra_names : Scope → List (List ℕ) → ExtraForm → Bound
+extra_names S ns (such_that p t) = taken_names ns (one p)
+extra_names S ns (provided h) = []
+extra_names S ns (confirmed t) = []
+extra_names S ns (holding d) = premise_names S ns (headed d)
+extra_names S ns name = []
+extra_names S ns no_extra = []
+
+-- extras at such a place
+abbrev pub extras_names : ExtraPlace → Scope → List (List ℕ) → List Sexp → Bound
+extras_names k S ns [] = []
+extras_names k S ns (d ∷ ds) = extra_names S ns (form_at k d) ++ extras_names k S ns ds
 
 -- a branch
-abbrev pub branch_names : List (List ℕ) → Branch → Bound
-branch_names ns b = taken_names ns b.takes ++ extras_names ns b.extras
+abbrev pub branch_names : Scope → List (List ℕ) → Branch → Bound
+branch_names S ns b = taken_names ns b.takes ++ extras_names of_case S ns b.extras
+
+-- the inputs of the conclusion of a rule
+abbrev pub input_names : List (List ℕ) → RuleBranch → Bound
+input_names ns r = patterns_names ns (patterns_in r.arguments)
+
+-- a rule
+abbrev pub rule_names : Scope → List (List ℕ) → RuleBranch → Bound
+rule_names S ns r = input_names ns r ++ extras_names of_rule S ns r.premises
 
 -- ---- depths
 
@@ -79,23 +102,48 @@ template_faults k S es t = part_faults k S es (template_parts S es 0 t)
 abbrev pub host_faults : Check → Scope → Bound → Sexp → List Sexp
 host_faults k S es h = part_faults k S es (host_parts S es 0 h)
 
+-- in arguments with such flags, behind names that are bound before the first pattern, where these names are bound for the templates
+abbrev pub flagged_faults : Check → Scope → List (List ℕ) → Bound → Bound → List Bool → List Sexp → List Sexp
+flagged_faults k S ns es all [] ds = []
+flagged_faults k S ns es all (f ∷ fs) [] = []
+flagged_faults k S ns es all (true ∷ fs) (d ∷ ds) =
+    pattern_faults k ns es (occurrences 0 d) ++ flagged_faults k S ns (es ++ taken_names ns (one d)) all fs ds
+flagged_faults k S ns es all (false ∷ fs) (d ∷ ds) = template_faults k S all d ++ flagged_faults k S ns es all fs ds
+
+-- where there are flags
+abbrev pub faults_by : Check → Scope → List (List ℕ) → Bound → Bound → Option (List Bool) → List Sexp → List Sexp
+faults_by k S ns es all None ds = []
+faults_by k S ns es all (Some fs) ds = flagged_faults k S ns es all fs ds
+
+-- in arguments
+abbrev pub arguments_faults : Check → Scope → List (List ℕ) → Bound → Bound → Arguments → List Sexp
+arguments_faults k S ns es all a = faults_by k S ns es all a.flags a.items
+
+-- in a premise
+abbrev pub premise_faults : Check → Scope → List (List ℕ) → Bound → Option Headed → List Sexp
+premise_faults k S ns es None = []
+premise_faults k S ns es (Some q) = arguments_faults k S ns es es (premise_arguments S q)
+
 -- in an extra
 abbrev pub extra_faults : Check → Scope → List (List ℕ) → Bound → ExtraForm → List Sexp
 extra_faults k S ns es (such_that p t) = pattern_faults k ns es (occurrences 0 p) ++ template_faults k S es t
 extra_faults k S ns es (provided h) = host_faults k S es h
+extra_faults k S ns es (confirmed t) = template_faults k S es t
+extra_faults k S ns es (holding d) = premise_faults k S ns es (headed d)
 extra_faults k S ns es name = []
 extra_faults k S ns es no_extra = []
 
 -- in extras
-abbrev pub extras_faults : Check → Scope → List (List ℕ) → Bound → List Sexp → List Sexp
-extras_faults k S ns es [] = []
-extras_faults k S ns es (d ∷ ds) = extra_faults k S ns es (extra_form d) ++ extras_faults k S ns (es ++ extra_names ns (extra_form d)) ds
+abbrev pub extras_faults : ExtraPlace → Check → Scope → List (List ℕ) → Bound → List Sexp → List Sexp
+extras_faults e k S ns es [] = []
+extras_faults e k S ns es (d ∷ ds) =
+    extra_faults k S ns es (form_at e d) ++ extras_faults e k S ns (es ++ extra_names S ns (form_at e d)) ds
 
 -- in a branch
 abbrev pub branch_faults : Check → Scope → List (List ℕ) → Branch → List Sexp
 branch_faults k S ns b =
     pattern_faults k ns [] (taken_occurrences b.takes)
-    ++ (template_faults k S (branch_names ns b) b.result ++ extras_faults k S ns (taken_names ns b.takes) b.extras)
+    ++ (template_faults k S (branch_names S ns b) b.result ++ extras_faults of_case k S ns (taken_names ns b.takes) b.extras)
 
 -- in branches
 abbrev pub branches_faults : Check → Scope → List (List ℕ) → List Branch → List Sexp
@@ -109,9 +157,44 @@ lone_faults k ns p = pattern_faults k ns [] (occurrences 0 p)
 abbrev pub alone_faults : Check → List (List ℕ) → List Sexp → List Sexp
 alone_faults k ns ps = flat_map (lone_faults k ns) ps
 
+-- in the conclusion of a rule
+abbrev pub conclusion_faults : Check → Scope → List (List ℕ) → RuleBranch → List Sexp
+conclusion_faults k S ns r = arguments_faults k S ns [] (rule_names S ns r) r.arguments
+
+-- in its premises
+abbrev pub premises_faults : Check → Scope → List (List ℕ) → RuleBranch → List Sexp
+premises_faults k S ns r = extras_faults of_rule k S ns (input_names ns r) r.premises
+
+-- in a rule, as it is written
+abbrev pub rule_faults : Check → Scope → List (List ℕ) → RuleBranch → List Sexp
+rule_faults k S ns r =
+    if r.is_last
+    then premises_faults k S ns r ++ conclusion_faults k S ns r
+    else conclusion_faults k S ns r ++ premises_faults k S ns r
+
+-- in rules
+abbrev pub rules_faults : Check → Scope → List (List ℕ) → List RuleBranch → List Sexp
+rules_faults k S ns rs = flat_map (rule_faults k S ns) rs
+
+-- in a template behind a premise by itself, where there is one
+abbrev pub result_faults : Check → Scope → Bound → Option Sexp → List Sexp
+result_faults k S es None = []
+result_faults k S es (Some t) = template_faults k S es t
+
+-- in a premise by itself, and behind it
+abbrev pub question_faults : Check → Scope → List (List ℕ) → Question → List Sexp
+question_faults k S ns q =
+    premise_faults k S ns [] (headed q.premise) ++ result_faults k S (premise_names S ns (headed q.premise)) q.result
+
+-- in such premises
+abbrev pub questions_faults : Check → Scope → List (List ℕ) → List Question → List Sexp
+questions_faults k S ns qs = flat_map (question_faults k S ns) qs
+
 -- in a form
 abbrev pub outline_faults : Check → Scope → List (List ℕ) → Outline → List Sexp
-outline_faults k S ns o = alone_faults k ns o.alone ++ branches_faults k S ns o.branches
+outline_faults k S ns o =
+    alone_faults k ns o.alone
+    ++ (branches_faults k S ns o.branches ++ (rules_faults k S ns o.rules ++ questions_faults k S ns o.questions))
 
 -- ---- readings
 
@@ -119,10 +202,13 @@ outline_faults k S ns o = alone_faults k ns o.alone ++ branches_faults k S ns o.
 abbrev pub extra_reading : Scope → List (List ℕ) → Bound → ExtraForm → List Extra
 extra_reading S ns es (such_that p t) = such_as (reading ns Query p) (template_reading S es t) ∷ []
 extra_reading S ns es (provided h) = model.provided (host_reading S es h) ∷ []
+extra_reading S ns es (confirmed t) = model.provided (term (template_reading S es t)) ∷ []
+extra_reading S ns es (holding d) = held_reading S ns es (headed d)
 extra_reading S ns es name = []
 extra_reading S ns es no_extra = []
 
 -- what extras ask
-abbrev pub extras_reading : Scope → List (List ℕ) → Bound → List Sexp → List Extra
-extras_reading S ns es [] = []
-extras_reading S ns es (d ∷ ds) = extra_reading S ns es (extra_form d) ++ extras_reading S ns (es ++ extra_names ns (extra_form d)) ds
+abbrev pub extras_reading : ExtraPlace → Scope → List (List ℕ) → Bound → List Sexp → List Extra
+extras_reading e S ns es [] = []
+extras_reading e S ns es (d ∷ ds) =
+    extra_reading S ns es (form_at e d) ++ extras_reading e S ns (es ++ extra_names S ns (form_at e d)) ds

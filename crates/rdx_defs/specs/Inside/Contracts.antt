@@ -1,8 +1,10 @@
--- Contracts of metafunctions: the patterns of their items, closed, and that they are well formed.
+-- Contracts of metafunctions and judgements: the patterns of their items, closed, and that they are well formed.
 use Rattle.std.specs.Prelude.{ℕ, IsTrue, List, Option, Some, None}
 use Rattle.rdx_lang.specs.PatternView.{Slot, just, repeated}
 use Rattle.rdx_lang.specs.Patterns.{Language, closed}
 use Rattle.rdx_lang.specs.WellFormed.{is_well_formed_in}
+use Rattle.rdx_defs.specs.Headed.{Headed}
+use Rattle.rdx_defs.specs.JudgementReading as judgements
 use Rattle.rdx_defs.specs.MetafunctionForms.{ContractForm}
 use Rattle.rdx_defs.specs.MetafunctionReading.{contract_reading}
 
@@ -20,3 +22,8 @@ pub record IsContract (L : Language) (ns : List (List ℕ)) (c : ContractForm) :
 abbrev pub IsContractIn : Language → List (List ℕ) → Option ContractForm → Type 0
 IsContractIn L ns None = Unit {0}
 IsContractIn L ns (Some c) = IsContract L ns c
+
+-- the pattern of the contract of a judgement is, where there is one
+abbrev pub IsJudgementContract : Language → List (List ℕ) → Option Headed → Type 0
+IsJudgementContract L ns None = Unit {0}
+IsJudgementContract L ns (Some h) = IsTrue (is_well_formed_in L (judgements.contract_reading ns h))

@@ -1,11 +1,11 @@
--- When a form of a relation or a metafunction is refused, by the checks in two groups.
+-- When a form of a relation, a metafunction or a judgement is refused, by the checks in two groups.
 use Rattle.std.specs.Prelude.{ℕ, List, [], ◌∷◌, Option, option_map}
 use Rattle.rdx_grammar.specs.Refusal.{Refusal, unnamed, named, first, or_else, first_refusal}
 use Rattle.rdx_grammar.specs.declared.shape.fault.DefKind.TheVariants.{BadPattern, EllipsisDepth, EllipsisVariable, RacketEscape}
 use Rattle.rdx_defs.specs.Inside.Branches.{Outline}
 use Rattle.rdx_defs.specs.Inside.ByNames.{outline_faults}
 use Rattle.rdx_defs.specs.Scope.{Scope}
-use Rattle.rdx_defs.specs.StandChecks.{shape_at, repeated_name_at, bad_name_at, bad_arrow_at}
+use Rattle.rdx_defs.specs.StandChecks.{shape_at, repeated_name_at, bad_name_at, unknown_name_at, mode_fault_at}
 use Rattle.rdx_defs.specs.Stands.{Stand}
 use Rattle.rdx_defs.specs.declared.stands.faults.Check.TheVariants.{Places, Depths, Driving, Escapes}
 
@@ -24,9 +24,10 @@ late_refusal S ns ss o =
     first_refusal
     (option_map (unnamed BadPattern) (first (outline_faults Places S ns o))  -- S5
     ∷ option_map (named EllipsisDepth) (first (outline_faults Depths S ns o))  -- S6
-    ∷ bad_arrow_at ss  -- S8
+    ∷ unknown_name_at S ss  -- S8
     ∷ option_map (unnamed EllipsisVariable) (first (outline_faults Driving S ns o))  -- S9
     ∷ option_map (unnamed RacketEscape) (first (outline_faults Escapes S ns o))  -- S10
+    ∷ mode_fault_at ss  -- S11
     ∷ [])
 
 -- by all of them

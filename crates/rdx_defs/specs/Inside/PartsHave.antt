@@ -1,5 +1,5 @@
 -- What the patterns, the templates and the host expressions in a form have, each by itself.
-use Rattle.std.specs.Prelude.{ℕ, ◌+◌, ◌<◌, IsTrue, List, [], ◌∷◌}
+use Rattle.std.specs.Prelude.{ℕ, ◌+◌, ◌<◌, IsTrue, IsSome, List, [], ◌∷◌, Option, Some, None}
 use Rattle.rdx_sexp.specs.Sexp.{Sexp, sexps}
 use Rattle.rdx_sexp.specs.Size.{sexps_depth, AreSpelled}
 use Rattle.rdx_term.specs.Spelling.{is_name}
@@ -8,8 +8,12 @@ use Rattle.rdx_lang.specs.WellFormed.{is_well_formed_in}
 use Rattle.rdx_grammar.specs.Parts.{text_of}
 use Rattle.rdx_grammar.specs.PatternChecks as patterns
 use Rattle.rdx_grammar.specs.Readable.{IsReadable}
-use Rattle.rdx_defs.specs.ExtraForms.{ExtraForm, such_that, provided, name, no_extra, extra_form}
-use Rattle.rdx_defs.specs.Inside.Branches.{Takes, one, several, Branch, Outline, bound_by_taken, taken_reading}
+use Rattle.rdx_defs.specs.Arguments.{Arguments, patterns_in}
+use Rattle.rdx_defs.specs.ExtraForms.{ExtraForm, such_that, provided, confirmed, holding, name, no_extra, ExtraPlace, of_case, of_rule, form_at}
+use Rattle.rdx_defs.specs.Headed.{Headed, headed}
+use Rattle.rdx_defs.specs.Inside.Branches.{Takes, one, several, each, Branch, RuleBranch, Question, Outline, bound_by_taken, taken_reading}
+use Rattle.rdx_defs.specs.Scope.{Scope}
+use Rattle.rdx_defs.specs.Stands.{premise_arguments}
 
 -- ---- readable data
 
@@ -28,42 +32,87 @@ pub record AreReadableItems (ds : List Sexp) : Type 0 where
 abbrev pub IsReadableTaken : Takes → Type 0
 IsReadableTaken (one p) = IsReadable p
 IsReadableTaken (several ds) = AreReadableItems ds
+IsReadableTaken (each ds) = AreReadable ds
+
+-- a datum is, where there is one
+abbrev pub IsReadableIn : Option Sexp → Type 0
+IsReadableIn None = Unit {0}
+IsReadableIn (Some d) = IsReadable d
 
 -- ---- parts
 
-module _ (P : Takes → Type 0) where
-  -- the pattern of an extra has P, and its template is readable
+-- each of these patterns has P
+abbrev pub AloneHave : (Takes → Type 0) → List Sexp → Type 0
+AloneHave P [] = Unit {0}
+AloneHave P (p ∷ ps) = P (one p) × AloneHave P ps
+
+-- what is wanted: of what is taken, and of a premise
+pub record Wanted : Type 1 where
+  pub taken : Takes → Type 0
+  pub asked : Headed → Type 0
+
+module _ (S : Scope) (W : Wanted) where
+  -- the list of the patterns among arguments is as wanted, and all of them are readable
+  pub record ArgumentsHave (a : Arguments) : Type 0 where
+    pub patterns : W.taken (each (patterns_in a))
+    pub readable : AreReadable a.items
+
+  -- a premise is, and its arguments are
+  abbrev pub PremiseHas : Option Headed → Type 0
+  PremiseHas None = Unit {0}
+  PremiseHas (Some q) = W.asked q × ArgumentsHave (premise_arguments S q)
+
+  -- the pattern of an extra is, and its template is readable
   abbrev pub ExtraHas : ExtraForm → Type 0
-  ExtraHas (such_that p t) = P (one p) × IsReadable t
+  ExtraHas (such_that p t) = W.taken (one p) × IsReadable t
   ExtraHas (provided h) = IsReadable h
+  ExtraHas (confirmed t) = IsReadable t
+  ExtraHas (holding d) = PremiseHas (headed d)
   ExtraHas name = Unit {0}
   ExtraHas no_extra = Unit {0}
 
   -- so it is with each of these extras
-  abbrev pub ExtrasHave : List Sexp → Type 0
-  ExtrasHave [] = Unit {0}
-  ExtrasHave (d ∷ ds) = ExtraHas (extra_form d) × ExtrasHave ds
+  abbrev pub ExtrasHave : ExtraPlace → List Sexp → Type 0
+  ExtrasHave k [] = Unit {0}
+  ExtrasHave k (d ∷ ds) = ExtraHas (form_at k d) × ExtrasHave k ds
 
   -- and with a branch
   pub record BranchHas (b : Branch) : Type 0 where
-    pub takes : P b.takes
+    pub takes : W.taken b.takes
     pub result : IsReadable b.result
-    pub extras : ExtrasHave b.extras
+    pub extras : ExtrasHave of_case b.extras
 
   -- with each of these
   abbrev pub BranchesHave : List Branch → Type 0
   BranchesHave [] = Unit {0}
   BranchesHave (b ∷ bs) = BranchHas b × BranchesHave bs
 
-  -- each of these patterns has P
-  abbrev pub AloneHave : List Sexp → Type 0
-  AloneHave [] = Unit {0}
-  AloneHave (p ∷ ps) = P (one p) × AloneHave ps
+  -- with a rule
+  pub record RuleHas (r : RuleBranch) : Type 0 where
+    pub arguments : ArgumentsHave r.arguments
+    pub premises : ExtrasHave of_rule r.premises
+
+  -- with each of these
+  abbrev pub RulesHave : List RuleBranch → Type 0
+  RulesHave [] = Unit {0}
+  RulesHave (r ∷ rs) = RuleHas r × RulesHave rs
+
+  -- with a premise by itself
+  pub record QuestionHas (q : Question) : Type 0 where
+    pub premise : PremiseHas (headed q.premise)
+    pub result : IsReadableIn q.result
+
+  -- with each of these
+  abbrev pub QuestionsHave : List Question → Type 0
+  QuestionsHave [] = Unit {0}
+  QuestionsHave (q ∷ qs) = QuestionHas q × QuestionsHave qs
 
   -- and so it is with a form
   pub record OutlineHas (o : Outline) : Type 0 where
-    pub alone : AloneHave o.alone
+    pub alone : AloneHave W.taken o.alone
     pub branches : BranchesHave o.branches
+    pub rules : RulesHave o.rules
+    pub questions : QuestionsHave o.questions
 
 -- ---- of which these are used
 
@@ -81,3 +130,17 @@ pub record CanBind (ns : List (List ℕ)) (w : Takes) : Type 0 where
 pub record IsPattern (L : Language) (ns : List (List ℕ)) (w : Takes) : Type 0 where
   pub binds : CanBind ns w
   pub well_formed : IsTrue (is_well_formed_in L (taken_reading ns w))
+
+-- ---- what is wanted at each step
+
+-- that it is readable
+abbrev pub readable : Wanted
+readable = record { taken = IsReadableTaken; asked = λ q. Unit {0} }
+
+-- that what it binds are names
+abbrev pub can_bind : List (List ℕ) → Wanted
+can_bind ns = record { taken = CanBind ns; asked = λ q. Unit {0} }
+
+-- that it is read in the language: its patterns are well formed there, and its premises fit the modes of judgements
+abbrev pub can_read : Scope → Language → List (List ℕ) → Wanted
+can_read S L ns = record { taken = IsPattern L ns; asked = λ q. IsSome (premise_arguments S q).flags }

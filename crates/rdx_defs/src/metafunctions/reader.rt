@@ -6,7 +6,7 @@ ghost use Rattle.rdx_lang.specs.Valid.{is_valid_metafunction};
 ghost use Rattle.rdx_grammar.specs.Nonterminals.{names_of};
 ghost use Rattle.rdx_grammar.specs.Readable.{IsReadable};
 ghost use Rattle.rdx_defs.specs.Answers.{ReadsMetafunction};
-ghost use Rattle.rdx_defs.specs.Scope.{has_metafunction, scope_of};
+ghost use Rattle.rdx_defs.specs.Scope.{callable, scope_of};
 
 use crate::Scope;
 use crate::metafunctions::forms::{function_in, metafunction_form};
@@ -33,7 +33,7 @@ pub fn read_metafunction(
         form.now result }
     ensures same { language_in language.new ≡ language_in language.old }
     ensures valid { IfOk result (λ f.
-        IsTrue (is_valid_metafunction (has_metafunction (scope_of scope.now))
+        IsTrue (is_valid_metafunction (callable (scope_of scope.now))
         (Some (language_in language.new)) (metafunction_of f))) }
 {
     if has_word_to_come(form) {
@@ -46,7 +46,7 @@ pub fn read_metafunction(
     let names = Names::new(alloc, &all)?;
     let function = function_in(parts);
     let outline = metafunction_outline(alloc, parts, function)?;
-    let found = function_stands(alloc, parts, function, &outline)?;
+    let found = function_stands(alloc, scope, parts, function, &outline)?;
     if let Some(refusal) = refuse_parts(alloc, scope, &names, &found, &outline)? {
         return Err(DefFault::Refused(refusal));
     }

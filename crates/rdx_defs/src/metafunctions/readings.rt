@@ -8,7 +8,7 @@ ghost use Rattle.rdx_term.specs.Spelling.{is_name};
 ghost use Rattle.rdx_defs.specs.Inside.BranchReadings.{branch_clause, branch_clauses, branch_metafunction};
 ghost use Rattle.rdx_defs.specs.Inside.Contracts.{IsContract, IsContractIn, closed_slot};
 ghost use Rattle.rdx_defs.specs.Inside.FormViews.{branch_of, contract_form_of, metafunction_form_of, outline_of};
-ghost use Rattle.rdx_defs.specs.Inside.PartsHave.{BranchHas, BranchesHave, IsPattern};
+ghost use Rattle.rdx_defs.specs.Inside.PartsHave.{BranchHas, BranchesHave, can_read};
 ghost use Rattle.rdx_defs.specs.MetafunctionReading as model;
 ghost use Rattle.rdx_defs.specs.Scope.{scope_of};
 
@@ -30,7 +30,8 @@ fn read_clause(
     names: &Names,
     branch: Branch<'_>,
 ) -> Result<Clause, NoMemory>
-    requires { BranchHas (IsPattern (language_in language.now) names.now) (branch_of branch) }
+    requires { BranchHas (scope_of scope.now)
+        (can_read (scope_of scope.now) (language_in language.now) names.now) (branch_of branch) }
     ensures { IfOk result (λ clause.
         clause_of clause ≡ branch_clause (scope_of scope.now) names.now (branch_of branch.entry)) }
 {
@@ -50,7 +51,8 @@ fn read_clauses(
     names: &Names,
     branches: &[Branch<'_>],
 ) -> Result<Vec<Clause>, NoMemory>
-    requires { BranchesHave (IsPattern (language_in language.now) names.now)
+    requires { BranchesHave (scope_of scope.now)
+        (can_read (scope_of scope.now) (language_in language.now) names.now)
         (map branch_of branches.now) }
     ensures { IfOk result (λ clauses.
         clauses_of clauses.items
@@ -141,7 +143,8 @@ pub(crate) fn read_parts(
     function: &Datum,
     outline: &Outline,
 ) -> Result<Metafunction, NoMemory>
-    requires branches { BranchesHave (IsPattern (language_in language.now) names.now)
+    requires branches { BranchesHave (scope_of scope.now)
+        (can_read (scope_of scope.now) (language_in language.now) names.now)
         (outline_of outline.now).branches }
     requires contract { IsContractIn (language_in language.now) names.now
         (metafunction_form_of form).contract }

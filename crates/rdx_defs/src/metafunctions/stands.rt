@@ -8,8 +8,9 @@ ghost use Rattle.rdx_defs.specs.Inside.Branches as inside;
 ghost use Rattle.rdx_defs.specs.Inside.FormViews.{branch_of, contract_form_of, metafunction_form_of, outline_of, stands_of};
 ghost use Rattle.rdx_defs.specs.Inside.PartsHave.{AreReadable};
 ghost use Rattle.rdx_defs.specs.MetafunctionForms as forms;
-ghost use Rattle.rdx_defs.specs.MetafunctionStands as model;
+ghost use Rattle.rdx_defs.specs.Scope.{scope_of};
 
+use crate::Scope;
 use crate::branches::{Branch, Outline};
 use crate::metafunctions::forms::{
     ContractForm, MetafunctionForm, clause_branch, clause_of, text_in,
@@ -23,6 +24,7 @@ use std::alloc::Global;
 // Adds what stands in a clause of the metafunction of this name, or in what is none.
 fn add_clause<'a>(
     alloc: Global,
+    scope: &Scope,
     name: &str,
     d: &'a Datum,
     out: &mut Vec<Stand<'a>>,
@@ -31,17 +33,19 @@ fn add_clause<'a>(
     ensures { IfOk result (λ _.
         stands_of out.new.items
         ≡ stands_of out.old.items
-        ++ bare.clause_stands d.now (inside.own_clause name.now (forms.clause_form d.now))) }
+        ++ bare.clause_stands (scope_of scope.now) d.now
+        (inside.own_clause name.now (forms.clause_form d.now))) }
 {
     match clause_of(name, d) {
         None => Ok(out.push(Stand::Misshaped(d))?),
-        Some(clause) => add_branch(alloc, true, clause_branch(clause), out),
+        Some(clause) => add_branch(alloc, scope, true, clause_branch(clause), out),
     }
 }
 
 // Adds what stands in clauses of the metafunction of this name.
 fn add_clauses<'a>(
     alloc: Global,
+    scope: &Scope,
     name: &str,
     clauses: &'a [Datum],
     out: &mut Vec<Stand<'a>>,
@@ -49,10 +53,11 @@ fn add_clauses<'a>(
     requires { AreReadable clauses.now }
     ensures { IfOk result (λ _.
         stands_of out.new.items
-        ≡ stands_of out.old.items ++ bare.clauses_stand name.now clauses.now) }
+        ≡ stands_of out.old.items
+        ++ bare.clauses_stand (scope_of scope.now) name.now clauses.now) }
 {
     for d in clauses {
-        add_clause(alloc, name, d, out)?;
+        add_clause(alloc, scope, name, d, out)?;
     }
     Ok(())
 }
@@ -98,22 +103,24 @@ fn add_head<'a>(
 /// What stands in a form with these parts, of a metafunction that goes by this name.
 pub(crate) fn function_stands<'a>(
     alloc: Global,
+    scope: &Scope,
     form: MetafunctionForm<'a>,
     function: Option<&'a Datum>,
-    outline: &Outline<'a>,
+    outline: &Outline<'_, 'a>,
 ) -> Result<Vec<Stand<'a>>, NoMemory>
     requires outline { outline_of outline.now
-        ≡ inside.metafunction_outline (metafunction_form_of form) (option_map (λ d. d.now) function) }
+        ≡ inside.metafunction_outline (metafunction_form_of form)
+        (option_map (λ d. d.now) function) }
     requires alone { AreReadable (outline_of outline.now).alone }
     requires clauses { AreReadable form.clauses.now }
     ensures { IfOk result (λ found.
         stands_of found.items
-        ≡ bare.function_stands (metafunction_form_of form.entry)
+        ≡ bare.function_stands (scope_of scope.now) (metafunction_form_of form.entry)
         (option_map (λ d. d.now) function.entry)) }
 {
     let mut found = Vec::new(alloc);
     add_head(alloc, function, &outline.alone, &mut found)?;
-    add_clauses(alloc, text_in(function), form.clauses, &mut found)?;
+    add_clauses(alloc, scope, text_in(function), form.clauses, &mut found)?;
     Ok(found)
 }
 
@@ -173,7 +180,7 @@ pub(crate) fn metafunction_outline<'a>(
     alloc: Global,
     form: MetafunctionForm<'a>,
     function: Option<&'a Datum>,
-) -> Result<Outline<'a>, NoMemory>
+) -> Result<Outline<'a, 'a>, NoMemory>
     ensures { IfOk result (λ outline.
         outline_of outline
         ≡ inside.metafunction_outline (metafunction_form_of form.entry)
@@ -181,5 +188,10 @@ pub(crate) fn metafunction_outline<'a>(
 {
     let alone = contract_patterns(alloc, form.contract)?;
     let branches = clause_branches(alloc, text_in(function), form.clauses)?;
-    Ok(Outline { alone, branches })
+    Ok(Outline {
+        alone,
+        branches,
+        rules: Vec::new(alloc),
+        questions: Vec::new(alloc),
+    })
 }

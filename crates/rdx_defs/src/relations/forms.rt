@@ -55,8 +55,8 @@ pub(crate) fn case_branch<'a>(case: CaseForm<'a>) -> Branch<'a>
     }
 }
 
-// Whether the datum is the keyword of this text.
-fn is_keyword(d: &Datum, word: &str) -> bool
+/// Whether the datum is the keyword of this text.
+pub(crate) fn is_keyword(d: &Datum, word: &str) -> bool
     ensures { result ≡ model.is_keyword word.now d.now }
 {
     match &d.form {

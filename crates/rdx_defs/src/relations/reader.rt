@@ -6,7 +6,7 @@ ghost use Rattle.rdx_lang.specs.Valid.{is_valid_over};
 ghost use Rattle.rdx_grammar.specs.Nonterminals.{names_of};
 ghost use Rattle.rdx_grammar.specs.Readable.{IsReadable};
 ghost use Rattle.rdx_defs.specs.Answers.{ReadsRelation};
-ghost use Rattle.rdx_defs.specs.Scope.{has_metafunction, scope_of};
+ghost use Rattle.rdx_defs.specs.Scope.{callable, scope_of};
 
 use crate::Scope;
 use crate::relations::forms::relation_form;
@@ -35,7 +35,7 @@ pub fn read_relation(
         name.now form.now result }
     ensures same { language_in language.new ≡ language_in language.old }
     ensures valid { IfOk result (λ r.
-        IsTrue (is_valid_over (has_metafunction (scope_of scope.now))
+        IsTrue (is_valid_over (callable (scope_of scope.now))
         (Some (language_in language.new)) (relation_of r))) }
 {
     if has_word_to_come(form) {
@@ -46,7 +46,7 @@ pub fn read_relation(
     };
     let all = language_names(alloc, language)?;
     let names = Names::new(alloc, &all)?;
-    let found = relation_stands(alloc, parts)?;
+    let found = relation_stands(alloc, scope, parts)?;
     let outline = relation_outline(alloc, parts)?;
     if let Some(refusal) = refuse_parts(alloc, scope, &names, &found, &outline)? {
         return Err(DefFault::Refused(refusal));

@@ -10,13 +10,13 @@ ghost use Rattle.rdx_term.specs.Spelling.{is_name};
 ghost use Rattle.rdx_defs.specs.Inside.Branches as inside;
 ghost use Rattle.rdx_defs.specs.Inside.BranchReadings.{branch_rule, branch_rules};
 ghost use Rattle.rdx_defs.specs.Inside.FormViews.{branch_of, outline_of, relation_form_of};
-ghost use Rattle.rdx_defs.specs.Inside.PartsHave.{AloneHave, BranchHas, BranchesHave, IsPattern, OutlineHas};
+ghost use Rattle.rdx_defs.specs.Inside.PartsHave.{AloneHave, BranchHas, BranchesHave, IsPattern, OutlineHas, can_read};
 ghost use Rattle.rdx_defs.specs.RelationReading as model;
 ghost use Rattle.rdx_defs.specs.Scope.{scope_of};
 
 use crate::Scope;
 use crate::branches::{Branch, Outline, Takes};
-use crate::extras::{ExtraForm, extra_form};
+use crate::extras::{ExtraForm, ExtraPlace, form_at};
 use crate::relations::forms::RelationForm;
 use crate::stands::checks::label;
 use crate::stands::readings::{read_branch, read_takes};
@@ -33,7 +33,7 @@ fn first_name(alloc: Global, extras: &[Datum]) -> Result<Option<RcStr>, NoMemory
         option_map rc_str_bytes name ≡ model.first_name extras.now) }
 {
     for d in extras {
-        if matches!(extra_form(d), ExtraForm::Name) {
+        if matches!(form_at(ExtraPlace::OfCase, d), ExtraForm::Name) {
             return Ok(Some(RcStr::from_str(alloc, label(d))?));
         }
     }
@@ -48,7 +48,8 @@ fn read_rule(
     names: &Names,
     branch: Branch<'_>,
 ) -> Result<Rule, NoMemory>
-    requires { BranchHas (IsPattern (language_in language.now) names.now) (branch_of branch) }
+    requires { BranchHas (scope_of scope.now)
+        (can_read (scope_of scope.now) (language_in language.now) names.now) (branch_of branch) }
     ensures { IfOk result (λ rule.
         rule_of rule ≡ branch_rule (scope_of scope.now) names.now (branch_of branch.entry)) }
 {
@@ -70,7 +71,8 @@ fn read_rules(
     names: &Names,
     branches: &[Branch<'_>],
 ) -> Result<Vec<Rule>, NoMemory>
-    requires { BranchesHave (IsPattern (language_in language.now) names.now)
+    requires { BranchesHave (scope_of scope.now)
+        (can_read (scope_of scope.now) (language_in language.now) names.now)
         (map branch_of branches.now) }
     ensures { IfOk result (λ rules.
         map rule_of rules.items
@@ -113,7 +115,8 @@ pub(crate) fn read_parts(
     outline: &Outline,
 ) -> Result<Relation, NoMemory>
     requires outline { outline_of outline.now ≡ inside.relation_outline (relation_form_of form) }
-    requires parts { OutlineHas (IsPattern (language_in language.now) names.now)
+    requires parts { OutlineHas (scope_of scope.now)
+        (can_read (scope_of scope.now) (language_in language.now) names.now)
         (outline_of outline.now) }
     requires named { IsTrue (is_name (text_of form.language.now)) }
     ensures { IfOk result (λ r.

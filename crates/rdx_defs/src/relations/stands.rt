@@ -6,8 +6,9 @@ ghost use Rattle.rdx_defs.specs.Inside.Branches as inside;
 ghost use Rattle.rdx_defs.specs.Inside.FormViews.{branch_of, outline_of, relation_form_of, stands_of};
 ghost use Rattle.rdx_defs.specs.Inside.PartsHave.{AreReadable};
 ghost use Rattle.rdx_defs.specs.RelationForms as forms;
-ghost use Rattle.rdx_defs.specs.RelationStands as model;
+ghost use Rattle.rdx_defs.specs.Scope.{scope_of};
 
+use crate::Scope;
 use crate::branches::{Branch, Outline};
 use crate::relations::forms::{RelationForm, case_branch, case_form};
 use crate::stands::collecting::{Stand, add_alone, add_branch};
@@ -16,17 +17,23 @@ use rdx_term::NoMemory;
 use std::alloc::Global;
 
 // Adds what stands in a case, or in what has not the shape of one.
-fn add_case<'a>(alloc: Global, d: &'a Datum, out: &mut Vec<Stand<'a>>) -> Result<(), NoMemory>
+fn add_case<'a>(
+    alloc: Global,
+    scope: &Scope,
+    d: &'a Datum,
+    out: &mut Vec<Stand<'a>>,
+) -> Result<(), NoMemory>
     requires { IsReadable d.now }
     ensures { IfOk result (λ _.
         stands_of out.new.items
-        ≡ stands_of out.old.items ++ bare.case_stands d.now (forms.case_form d.now)) }
+        ≡ stands_of out.old.items
+        ++ bare.case_stands (scope_of scope.now) d.now (forms.case_form d.now)) }
 {
     match case_form(d) {
         None => Ok(out.push(Stand::Misshaped(d))?),
         Some(case) => {
             out.push(Stand::Arrow(case.arrow))?;
-            add_branch(alloc, false, case_branch(case), out)
+            add_branch(alloc, scope, false, case_branch(case), out)
         }
     }
 }
@@ -34,15 +41,17 @@ fn add_case<'a>(alloc: Global, d: &'a Datum, out: &mut Vec<Stand<'a>>) -> Result
 // Adds what stands in cases.
 fn add_cases<'a>(
     alloc: Global,
+    scope: &Scope,
     cases: &'a [Datum],
     out: &mut Vec<Stand<'a>>,
 ) -> Result<(), NoMemory>
     requires { AreReadable cases.now }
     ensures { IfOk result (λ _.
-        stands_of out.new.items ≡ stands_of out.old.items ++ bare.cases_stand cases.now) }
+        stands_of out.new.items
+        ≡ stands_of out.old.items ++ bare.cases_stand (scope_of scope.now) cases.now) }
 {
     for d in cases {
-        add_case(alloc, d, out)?;
+        add_case(alloc, scope, d, out)?;
     }
     Ok(())
 }
@@ -50,18 +59,20 @@ fn add_cases<'a>(
 /// What stands in a form with these parts.
 pub(crate) fn relation_stands<'a>(
     alloc: Global,
+    scope: &Scope,
     form: RelationForm<'a>,
 ) -> Result<Vec<Stand<'a>>, NoMemory>
     requires domain { AreReadable (inside.domain_patterns (option_map (λ d. d.now) form.domain)) }
     requires cases { AreReadable form.cases.now }
     ensures { IfOk result (λ found.
-        stands_of found.items ≡ bare.relation_stands (relation_form_of form.entry)) }
+        stands_of found.items
+        ≡ bare.relation_stands (scope_of scope.now) (relation_form_of form.entry)) }
 {
     let mut found = Vec::new(alloc);
     if let Some(domain) = form.domain {
         add_alone(alloc, domain, &mut found)?;
     }
-    add_cases(alloc, form.cases, &mut found)?;
+    add_cases(alloc, scope, form.cases, &mut found)?;
     Ok(found)
 }
 
@@ -96,11 +107,16 @@ fn domain_patterns<'a>(alloc: Global, domain: Option<&'a Datum>) -> Result<Vec<&
 pub(crate) fn relation_outline<'a>(
     alloc: Global,
     form: RelationForm<'a>,
-) -> Result<Outline<'a>, NoMemory>
+) -> Result<Outline<'a, 'a>, NoMemory>
     ensures { IfOk result (λ outline.
         outline_of outline ≡ inside.relation_outline (relation_form_of form.entry)) }
 {
     let alone = domain_patterns(alloc, form.domain)?;
     let branches = case_branches(alloc, form.cases)?;
-    Ok(Outline { alone, branches })
+    Ok(Outline {
+        alone,
+        branches,
+        rules: Vec::new(alloc),
+        questions: Vec::new(alloc),
+    })
 }

@@ -1,13 +1,16 @@
-// The checks of a form that come before what is bound has to be known, and that of arrows, one by one.
+// The checks of a form for which it need not be known what is bound, one by one.
 ghost use Rattle.std.specs.Prelude.{◌≡◌, [], IfOk, option_map};
 ghost use Rattle.rdx_grammar.specs.Refusal.{first};
-ghost use Rattle.rdx_defs.specs.Inside.FormViews.{stand_of, stands_of};
+ghost use Rattle.rdx_defs.specs.Inside.FormViews.{misfit_of, stand_of, stands_of};
+ghost use Rattle.rdx_defs.specs.Scope.{scope_of};
 ghost use Rattle.rdx_defs.specs.StandChecks as model;
 
+use crate::Scope;
+use crate::arguments::mode_of;
 use crate::stands::collecting::Stand;
 use crate::templates::shapes::{shape_in_host, shape_in_template};
 use rdx_grammar::checks::{first_bad_binder, first_keyword, when};
-use rdx_grammar::names::begins_with_dots;
+use rdx_grammar::names::{begins_with_dots, is_bad_name};
 use rdx_grammar::shape::{is_word, text};
 use rdx_sexp::{Datum, Form};
 use rdx_term::NoMemory;
@@ -19,8 +22,12 @@ fn shape_fault<'a>(s: &Stand<'a>) -> Option<&'a Datum>
 {
     match s {
         Stand::Misshaped(d) => Some(*d),
-        Stand::Function(_) | Stand::Arrow(_) => None,
-        Stand::Pattern(found) => first_keyword(found),
+        Stand::Function(_)
+        | Stand::Judgement(_)
+        | Stand::Asked(_)
+        | Stand::Arrow(_)
+        | Stand::Misfit(_, _) => None,
+        Stand::Pattern(found) | Stand::Plain(found) => first_keyword(found),
         Stand::Template(t) => shape_in_template(t),
         Stand::Condition(h) => shape_in_host(h),
         Stand::Named(again, d) => when(*again, d),
@@ -40,7 +47,7 @@ pub(crate) fn first_shape_fault<'a>(found: &[Stand<'a>]) -> Option<&'a Datum>
     None
 }
 
-/// The text of the name of a case.
+/// The text of the name of a case or a rule.
 pub(crate) fn label(d: &Datum) -> &str
     ensures { result.now ≡ model.label d.now }
 {
@@ -50,7 +57,7 @@ pub(crate) fn label(d: &Datum) -> &str
     }
 }
 
-/// The first name of a case that an earlier one has.
+/// The first name of a case or a rule that an earlier one has.
 pub(crate) fn first_repeated<'a>(
     alloc: Global,
     found: &[Stand<'a>],
@@ -81,16 +88,20 @@ fn bad_name<'a>(s: &Stand<'a>) -> Option<&'a Datum>
 {
     match s {
         Stand::Function(d) => when(is_bad_function(text(d)), d),
+        Stand::Judgement(d) => when(is_bad_name(text(d)), d),
         Stand::Pattern(found) => first_bad_binder(found),
         Stand::Misshaped(_)
+        | Stand::Asked(_)
         | Stand::Arrow(_)
         | Stand::Template(_)
         | Stand::Condition(_)
+        | Stand::Plain(_)
+        | Stand::Misfit(_, _)
         | Stand::Named(_, _) => None,
     }
 }
 
-/// The first name that a metafunction has, or that is bound, and that may not be.
+/// The first name that a metafunction or a judgement has, or that is bound, and that may not be.
 pub(crate) fn first_bad_name<'a>(found: &[Stand<'a>]) -> Option<&'a Datum>
     ensures { option_map (λ d. d.now) result ≡ first (model.bad_names (stands_of found.now)) }
 {
@@ -102,27 +113,55 @@ pub(crate) fn first_bad_name<'a>(found: &[Stand<'a>]) -> Option<&'a Datum>
     None
 }
 
-fn bad_arrow<'a>(s: &Stand<'a>) -> Option<&'a Datum>
-    ensures { option_map (λ d. d.now) result ≡ first (model.bad_arrow (stand_of s.now)) }
+fn unknown_name<'a>(scope: &Scope, s: &Stand<'a>) -> Option<&'a Datum>
+    ensures { option_map (λ d. d.now) result
+        ≡ first (model.unknown_name (scope_of scope.now) (stand_of s.now)) }
 {
     match s {
+        Stand::Asked(d) => when(mode_of(scope, text(d)).is_none(), d),
         Stand::Arrow(d) => when(!is_word(d, "-->"), d),
         Stand::Misshaped(_)
         | Stand::Function(_)
+        | Stand::Judgement(_)
         | Stand::Pattern(_)
         | Stand::Template(_)
         | Stand::Condition(_)
+        | Stand::Plain(_)
+        | Stand::Misfit(_, _)
         | Stand::Named(_, _) => None,
     }
 }
 
-/// The first symbol that is no arrow where one has to stand.
-pub(crate) fn first_bad_arrow<'a>(found: &[Stand<'a>]) -> Option<&'a Datum>
-    ensures { option_map (λ d. d.now) result ≡ first (model.bad_arrows (stands_of found.now)) }
+/// The first symbol that is no arrow where one has to stand, or no judgement of the file.
+pub(crate) fn first_unknown_name<'a>(scope: &Scope, found: &[Stand<'a>]) -> Option<&'a Datum>
+    ensures { option_map (λ d. d.now) result
+        ≡ first (model.unknown_names (scope_of scope.now) (stands_of found.now)) }
 {
     for s in found {
-        if let Some(d) = bad_arrow(s) {
+        if let Some(d) = unknown_name(scope, s) {
             return Some(d);
+        }
+    }
+    None
+}
+
+/// What does not fit a mode, and the name of the judgement, where there is one.
+#[derive(Clone, Copy)]
+pub(crate) struct Misfit<'a> {
+    pub(crate) datum: &'a Datum,
+    pub(crate) judgement: Option<&'a Datum>,
+}
+
+/// The first thing that does not fit the mode of a judgement, or lacks one.
+pub(crate) fn first_misfit<'a>(found: &[Stand<'a>]) -> Option<Misfit<'a>>
+    ensures { option_map misfit_of result ≡ first (model.mode_faults (stands_of found.now)) }
+{
+    for s in found {
+        if let Stand::Misfit(datum, judgement) = s {
+            return Some(Misfit {
+                datum,
+                judgement: *judgement,
+            });
         }
     }
     None

@@ -1,16 +1,21 @@
 // What stands in extras, and in a case or a clause with them.
-ghost use Rattle.std.specs.Prelude.{◌≡◌, ◌++◌, ◌∷◌, [], IfOk};
+ghost use Rattle.std.specs.Prelude.{◌≡◌, ◌++◌, ◌∷◌, [], IfOk, map};
 ghost use Rattle.rdx_grammar.specs.OccurrenceView.{occurrences_of};
 ghost use Rattle.rdx_grammar.specs.Readable.{IsReadable};
 ghost use Rattle.rdx_defs.specs.Inside.BareStands as bare;
 ghost use Rattle.rdx_defs.specs.Inside.Branches.{taken_occurrences};
-ghost use Rattle.rdx_defs.specs.Inside.FormViews.{branch_of, extra_form_of, stands_of, takes_of};
-ghost use Rattle.rdx_defs.specs.Inside.PartsHave.{ExtraHas, ExtrasHave, BranchHas, IsReadableTaken};
+ghost use Rattle.rdx_defs.specs.Inside.FormViews.{arguments_of, branch_of, extra_form_of, place_of, stands_of, takes_of};
+ghost use Rattle.rdx_defs.specs.Inside.PartsHave.{AreReadable, ExtraHas, ExtrasHave, PremiseHas, BranchHas, IsReadableTaken, readable};
+ghost use Rattle.rdx_defs.specs.Headed as headed;
+ghost use Rattle.rdx_defs.specs.Scope.{scope_of};
 ghost use Rattle.rdx_defs.specs.Stands as model;
 
+use crate::Scope;
+use crate::arguments::{Arguments, headed_list, is_misfit, mode_of, premise_arguments};
 use crate::branches::{Branch, Takes};
-use crate::extras::{ExtraForm, extra_form};
+use crate::extras::{ExtraForm, ExtraPlace, form_at};
 use rdx_grammar::occurrences::{Occurrence, add_pattern, add_patterns};
+use rdx_grammar::shape::text;
 use rdx_sexp::Datum;
 use rdx_term::NoMemory;
 use std::alloc::Global;
@@ -18,10 +23,14 @@ use std::alloc::Global;
 /// One of the things that stand in a form, without what is bound before it.
 #[derive(Drop)]
 pub(crate) enum Stand<'a> {
-    /// A form, a case, a clause or an extra that has not its shape.
+    /// A form, a case, a clause, a rule, an extra or an option that has not its shape.
     Misshaped(&'a Datum),
     /// The name of a metafunction.
     Function(&'a Datum),
+    /// The name of a judgement where it is defined.
+    Judgement(&'a Datum),
+    /// The name of a judgement in a premise.
+    Asked(&'a Datum),
     /// The arrow of a case.
     Arrow(&'a Datum),
     /// A pattern, by what stands in it.
@@ -30,7 +39,11 @@ pub(crate) enum Stand<'a> {
     Template(&'a Datum),
     /// A host expression.
     Condition(&'a Datum),
-    /// The name of a case, and whether none may come here.
+    /// An argument that is neither a pattern nor a template, by what stands in it.
+    Plain(Vec<Occurrence<'a>>),
+    /// What does not fit a mode, or lacks one, and the name of the judgement, where there is one.
+    Misfit(&'a Datum, Option<&'a Datum>),
+    /// The name of a case or a rule, and whether none may come here.
     Named(bool, &'a Datum),
 }
 
@@ -74,18 +87,116 @@ pub(crate) fn add_alone<'a>(
     add_taken(alloc, Takes::One(pattern), out)
 }
 
+/// Adds the datum, if its arguments do not fit the mode of the judgement of this name.
+pub(crate) fn add_misfit<'a>(
+    is_misfit: bool,
+    d: &'a Datum,
+    judgement: &'a Datum,
+    out: &mut Vec<Stand<'a>>,
+) -> Result<(), NoMemory>
+    ensures { IfOk result (λ _.
+        stands_of out.new.items
+        ≡ stands_of out.old.items ++ model.misfits is_misfit d.now judgement.now) }
+{
+    if is_misfit {
+        out.push(Stand::Misfit(d, Some(judgement)))?;
+    }
+    Ok(())
+}
+
+// Adds arguments that are neither patterns nor templates.
+fn add_plain<'a>(
+    alloc: Global,
+    arguments: &'a [Datum],
+    out: &mut Vec<Stand<'a>>,
+) -> Result<(), NoMemory>
+    requires { AreReadable arguments.now }
+    ensures { IfOk result (λ _.
+        stands_of out.new.items
+        ≡ stands_of out.old.items ++ map model.plain_argument arguments.now) }
+{
+    for d in arguments {
+        let found = in_takes(alloc, Takes::One(d))?;
+        out.push(Stand::Plain(found))?;
+    }
+    Ok(())
+}
+
+// Adds an argument that is a pattern, or else a template.
+fn add_argument<'a>(
+    alloc: Global,
+    is_pattern: bool,
+    d: &'a Datum,
+    out: &mut Vec<Stand<'a>>,
+) -> Result<(), NoMemory>
+    requires { IsReadable d.now }
+    ensures { IfOk result (λ _.
+        stands_of out.new.items
+        ≡ stands_of out.old.items ++ bare.flagged_stand (is_pattern ∷ []) (d.now ∷ [])) }
+{
+    if is_pattern {
+        add_alone(alloc, d, out)
+    } else {
+        Ok(out.push(Stand::Template(d))?)
+    }
+}
+
+/// Adds what stands in arguments.
+pub(crate) fn add_arguments<'a>(
+    alloc: Global,
+    arguments: Arguments<'_, 'a>,
+    out: &mut Vec<Stand<'a>>,
+) -> Result<(), NoMemory>
+    requires { AreReadable arguments.items.now }
+    ensures { IfOk result (λ _.
+        stands_of out.new.items
+        ≡ stands_of out.old.items ++ bare.arguments_stand (arguments_of arguments.entry)) }
+{
+    let Some(mode) = arguments.mode else {
+        return add_plain(alloc, arguments.items, out);
+    };
+    for (flag, d) in mode.iter().zip(arguments.items) {
+        add_argument(alloc, arguments.is_pattern(*flag), d, out)?;
+    }
+    Ok(())
+}
+
+/// Adds what stands in a datum that has to be a premise.
+pub(crate) fn add_held<'a>(
+    alloc: Global,
+    scope: &Scope,
+    d: &'a Datum,
+    out: &mut Vec<Stand<'a>>,
+) -> Result<(), NoMemory>
+    requires { PremiseHas (scope_of scope.now) readable (headed.headed d.now) }
+    ensures { IfOk result (λ _.
+        stands_of out.new.items
+        ≡ stands_of out.old.items
+        ++ bare.held_stands (scope_of scope.now) d.now (headed.headed d.now)) }
+{
+    let Some(premise) = headed_list(d) else {
+        return Ok(out.push(Stand::Misshaped(d))?);
+    };
+    out.push(Stand::Asked(premise.head))?;
+    let mode = mode_of(scope, text(premise.head));
+    add_misfit(is_misfit(mode, premise.arguments), d, premise.head, out)?;
+    add_arguments(alloc, premise_arguments(scope, premise), out)
+}
+
 // Adds what stands in an extra; no name may come here, or one may.
 fn add_extra<'a>(
     alloc: Global,
+    scope: &Scope,
     again: bool,
     d: &'a Datum,
     extra: ExtraForm<'a>,
     out: &mut Vec<Stand<'a>>,
 ) -> Result<(), NoMemory>
-    requires { ExtraHas IsReadableTaken (extra_form_of extra) }
+    requires { ExtraHas (scope_of scope.now) readable (extra_form_of extra) }
     ensures { IfOk result (λ _.
         stands_of out.new.items
-        ≡ stands_of out.old.items ++ model.extra_stands [] again d.now (extra_form_of extra.entry)) }
+        ≡ stands_of out.old.items
+        ++ bare.extra_stands (scope_of scope.now) again d.now (extra_form_of extra.entry)) }
 {
     match extra {
         ExtraForm::SuchThat(pattern, template) => {
@@ -93,6 +204,8 @@ fn add_extra<'a>(
             Ok(out.push(Stand::Template(template))?)
         }
         ExtraForm::Provided(host) => Ok(out.push(Stand::Condition(host))?),
+        ExtraForm::Confirmed(template) => Ok(out.push(Stand::Template(template))?),
+        ExtraForm::Holding(premise) => add_held(alloc, scope, premise, out),
         ExtraForm::Name => Ok(out.push(Stand::Named(again, d))?),
         ExtraForm::NoExtra => Ok(out.push(Stand::Misshaped(d))?),
     }
@@ -104,24 +217,32 @@ fn is_named(again: bool, extra: ExtraForm<'_>) -> bool
 {
     match extra {
         ExtraForm::Name => true,
-        ExtraForm::SuchThat(_, _) | ExtraForm::Provided(_) | ExtraForm::NoExtra => again,
+        ExtraForm::SuchThat(_, _)
+        | ExtraForm::Provided(_)
+        | ExtraForm::Confirmed(_)
+        | ExtraForm::Holding(_)
+        | ExtraForm::NoExtra => again,
     }
 }
 
-// Adds what stands in extras; no name may come there, or one may.
-fn add_extras<'a>(
+/// Adds what stands in extras at such a place; no name may come there, or one may.
+pub(crate) fn add_extras<'a>(
     alloc: Global,
+    scope: &Scope,
+    place: ExtraPlace,
     mut again: bool,
     extras: &'a [Datum],
     out: &mut Vec<Stand<'a>>,
 ) -> Result<(), NoMemory>
-    requires { ExtrasHave IsReadableTaken extras.now }
+    requires { ExtrasHave (scope_of scope.now) readable (place_of place) extras.now }
     ensures { IfOk result (λ _.
-        stands_of out.new.items ≡ stands_of out.old.items ++ bare.extras_stand again extras.now) }
+        stands_of out.new.items
+        ≡ stands_of out.old.items
+        ++ bare.extras_stand (place_of place) (scope_of scope.now) again extras.now) }
 {
     for d in extras {
-        let extra = extra_form(d);
-        add_extra(alloc, again, d, extra, out)?;
+        let extra = form_at(place, d);
+        add_extra(alloc, scope, again, d, extra, out)?;
         again = is_named(again, extra);
     }
     Ok(())
@@ -130,16 +251,18 @@ fn add_extras<'a>(
 /// Adds what stands in a case or a clause; no name may come there, or one may.
 pub(crate) fn add_branch<'a>(
     alloc: Global,
+    scope: &Scope,
     again: bool,
     branch: Branch<'a>,
     out: &mut Vec<Stand<'a>>,
 ) -> Result<(), NoMemory>
-    requires { BranchHas IsReadableTaken (branch_of branch) }
+    requires { BranchHas (scope_of scope.now) readable (branch_of branch) }
     ensures { IfOk result (λ _.
         stands_of out.new.items
-        ≡ stands_of out.old.items ++ bare.branch_stands again (branch_of branch.entry)) }
+        ≡ stands_of out.old.items
+        ++ bare.branch_stands (scope_of scope.now) again (branch_of branch.entry)) }
 {
     add_taken(alloc, branch.takes, out)?;
     out.push(Stand::Template(branch.result))?;
-    add_extras(alloc, again, branch.extras, out)
+    add_extras(alloc, scope, ExtraPlace::OfCase, again, branch.extras, out)
 }

@@ -1,15 +1,21 @@
-// The names that are bound in a case or a clause, in the order of binding.
-ghost use Rattle.std.specs.Prelude.{◌≡◌, ◌<◌, ◌++◌, IfOk, IsTrue};
+// The names that are bound in a case, a clause or a rule, in the order of binding.
+ghost use Rattle.std.specs.Prelude.{◌≡◌, ◌<◌, ◌++◌, ◌∷◌, [], IfOk, IsTrue};
 ghost use Rattle.rdx_grammar.specs.OccurrenceView.{occurrences_of};
 ghost use Rattle.rdx_grammar.specs.Parts.{text_of};
 ghost use Rattle.rdx_term.specs.Spelling.{is_name};
+ghost use Rattle.rdx_defs.specs.Arguments.{data_at, patterns_in};
+ghost use Rattle.rdx_defs.specs.Headed as headed;
 ghost use Rattle.rdx_defs.specs.Inside.ByNames as by_names;
-ghost use Rattle.rdx_defs.specs.Inside.FormViews.{branch_of, extra_form_of, takes_of};
-ghost use Rattle.rdx_defs.specs.Inside.PartsHave.{BindNames, CanBind, BranchHas, ExtraHas, ExtrasHave};
+ghost use Rattle.rdx_defs.specs.Inside.Branches.{one, each};
+ghost use Rattle.rdx_defs.specs.Inside.FormViews.{arguments_of, branch_of, extra_form_of, place_of, rule_branch_of, takes_of};
+ghost use Rattle.rdx_defs.specs.Inside.PartsHave.{BindNames, CanBind, can_bind, BranchHas, ExtraHas, ExtrasHave, PremiseHas, RuleHas};
+ghost use Rattle.rdx_defs.specs.Scope.{scope_of};
 ghost use Rattle.rdx_defs.specs.Stands.{bound_among, names_bound};
 
-use crate::branches::{Branch, Takes};
-use crate::extras::{ExtraForm, extra_form};
+use crate::Scope;
+use crate::arguments::{Arguments, headed_list, premise_arguments};
+use crate::branches::{Branch, RuleBranch, Takes};
+use crate::extras::{ExtraForm, ExtraPlace, form_at};
 use crate::stands::collecting::in_takes;
 use rdx_grammar::checks::bound_by;
 use rdx_grammar::occurrences::Occurrence;
@@ -61,38 +67,112 @@ fn add_taken_names(
     add_bound(names, &found, out)
 }
 
+/// Adds the names that an argument binds, if it is a pattern.
+pub(crate) fn add_argument_names(
+    alloc: Global,
+    names: &Names,
+    is_pattern: bool,
+    d: &Datum,
+    out: &mut Vec<(Name, u32)>,
+) -> Result<(), NoMemory>
+    requires { IsTrue is_pattern → CanBind names.now (one d.now) }
+    ensures { IfOk result (λ _.
+        out.new.items
+        ≡ out.old.items
+        ++ by_names.patterns_names names.now (data_at (is_pattern ∷ []) (d.now ∷ []))) }
+{
+    if is_pattern {
+        add_taken_names(alloc, names, Takes::One(d), out)
+    } else {
+        Ok(())
+    }
+}
+
+/// Adds the names that the patterns among arguments bind.
+pub(crate) fn add_arguments_names(
+    alloc: Global,
+    names: &Names,
+    arguments: Arguments<'_, '_>,
+    out: &mut Vec<(Name, u32)>,
+) -> Result<(), NoMemory>
+    requires { CanBind names.now (each (patterns_in (arguments_of arguments))) }
+    ensures { IfOk result (λ _.
+        out.new.items
+        ≡ out.old.items
+        ++ by_names.patterns_names names.now (patterns_in (arguments_of arguments.entry))) }
+{
+    let Some(mode) = arguments.mode else {
+        return Ok(());
+    };
+    for (flag, d) in mode.iter().zip(arguments.items) {
+        add_argument_names(alloc, names, arguments.is_pattern(*flag), d, out)?;
+    }
+    Ok(())
+}
+
+// Adds the names that a datum binds that has to be a premise.
+fn add_premise_names(
+    alloc: Global,
+    scope: &Scope,
+    names: &Names,
+    d: &Datum,
+    out: &mut Vec<(Name, u32)>,
+) -> Result<(), NoMemory>
+    requires { PremiseHas (scope_of scope.now) (can_bind names.now) (headed.headed d.now) }
+    ensures { IfOk result (λ _.
+        out.new.items
+        ≡ out.old.items
+        ++ by_names.premise_names (scope_of scope.now) names.now (headed.headed d.now)) }
+{
+    match headed_list(d) {
+        Some(premise) => {
+            add_arguments_names(alloc, names, premise_arguments(scope, premise), out)
+        }
+        None => Ok(()),
+    }
+}
+
 /// Adds the names that an extra binds.
 pub(crate) fn add_extra_names(
     alloc: Global,
+    scope: &Scope,
     names: &Names,
     extra: ExtraForm<'_>,
     out: &mut Vec<(Name, u32)>,
 ) -> Result<(), NoMemory>
-    requires { ExtraHas (CanBind names.now) (extra_form_of extra) }
+    requires { ExtraHas (scope_of scope.now) (can_bind names.now) (extra_form_of extra) }
     ensures { IfOk result (λ _.
-        out.new.items ≡ out.old.items ++ by_names.extra_names names.now (extra_form_of extra.entry)) }
+        out.new.items
+        ≡ out.old.items
+        ++ by_names.extra_names (scope_of scope.now) names.now (extra_form_of extra.entry)) }
 {
     match extra {
         ExtraForm::SuchThat(pattern, _) => {
             add_taken_names(alloc, names, Takes::One(pattern), out)
         }
-        ExtraForm::Provided(_) | ExtraForm::Name | ExtraForm::NoExtra => Ok(()),
+        ExtraForm::Holding(premise) => add_premise_names(alloc, scope, names, premise, out),
+        ExtraForm::Provided(_) | ExtraForm::Confirmed(_) | ExtraForm::Name | ExtraForm::NoExtra =>
+            Ok(()),
     }
 }
 
-// Adds the names that extras bind.
-fn add_extras_names(
+/// Adds the names that extras at such a place bind.
+pub(crate) fn add_extras_names(
     alloc: Global,
+    scope: &Scope,
     names: &Names,
+    place: ExtraPlace,
     extras: &[Datum],
     out: &mut Vec<(Name, u32)>,
 ) -> Result<(), NoMemory>
-    requires { ExtrasHave (CanBind names.now) extras.now }
+    requires { ExtrasHave (scope_of scope.now) (can_bind names.now) (place_of place) extras.now }
     ensures { IfOk result (λ _.
-        out.new.items ≡ out.old.items ++ by_names.extras_names names.now extras.now) }
+        out.new.items
+        ≡ out.old.items
+        ++ by_names.extras_names (place_of place) (scope_of scope.now) names.now extras.now) }
 {
     for d in extras {
-        add_extra_names(alloc, names, extra_form(d), out)?;
+        add_extra_names(alloc, scope, names, form_at(place, d), out)?;
     }
     Ok(())
 }
@@ -115,14 +195,81 @@ pub(crate) fn taken_names(
 /// All names that a case or a clause binds.
 pub(crate) fn branch_names(
     alloc: Global,
+    scope: &Scope,
     names: &Names,
     branch: Branch<'_>,
 ) -> Result<Vec<(Name, u32)>, NoMemory>
-    requires { BranchHas (CanBind names.now) (branch_of branch) }
+    requires { BranchHas (scope_of scope.now) (can_bind names.now) (branch_of branch) }
     ensures { IfOk result (λ bound.
-        bound.items ≡ by_names.branch_names names.now (branch_of branch.entry)) }
+        bound.items
+        ≡ by_names.branch_names (scope_of scope.now) names.now (branch_of branch.entry)) }
 {
     let mut bound = taken_names(alloc, names, branch.takes)?;
-    add_extras_names(alloc, names, branch.extras, &mut bound)?;
+    let place = ExtraPlace::OfCase;
+    add_extras_names(alloc, scope, names, place, branch.extras, &mut bound)?;
     Ok(bound)
+}
+
+/// The names that the inputs of the conclusion of a rule bind.
+pub(crate) fn input_names(
+    alloc: Global,
+    names: &Names,
+    rule: RuleBranch<'_, '_>,
+) -> Result<Vec<(Name, u32)>, NoMemory>
+    requires { CanBind names.now (each (patterns_in (rule_branch_of rule).arguments)) }
+    ensures { IfOk result (λ bound.
+        bound.items ≡ by_names.input_names names.now (rule_branch_of rule.entry)) }
+{
+    let mut bound = Vec::new(alloc);
+    add_arguments_names(alloc, names, rule.arguments, &mut bound)?;
+    Ok(bound)
+}
+
+/// All names that a rule binds.
+pub(crate) fn rule_names(
+    alloc: Global,
+    scope: &Scope,
+    names: &Names,
+    rule: RuleBranch<'_, '_>,
+) -> Result<Vec<(Name, u32)>, NoMemory>
+    requires { RuleHas (scope_of scope.now) (can_bind names.now) (rule_branch_of rule) }
+    ensures { IfOk result (λ bound.
+        bound.items
+        ≡ by_names.rule_names (scope_of scope.now) names.now (rule_branch_of rule.entry)) }
+{
+    let mut bound = input_names(alloc, names, rule)?;
+    let place = ExtraPlace::OfRule;
+    add_extras_names(alloc, scope, names, place, rule.premises, &mut bound)?;
+    Ok(bound)
+}
+
+/// The names that a datum binds that has to be a premise, before which none is bound.
+pub(crate) fn lone_names(
+    alloc: Global,
+    scope: &Scope,
+    names: &Names,
+    d: &Datum,
+) -> Result<Vec<(Name, u32)>, NoMemory>
+    requires { PremiseHas (scope_of scope.now) (can_bind names.now) (headed.headed d.now) }
+    ensures { IfOk result (λ bound.
+        bound.items
+        ≡ by_names.premise_names (scope_of scope.now) names.now (headed.headed d.now)) }
+{
+    let mut bound = Vec::new(alloc);
+    add_premise_names(alloc, scope, names, d, &mut bound)?;
+    Ok(bound)
+}
+
+/// The same names once more.
+pub(crate) fn share_names(
+    alloc: Global,
+    bound: &[(Name, u32)],
+) -> Result<Vec<(Name, u32)>, NoMemory>
+    ensures { IfOk result (λ shared. shared.items ≡ bound.now) }
+{
+    let mut shared = Vec::new(alloc);
+    for (name, depth) in bound {
+        shared.push((name.share()?, *depth))?;
+    }
+    Ok(shared)
 }

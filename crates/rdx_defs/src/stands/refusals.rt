@@ -1,21 +1,23 @@
-// Why a form of a relation or a metafunction is refused.
+// Why a form of a relation, a metafunction or a judgement is refused.
 ghost use Rattle.std.specs.Prelude.{◌≡◌, None, IfOk, option_map};
 ghost use Rattle.rdx_grammar.specs.Refusal.{refusal_of};
 ghost use Rattle.rdx_term.specs.Spelling.{is_symbol_spelling};
 ghost use Rattle.rdx_defs.specs.Inside.FormRefusals as inside;
-ghost use Rattle.rdx_defs.specs.Inside.FormViews.{outline_of, stands_of};
-ghost use Rattle.rdx_defs.specs.Inside.PartsHave.{CanBind, OutlineHas};
+ghost use Rattle.rdx_defs.specs.Inside.FormViews.{misfit_of, outline_of, stands_of};
+ghost use Rattle.rdx_defs.specs.Inside.PartsHave.{OutlineHas, can_bind};
 ghost use Rattle.rdx_defs.specs.Scope.{scope_of};
 ghost use Rattle.rdx_defs.specs.StandChecks as model;
 
 use crate::Scope;
 use crate::branches::Outline;
 use crate::stands::checks::{
-    first_bad_arrow, first_bad_name, first_repeated, first_shape_fault, label,
+    Misfit, first_bad_name, first_misfit, first_repeated, first_shape_fault, first_unknown_name,
+    label,
 };
 use crate::stands::collecting::Stand;
 use crate::stands::faults::{Check, first_fault};
 use rdx_grammar::refusal::{named, named_at, unnamed};
+use rdx_grammar::shape::text;
 use rdx_grammar::{DefKind, DefRefusal, Names};
 use rdx_sexp::Datum;
 use rdx_term::printing::print_string;
@@ -34,7 +36,7 @@ fn is_like_symbol(alloc: Global, text: &str) -> Result<bool, NoMemory>
     Ok(name.is_some())
 }
 
-// The refusal of a second case with one name, which is printed as a symbol or a string.
+// The refusal of a second case or rule with one name, which is printed as a symbol or a string.
 fn repeated_at(alloc: Global, d: &Datum) -> Result<DefRefusal, NoMemory>
     ensures { IfOk result (λ r. refusal_of r ≡ model.repeated_at d.now) }
 {
@@ -67,8 +69,29 @@ fn refuse_early(alloc: Global, found: &[Stand]) -> Result<Option<DefRefusal>, No
     Ok(None)
 }
 
-// The refusal by the checks of depths, arrows, ellipses and escapes, if one refuses a form of this
-// outline, in which these stand.
+// The refusal of what does not fit a mode, by the name of the judgement, where there is one.
+fn misfit_at(alloc: Global, misfit: Misfit<'_>) -> Result<DefRefusal, NoMemory>
+    ensures { IfOk result (λ r. refusal_of r ≡ model.misfit_at (misfit_of misfit.entry)) }
+{
+    match misfit.judgement {
+        Some(judgement) => named_at(alloc, DefKind::Mode, misfit.datum, text(judgement)),
+        None => Ok(unnamed(DefKind::Mode, misfit.datum)),
+    }
+}
+
+// The refusal by the check of modes, if it refuses what stands in a form.
+fn refuse_modes(alloc: Global, found: &[Stand]) -> Result<Option<DefRefusal>, NoMemory>
+    ensures { IfOk result (λ r.
+        option_map refusal_of r ≡ model.mode_fault_at (stands_of found.now)) }
+{
+    match first_misfit(found) {
+        Some(misfit) => Ok(Some(misfit_at(alloc, misfit)?)),
+        None => Ok(None),
+    }
+}
+
+// The refusal by the checks of patterns, depths, names, ellipses, escapes and modes, if one refuses a
+// form of this outline, in which these stand.
 fn refuse_late(
     alloc: Global,
     scope: &Scope,
@@ -76,7 +99,7 @@ fn refuse_late(
     found: &[Stand],
     outline: &Outline,
 ) -> Result<Option<DefRefusal>, NoMemory>
-    requires { OutlineHas (CanBind names.now) (outline_of outline.now) }
+    requires { OutlineHas (scope_of scope.now) (can_bind names.now) (outline_of outline.now) }
     ensures { IfOk result (λ r.
         option_map refusal_of r
         ≡ inside.late_refusal (scope_of scope.now) names.now (stands_of found.now)
@@ -88,7 +111,7 @@ fn refuse_late(
     if let Some(d) = first_fault(alloc, Check::Depths, scope, names, outline)? {
         return Ok(Some(named(alloc, DefKind::EllipsisDepth, d)?));
     }
-    if let Some(d) = first_bad_arrow(found) {
+    if let Some(d) = first_unknown_name(scope, found) {
         return Ok(Some(named(alloc, DefKind::UnknownName, d)?));
     }
     if let Some(d) = first_fault(alloc, Check::Driving, scope, names, outline)? {
@@ -97,11 +120,11 @@ fn refuse_late(
     if let Some(d) = first_fault(alloc, Check::Escapes, scope, names, outline)? {
         return Ok(Some(unnamed(DefKind::RacketEscape, d)));
     }
-    Ok(None)
+    refuse_modes(alloc, found)
 }
 
-/// The refusal by the check with the least number that refuses a form of this outline, in which these
-/// stand, in a file of this scope, over these nonterminals.
+/// The refusal by the check with the least number that refuses a form of this outline, in which
+/// these stand, in a file of this scope, over these nonterminals.
 pub(crate) fn refuse_parts(
     alloc: Global,
     scope: &Scope,
@@ -110,7 +133,7 @@ pub(crate) fn refuse_parts(
     outline: &Outline,
 ) -> Result<Option<DefRefusal>, NoMemory>
     requires { inside.early_refusal (stands_of found.now) ≡ None
-        → OutlineHas (CanBind names.now) (outline_of outline.now) }
+        → OutlineHas (scope_of scope.now) (can_bind names.now) (outline_of outline.now) }
     ensures { IfOk result (λ r.
         option_map refusal_of r
         ≡ inside.form_refusal (scope_of scope.now) names.now (stands_of found.now)

@@ -1,4 +1,4 @@
-use Rattle.std.proofs.Common.{◌≡◌, ◌∙◌, ◌+◌, List, Some, take, sym, ap, true, false}
+use Rattle.std.proofs.Common.{◌≡◌, ◌∙◌, ◌+◌, List, Some, take, refl, sym, ap, true, false}
 use Rattle.std.proofs.lemmas.List.{take_rest}
 use Rattle.std.specs.Prelude.{codes}
 use Rattle.rdx_sexp.specs.Sexp.{Sexp}
@@ -15,12 +15,12 @@ returns-then-is_word c =
     let ds = c.args.parts.now in
     let e : is_word (codes "->") c.index-parts-i.result ≡ true = sym c.is_word.ensures ∙ c.if-is_word.true in
     ap (λ (xs : List Sexp). Some (take c.loop-i.i ds, xs)) (take_rest ds (c.loop-i.i + 1))
-    ∙ sym (c.loop-i.invariant ∙ cut-here ds c.loop-i.i c.index-parts-i.result c.loop-i-test.true c.index-parts-i.is e)
+    ∙ sym (c.loop-i.invariant ∙ cut-here (is_word (codes "->")) cut_at_arrow refl (λ d ds. refl) ds c.loop-i.i c.index-parts-i.result c.loop-i-test.true c.index-parts-i.is e)
 
 pub loop-i-preserved : goal.loop-i-preserved
 loop-i-preserved c =
     let e : is_word (codes "->") c.index-parts-i.result ≡ false = sym c.is_word.ensures ∙ c.if-is_word.false in
-    c.loop-i.invariant ∙ cut-later c.args.parts.now c.loop-i.i c.index-parts-i.result c.loop-i-test.true c.index-parts-i.is e
+    c.loop-i.invariant ∙ cut-later (is_word (codes "->")) cut_at_arrow refl (λ d ds. refl) c.args.parts.now c.loop-i.i c.index-parts-i.result c.loop-i-test.true c.index-parts-i.is e
 
 pub returns : goal.returns
-returns c = sym (c.loop-i.invariant ∙ cut-none c.args.parts.now c.loop-i.i c.loop-i-test.false)
+returns c = sym (c.loop-i.invariant ∙ cut-none (is_word (codes "->")) cut_at_arrow refl (λ d ds. refl) c.args.parts.now c.loop-i.i c.loop-i-test.false)

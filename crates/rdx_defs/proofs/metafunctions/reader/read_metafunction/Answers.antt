@@ -15,11 +15,11 @@ use Rattle.rdx_defs.specs.Inside.BranchReadings.{branch_metafunction}
 use Rattle.rdx_defs.specs.Inside.Contracts.{IsContractIn}
 use Rattle.rdx_defs.specs.Inside.FormRefusals.{form_refusal}
 use Rattle.rdx_defs.specs.Inside.FormViews.{metafunction_form_of, outline_of, stands_of}
-use Rattle.rdx_defs.specs.Inside.PartsHave.{AreReadable, BranchesHave, OutlineHas, CanBind, IsPattern}
+use Rattle.rdx_defs.specs.Inside.PartsHave.{AreReadable, BranchesHave, OutlineHas, can_bind, can_read}
 use Rattle.rdx_defs.specs.MetafunctionForms.{metafunction_form, function_in}
 use Rattle.rdx_defs.specs.MetafunctionReading.{metafunction_reading}
 use Rattle.rdx_defs.specs.MetafunctionRefusal.{metafunction_refusal}
-use Rattle.rdx_defs.specs.Scope.{scope_of, has_metafunction}
+use Rattle.rdx_defs.specs.Scope.{scope_of, callable}
 use Rattle.rdx_defs.proofs.FormRefusals.{metafunction-refused}
 use Rattle.rdx_defs.proofs.PassedForms.{metafunction-early, has-function, metafunction-valid}
 use Rattle.rdx_defs.proofs.ReadableParts.{metafunction-readable, contract-readable}
@@ -43,14 +43,15 @@ function_stands-requires-clause-clauses c =
 
 pub refuse_parts-requires : goal.refuse_parts-requires
 refuse_parts-requires c =
+    let S = scope_of c.args.scope.now in
     let d = c.args.form.now in
     let m = metafunction_form_of c.in-Some.parts in
     let f : metafunction_form d ≡ Some m = sym c.metafunction_form.ensures ∙ ap (option_map metafunction_form_of) c.in-Some.is in
     let k : option_map (λ x. x.now) c.function_in-function.result ≡ function_in m = c.function_in-function.ensures in
     let o : outline_of c.in_ok-outline.outline ≡ metafunction_outline m (function_in m) = c.in_ok-outline.ensures ∙ ap (metafunction_outline m) k in
-    let q : stands_of c.deref-2.result.now ≡ function_stands m (function_in m) =
-    ap stands_of c.deref-2.ensures.value ∙ c.in_ok-found.ensures ∙ ap (function_stands m) k in
-    λ e. subst (λ (z : Outline). OutlineHas (CanBind c.in_ok-names.names) z) (sym o) (metafunction-early c.in_ok-names.names d m (stands_of c.deref-2.result.now) c.requires f q e)
+    let q : stands_of c.deref-2.result.now ≡ function_stands S m (function_in m) =
+    ap stands_of c.deref-2.ensures.value ∙ c.in_ok-found.ensures ∙ ap (function_stands S m) k in
+    λ e. subst (λ (z : Outline). OutlineHas S (can_bind c.in_ok-names.names) z) (sym o) (metafunction-early S c.in_ok-names.names d m (stands_of c.deref-2.result.now) c.requires f q e)
 
 pub returns-in-Some-2-clause-reads : goal.returns-in-Some-2-clause-reads
 returns-in-Some-2-clause-reads c =
@@ -61,8 +62,8 @@ returns-in-Some-2-clause-reads c =
     let f : metafunction_form d ≡ Some m = sym c.metafunction_form.ensures ∙ ap (option_map metafunction_form_of) c.in-Some.is in
     let k : option_map (λ x. x.now) c.function_in-function.result ≡ function_in m = c.function_in-function.ensures in
     let o : outline_of c.in_ok-outline.outline ≡ metafunction_outline m (function_in m) = c.in_ok-outline.ensures ∙ ap (metafunction_outline m) k in
-    let q : stands_of c.deref-2.result.now ≡ function_stands m (function_in m) =
-    ap stands_of c.deref-2.ensures.value ∙ c.in_ok-found.ensures ∙ ap (function_stands m) k in
+    let q : stands_of c.deref-2.result.now ≡ function_stands S m (function_in m) =
+    ap stands_of c.deref-2.ensures.value ∙ c.in_ok-found.ensures ∙ ap (function_stands S m) k in
     let u : unbuilt_at d ≡ None = ap (λ b. if b then Some (unnamed Unbuilt d) else None) (sym c.has_word_to_come.ensures ∙ c.if-has_word_to_come.false) in
     let n0 : c.in_ok-all.all.items ≡ names_of L = c.in_ok-all.ensures in
     let n1 : c.in_ok-names.names ≡ c.deref.result.now = c.in_ok-names.ensures in
@@ -78,8 +79,8 @@ read_parts-requires-clause-branches c =
     let f : metafunction_form d ≡ Some m = sym c.metafunction_form.ensures ∙ ap (option_map metafunction_form_of) c.in-Some.is in
     let k : option_map (λ x. x.now) c.function_in-function.result ≡ function_in m = c.function_in-function.ensures in
     let o : outline_of c.in_ok-outline.outline ≡ metafunction_outline m (function_in m) = c.in_ok-outline.ensures ∙ ap (metafunction_outline m) k in
-    let q : stands_of c.deref-2.result.now ≡ function_stands m (function_in m) =
-    ap stands_of c.deref-2.ensures.value ∙ c.in_ok-found.ensures ∙ ap (function_stands m) k in
+    let q : stands_of c.deref-2.result.now ≡ function_stands S m (function_in m) =
+    ap stands_of c.deref-2.ensures.value ∙ c.in_ok-found.ensures ∙ ap (function_stands S m) k in
     let u : unbuilt_at d ≡ None = ap (λ b. if b then Some (unnamed Unbuilt d) else None) (sym c.has_word_to_come.ensures ∙ c.if-has_word_to_come.false) in
     let n0 : c.in_ok-all.all.items ≡ names_of L = c.in_ok-all.ensures in
     let n1 : c.in_ok-names.names ≡ c.deref.result.now = c.in_ok-names.ensures in
@@ -90,8 +91,8 @@ read_parts-requires-clause-branches c =
     let p : function_in m ≡ Some x = sym k ∙ ap (option_map (λ y. y.now)) c.in-Some-function.is in
     let v = metafunction-valid S L d m x c.requires f p e in
     let b : (outline_of c.in_ok-outline.outline).branches ≡ clause_branches (text_of x) m.clauses = ap (λ (z : Outline). z.branches) (o ∙ ap (metafunction_outline m) p) in
-    subst (λ (xs : List (List ℕ)). BranchesHave (IsPattern L xs) (outline_of c.in_ok-outline.outline).branches) (sym n)
-    (subst (λ (bs : List Branch). BranchesHave (IsPattern L (names_of L)) bs) (sym b) v.good.branches)
+    subst (λ (xs : List (List ℕ)). BranchesHave S (can_read S L xs) (outline_of c.in_ok-outline.outline).branches) (sym n)
+    (subst (λ (bs : List Branch). BranchesHave S (can_read S L (names_of L)) bs) (sym b) v.good.branches)
 
 pub read_parts-requires-clause-contract : goal.read_parts-requires-clause-contract
 read_parts-requires-clause-contract c =
@@ -102,8 +103,8 @@ read_parts-requires-clause-contract c =
     let f : metafunction_form d ≡ Some m = sym c.metafunction_form.ensures ∙ ap (option_map metafunction_form_of) c.in-Some.is in
     let k : option_map (λ x. x.now) c.function_in-function.result ≡ function_in m = c.function_in-function.ensures in
     let o : outline_of c.in_ok-outline.outline ≡ metafunction_outline m (function_in m) = c.in_ok-outline.ensures ∙ ap (metafunction_outline m) k in
-    let q : stands_of c.deref-2.result.now ≡ function_stands m (function_in m) =
-    ap stands_of c.deref-2.ensures.value ∙ c.in_ok-found.ensures ∙ ap (function_stands m) k in
+    let q : stands_of c.deref-2.result.now ≡ function_stands S m (function_in m) =
+    ap stands_of c.deref-2.ensures.value ∙ c.in_ok-found.ensures ∙ ap (function_stands S m) k in
     let u : unbuilt_at d ≡ None = ap (λ b. if b then Some (unnamed Unbuilt d) else None) (sym c.has_word_to_come.ensures ∙ c.if-has_word_to_come.false) in
     let n0 : c.in_ok-all.all.items ≡ names_of L = c.in_ok-all.ensures in
     let n1 : c.in_ok-names.names ≡ c.deref.result.now = c.in_ok-names.ensures in
@@ -131,8 +132,8 @@ read_parts-requires-clause-name c =
     let f : metafunction_form d ≡ Some m = sym c.metafunction_form.ensures ∙ ap (option_map metafunction_form_of) c.in-Some.is in
     let k : option_map (λ x. x.now) c.function_in-function.result ≡ function_in m = c.function_in-function.ensures in
     let o : outline_of c.in_ok-outline.outline ≡ metafunction_outline m (function_in m) = c.in_ok-outline.ensures ∙ ap (metafunction_outline m) k in
-    let q : stands_of c.deref-2.result.now ≡ function_stands m (function_in m) =
-    ap stands_of c.deref-2.ensures.value ∙ c.in_ok-found.ensures ∙ ap (function_stands m) k in
+    let q : stands_of c.deref-2.result.now ≡ function_stands S m (function_in m) =
+    ap stands_of c.deref-2.ensures.value ∙ c.in_ok-found.ensures ∙ ap (function_stands S m) k in
     let u : unbuilt_at d ≡ None = ap (λ b. if b then Some (unnamed Unbuilt d) else None) (sym c.has_word_to_come.ensures ∙ c.if-has_word_to_come.false) in
     let n0 : c.in_ok-all.all.items ≡ names_of L = c.in_ok-all.ensures in
     let n1 : c.in_ok-names.names ≡ c.deref.result.now = c.in_ok-names.ensures in
@@ -153,8 +154,8 @@ unreachable-requires c =
     let f : metafunction_form d ≡ Some m = sym c.metafunction_form.ensures ∙ ap (option_map metafunction_form_of) c.in-Some.is in
     let k : option_map (λ x. x.now) c.function_in-function.result ≡ function_in m = c.function_in-function.ensures in
     let o : outline_of c.in_ok-outline.outline ≡ metafunction_outline m (function_in m) = c.in_ok-outline.ensures ∙ ap (metafunction_outline m) k in
-    let q : stands_of c.deref-2.result.now ≡ function_stands m (function_in m) =
-    ap stands_of c.deref-2.ensures.value ∙ c.in_ok-found.ensures ∙ ap (function_stands m) k in
+    let q : stands_of c.deref-2.result.now ≡ function_stands S m (function_in m) =
+    ap stands_of c.deref-2.ensures.value ∙ c.in_ok-found.ensures ∙ ap (function_stands S m) k in
     let u : unbuilt_at d ≡ None = ap (λ b. if b then Some (unnamed Unbuilt d) else None) (sym c.has_word_to_come.ensures ∙ c.if-has_word_to_come.false) in
     let n0 : c.in_ok-all.all.items ≡ names_of L = c.in_ok-all.ensures in
     let n1 : c.in_ok-names.names ≡ c.deref.result.now = c.in_ok-names.ensures in
@@ -172,8 +173,8 @@ returns-clause-reads c =
     let f : metafunction_form d ≡ Some m = sym c.metafunction_form.ensures ∙ ap (option_map metafunction_form_of) c.in-Some.is in
     let k : option_map (λ x. x.now) c.function_in-function.result ≡ function_in m = c.function_in-function.ensures in
     let o : outline_of c.in_ok-outline.outline ≡ metafunction_outline m (function_in m) = c.in_ok-outline.ensures ∙ ap (metafunction_outline m) k in
-    let q : stands_of c.deref-2.result.now ≡ function_stands m (function_in m) =
-    ap stands_of c.deref-2.ensures.value ∙ c.in_ok-found.ensures ∙ ap (function_stands m) k in
+    let q : stands_of c.deref-2.result.now ≡ function_stands S m (function_in m) =
+    ap stands_of c.deref-2.ensures.value ∙ c.in_ok-found.ensures ∙ ap (function_stands S m) k in
     let u : unbuilt_at d ≡ None = ap (λ b. if b then Some (unnamed Unbuilt d) else None) (sym c.has_word_to_come.ensures ∙ c.if-has_word_to_come.false) in
     let n0 : c.in_ok-all.all.items ≡ names_of L = c.in_ok-all.ensures in
     let n1 : c.in_ok-names.names ≡ c.deref.result.now = c.in_ok-names.ensures in
@@ -197,8 +198,8 @@ returns-clause-valid c =
     let f : metafunction_form d ≡ Some m = sym c.metafunction_form.ensures ∙ ap (option_map metafunction_form_of) c.in-Some.is in
     let k : option_map (λ x. x.now) c.function_in-function.result ≡ function_in m = c.function_in-function.ensures in
     let o : outline_of c.in_ok-outline.outline ≡ metafunction_outline m (function_in m) = c.in_ok-outline.ensures ∙ ap (metafunction_outline m) k in
-    let q : stands_of c.deref-2.result.now ≡ function_stands m (function_in m) =
-    ap stands_of c.deref-2.ensures.value ∙ c.in_ok-found.ensures ∙ ap (function_stands m) k in
+    let q : stands_of c.deref-2.result.now ≡ function_stands S m (function_in m) =
+    ap stands_of c.deref-2.ensures.value ∙ c.in_ok-found.ensures ∙ ap (function_stands S m) k in
     let u : unbuilt_at d ≡ None = ap (λ b. if b then Some (unnamed Unbuilt d) else None) (sym c.has_word_to_come.ensures ∙ c.if-has_word_to_come.false) in
     let n0 : c.in_ok-all.all.items ≡ names_of L = c.in_ok-all.ensures in
     let n1 : c.in_ok-names.names ≡ c.deref.result.now = c.in_ok-names.ensures in
@@ -211,4 +212,4 @@ returns-clause-valid c =
     let b : (outline_of c.in_ok-outline.outline).branches ≡ clause_branches (text_of x) m.clauses = ap (λ (z : Outline). z.branches) (o ∙ ap (metafunction_outline m) p) in
     let g : metafunction_of c.in_ok-read_parts-in-Some-function.field-0 ≡ metafunction_reading S (names_of L) m =
     c.in_ok-read_parts-in-Some-function.ensures ∙ (λ i. branch_metafunction S (n i) m x (b i)) ∙ v.reading in
-    subst (λ (M : Metafunction). is_valid_metafunction (has_metafunction S) (Some L) M ≡ true) (sym g) v.valid
+    subst (λ (M : Metafunction). is_valid_metafunction (callable S) (Some L) M ≡ true) (sym g) v.valid

@@ -12,11 +12,11 @@ use Rattle.rdx_defs.specs.Inside.BareStands.{relation_stands}
 use Rattle.rdx_defs.specs.Inside.Branches.{Outline, relation_outline}
 use Rattle.rdx_defs.specs.Inside.FormRefusals.{form_refusal}
 use Rattle.rdx_defs.specs.Inside.FormViews.{relation_form_of, outline_of, stands_of}
-use Rattle.rdx_defs.specs.Inside.PartsHave.{OutlineHas, CanBind, IsPattern}
+use Rattle.rdx_defs.specs.Inside.PartsHave.{OutlineHas, can_bind, can_read}
 use Rattle.rdx_defs.specs.RelationForms.{relation_form}
 use Rattle.rdx_defs.specs.RelationReading.{relation_reading}
 use Rattle.rdx_defs.specs.RelationRefusal.{relation_refusal}
-use Rattle.rdx_defs.specs.Scope.{scope_of, has_metafunction}
+use Rattle.rdx_defs.specs.Scope.{scope_of, callable}
 use Rattle.rdx_defs.proofs.FormRefusals.{relation-refused}
 use Rattle.rdx_defs.proofs.PassedForms.{relation-early, relation-valid}
 use Rattle.rdx_defs.proofs.ReadableParts.{relation-readable}
@@ -32,12 +32,13 @@ relation_stands-requires-clause-cases c =
 
 pub refuse_parts-requires : goal.refuse_parts-requires
 refuse_parts-requires c =
+    let S = scope_of c.args.scope.now in
     let d = c.args.form.now in
     let r = relation_form_of c.in-Some.parts in
     let f : relation_form d ≡ Some r = sym c.relation_form.ensures ∙ ap (option_map relation_form_of) c.in-Some.is in
-    let q : stands_of c.deref-2.result.now ≡ relation_stands r = ap stands_of c.deref-2.ensures.value ∙ c.in_ok-found.ensures in
-    λ e. subst (λ (o : Outline). OutlineHas (CanBind c.in_ok-names.names) o) (sym c.in_ok-outline.ensures)
-    (relation-early c.in_ok-names.names d r (stands_of c.deref-2.result.now) c.requires f q e)
+    let q : stands_of c.deref-2.result.now ≡ relation_stands S r = ap stands_of c.deref-2.ensures.value ∙ c.in_ok-found.ensures in
+    λ e. subst (λ (o : Outline). OutlineHas S (can_bind c.in_ok-names.names) o) (sym c.in_ok-outline.ensures)
+    (relation-early S c.in_ok-names.names d r (stands_of c.deref-2.result.now) c.requires f q e)
 
 pub returns-in-Some-2-clause-reads : goal.returns-in-Some-2-clause-reads
 returns-in-Some-2-clause-reads c =
@@ -50,7 +51,7 @@ returns-in-Some-2-clause-reads c =
     let n0 : c.in_ok-all.all.items ≡ names_of L = c.in_ok-all.ensures in
     let m : c.in_ok-names.names ≡ c.deref.result.now = c.in_ok-names.ensures in
     let n : c.in_ok-names.names ≡ names_of L = cc in
-    let q : stands_of c.deref-2.result.now ≡ relation_stands r = ap stands_of c.deref-2.ensures.value ∙ c.in_ok-found.ensures in
+    let q : stands_of c.deref-2.result.now ≡ relation_stands S r = ap stands_of c.deref-2.ensures.value ∙ c.in_ok-found.ensures in
     let o : outline_of c.in_ok-outline.outline ≡ relation_outline r = c.in_ok-outline.ensures in
     relation-refused S (names_of L) d r u f ∙ (λ i. form_refusal S (sym n i) (sym q i) (sym o i)) ∙ sym c.in_ok-refusal.ensures ∙ ap (option_map refusal_of) c.in-Some-2.is
 
@@ -65,12 +66,12 @@ read_parts-requires-clause-parts c =
     let n0 : c.in_ok-all.all.items ≡ names_of L = c.in_ok-all.ensures in
     let m : c.in_ok-names.names ≡ c.deref.result.now = c.in_ok-names.ensures in
     let n : c.in_ok-names.names ≡ names_of L = cc in
-    let q : stands_of c.deref-2.result.now ≡ relation_stands r = ap stands_of c.deref-2.ensures.value ∙ c.in_ok-found.ensures in
+    let q : stands_of c.deref-2.result.now ≡ relation_stands S r = ap stands_of c.deref-2.ensures.value ∙ c.in_ok-found.ensures in
     let o : outline_of c.in_ok-outline.outline ≡ relation_outline r = c.in_ok-outline.ensures in
     let e : relation_refusal S (names_of L) d ≡ None =
     relation-refused S (names_of L) d r u f ∙ (λ i. form_refusal S (sym n i) (sym q i) (sym o i)) ∙ sym c.in_ok-refusal.ensures ∙ ap (option_map refusal_of) c.in_default-2.is in
-    subst (λ (xs : List (List ℕ)). OutlineHas (IsPattern L xs) (outline_of c.in_ok-outline.outline)) (sym n)
-    (subst (λ (p : Outline). OutlineHas (IsPattern L (names_of L)) p) (sym o) (relation-valid S L d r [] c.requires f e).0)
+    subst (λ (xs : List (List ℕ)). OutlineHas S (can_read S L xs) (outline_of c.in_ok-outline.outline)) (sym n)
+    (subst (λ (p : Outline). OutlineHas S (can_read S L (names_of L)) p) (sym o) (relation-valid S L d r [] c.requires f e).0)
 
 pub read_parts-requires-clause-named : goal.read_parts-requires-clause-named
 read_parts-requires-clause-named c =
@@ -87,7 +88,7 @@ returns-clause-reads c =
     let n0 : c.in_ok-all.all.items ≡ names_of L = c.in_ok-all.ensures in
     let m : c.in_ok-names.names ≡ c.deref.result.now = c.in_ok-names.ensures in
     let n : c.in_ok-names.names ≡ names_of L = cc in
-    let q : stands_of c.deref-2.result.now ≡ relation_stands r = ap stands_of c.deref-2.ensures.value ∙ c.in_ok-found.ensures in
+    let q : stands_of c.deref-2.result.now ≡ relation_stands S r = ap stands_of c.deref-2.ensures.value ∙ c.in_ok-found.ensures in
     let o : outline_of c.in_ok-outline.outline ≡ relation_outline r = c.in_ok-outline.ensures in
     let e : relation_refusal S (names_of L) d ≡ None =
     relation-refused S (names_of L) d r u f ∙ (λ i. form_refusal S (sym n i) (sym q i) (sym o i)) ∙ sym c.in_ok-refusal.ensures ∙ ap (option_map refusal_of) c.in_default-2.is in
@@ -106,10 +107,10 @@ returns-clause-valid c =
     let n0 : c.in_ok-all.all.items ≡ names_of L = c.in_ok-all.ensures in
     let m : c.in_ok-names.names ≡ c.deref.result.now = c.in_ok-names.ensures in
     let n : c.in_ok-names.names ≡ names_of L = cc in
-    let q : stands_of c.deref-2.result.now ≡ relation_stands r = ap stands_of c.deref-2.ensures.value ∙ c.in_ok-found.ensures in
+    let q : stands_of c.deref-2.result.now ≡ relation_stands S r = ap stands_of c.deref-2.ensures.value ∙ c.in_ok-found.ensures in
     let o : outline_of c.in_ok-outline.outline ≡ relation_outline r = c.in_ok-outline.ensures in
     let e : relation_refusal S (names_of L) d ≡ None =
     relation-refused S (names_of L) d r u f ∙ (λ i. form_refusal S (sym n i) (sym q i) (sym o i)) ∙ sym c.in_ok-refusal.ensures ∙ ap (option_map refusal_of) c.in_default-2.is in
     let g : relation_of c.in_ok-read_parts.field-0 ≡ relation_reading S (names_of L) c.args.name.now r =
     c.in_ok-read_parts.ensures ∙ ap (λ xs. relation_reading S xs c.args.name.now r) n in
-    subst (λ (R : Relation). is_valid_over (has_metafunction S) (Some L) R ≡ true) (sym g) (relation-valid S L d r c.args.name.now c.requires f e).1
+    subst (λ (R : Relation). is_valid_over (callable S) (Some L) R ≡ true) (sym g) (relation-valid S L d r c.args.name.now c.requires f e).1

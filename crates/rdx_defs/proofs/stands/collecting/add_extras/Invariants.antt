@@ -1,8 +1,10 @@
 use Rattle.std.proofs.Common.{◌≡◌, ◌++◌, drop}
 use Rattle.rdx_defs.specs.Inside.BareStands.{extras_stand}
-use Rattle.rdx_defs.specs.Inside.FormViews.{stands_of}
+use Rattle.rdx_defs.specs.Inside.FormViews.{place_of, stands_of}
+use Rattle.rdx_defs.specs.Scope.{scope_of}
 use Rattle.rdx_defs.proofs.stands.collecting.add_extras.Given as goal
 
 abbrev pub invariant-loop-d : goal.invariant-loop-d
 invariant-loop-d l =
-    stands_of l.out.items ++ extras_stand l.again (drop l.d-index l.extras) ≡ stands_of l.fn.out.items ++ extras_stand l.fn.again l.extras
+    stands_of l.out.items ++ extras_stand (place_of l.place) (scope_of l.scope) l.again (drop l.d-index l.extras)
+    ≡ stands_of l.fn.out.items ++ extras_stand (place_of l.place) (scope_of l.scope) l.fn.again l.extras

@@ -1,6 +1,10 @@
 use Rattle.std.proofs.Common.{◌≡◌, ◌++◌, drop}
 use Rattle.rdx_defs.specs.Inside.ByNames.{extras_names}
+use Rattle.rdx_defs.specs.Inside.FormViews.{place_of}
+use Rattle.rdx_defs.specs.Scope.{scope_of}
 use Rattle.rdx_defs.proofs.stands.names.add_extras_names.Given as goal
 
 abbrev pub invariant-loop-d : goal.invariant-loop-d
-invariant-loop-d l = l.out.items ++ extras_names l.names (drop l.d-index l.extras) ≡ l.fn.out.items ++ extras_names l.names l.extras
+invariant-loop-d l =
+    l.out.items ++ extras_names (place_of l.place) (scope_of l.scope) l.names (drop l.d-index l.extras)
+    ≡ l.fn.out.items ++ extras_names (place_of l.place) (scope_of l.scope) l.names l.extras

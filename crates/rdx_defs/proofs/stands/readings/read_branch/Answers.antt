@@ -1,10 +1,11 @@
 use Rattle.std.proofs.Common.{◌≡◌, ◌∙◌, sym, ap}
 use Rattle.rdx_lang.specs.Checked.{language_in}
 use Rattle.rdx_defs.specs.Bound.{Bound}
+use Rattle.rdx_defs.specs.ExtraForms.{of_case}
 use Rattle.rdx_defs.specs.Inside.Branches.{bound_by_taken, bound_by_branch}
 use Rattle.rdx_defs.specs.Inside.ByNames.{extras_reading}
 use Rattle.rdx_defs.specs.Inside.FormViews.{branch_of}
-use Rattle.rdx_defs.specs.Inside.PartsHave.{CanBind, IsPattern}
+use Rattle.rdx_defs.specs.Inside.PartsHave.{can_bind, can_read}
 use Rattle.rdx_defs.specs.Scope.{scope_of}
 use Rattle.rdx_defs.specs.Stands.{names_bound}
 use Rattle.rdx_defs.specs.TemplateReading.{template_reading}
@@ -15,19 +16,21 @@ use Rattle.rdx_defs.proofs.stands.readings.read_branch.Goals as goal
 pub branch_names-requires : goal.branch_names-requires
 branch_names-requires c =
     let ns = c.args.names.now in
-    branch-weaker (IsPattern (language_in c.args.language.now) ns) (CanBind ns) (λ w h. h.binds) (branch_of c.args.branch) c.requires
+    let S = scope_of c.args.scope.now in
+    branch-weaker S (can_read S (language_in c.args.language.now) ns) (can_bind ns) (λ w h. h.binds) (λ q h. tt) (branch_of c.args.branch) c.requires
 
 pub returns-clause-extras : goal.returns-clause-extras
 returns-clause-extras c =
     let ns = c.args.names.now in
     let S = scope_of c.args.scope.now in
     let b = branch_of c.args.branch in
-    c.in_ok-extras.ensures ∙ ap (λ (es : Bound). extras_reading S ns es b.extras) c.in_ok-bound.ensures ∙ sym (extras-reads ns S (bound_by_taken ns b.takes) b.extras)
+    c.in_ok-extras.ensures ∙ ap (λ (es : Bound). extras_reading of_case S ns es b.extras) c.in_ok-bound.ensures
+    ∙ sym (extras-reads S ns of_case (bound_by_taken ns b.takes) b.extras)
 
 pub returns-clause-result : goal.returns-clause-result
 returns-clause-result c =
     let ns = c.args.names.now in
     let S = scope_of c.args.scope.now in
     let b = branch_of c.args.branch in
-    let all : c.deref.result.now ≡ names_bound (bound_by_branch ns b) = c.deref.ensures.value ∙ c.in_ok-all.ensures ∙ branch-names ns b in
+    let all : c.deref.result.now ≡ names_bound (bound_by_branch S ns b) = c.deref.ensures.value ∙ c.in_ok-all.ensures ∙ branch-names S ns b in
     c.in_ok-result.ensures ∙ ap (λ (es : Bound). template_reading S es b.result) all

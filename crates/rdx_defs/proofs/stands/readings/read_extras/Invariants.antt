@@ -1,10 +1,11 @@
 use Rattle.std.proofs.Common.{◌≡◌, ◌++◌, drop}
 use Rattle.rdx_lang.specs.ProgramView.{extras_of}
 use Rattle.rdx_defs.specs.Inside.ByNames.{extras_reading}
+use Rattle.rdx_defs.specs.Inside.FormViews.{place_of}
 use Rattle.rdx_defs.specs.Scope.{scope_of}
 use Rattle.rdx_defs.proofs.stands.readings.read_extras.Given as goal
 
 abbrev pub invariant-loop-d : goal.invariant-loop-d
 invariant-loop-d l =
-    extras_of l.read.items ++ extras_reading (scope_of l.scope) l.names l.bound.items (drop l.d-index l.extras)
-    ≡ extras_reading (scope_of l.scope) l.names l.fn.bound.items l.extras
+    extras_of l.read.items ++ extras_reading (place_of l.place) (scope_of l.scope) l.names l.bound.items (drop l.d-index l.extras)
+    ≡ extras_reading (place_of l.place) (scope_of l.scope) l.names l.fn.bound.items l.extras

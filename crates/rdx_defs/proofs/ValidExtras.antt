@@ -1,0 +1,229 @@
+-- What the patterns and the extras of a form stand for is valid, where no check refuses them.
+use Rattle.std.proofs.Common.{◌≡◌, ◌++◌, ◌∙◌, ◌+◌, ℕ, Bool, true, not, List, [], ◌∷◌, length, map, refl, sym, ap, ap₂, subst, arith}
+use Rattle.std.proofs.lemmas.List.{append-nil, length-map, map-append}
+use Rattle.std.proofs.lemmas.Bool.{eq-eqb}
+use Rattle.std.specs.List.{list_any, list_all}
+use Rattle.std.specs.Prelude.{◌&&◌, IsSome, Option, Some, None, option_map, nat_eq}
+use Rattle.rdx_sexp.specs.Sexp.{Sexp, sexps}
+use Rattle.rdx_lang.specs.Depths.{Use, uses, has_fitting_names}
+use Rattle.rdx_lang.specs.Fitting.{fits, fits_in}
+use Rattle.rdx_lang.specs.Modes.{input_count, output_count, are_single, fits_mode}
+use Rattle.rdx_lang.specs.Patterns.{Language, seq}
+use Rattle.rdx_lang.specs.Programs.{Mode, holds}
+use Rattle.rdx_lang.specs.Scopes.{bound_by, extras_uses}
+use Rattle.rdx_lang.specs.Valid.{is_valid_extra, are_valid_extras}
+use Rattle.rdx_lang.specs.WellFormed.{defined, has_known_nonterminals, have_known_nonterminals, is_well_formed_in}
+use Rattle.rdx_grammar.specs.Heads.{patterns as items_of_list}
+use Rattle.rdx_grammar.specs.Nonterminals.{names_of}
+use Rattle.rdx_grammar.specs.Occurrences.{occurrences}
+use Rattle.rdx_grammar.specs.Parts.{text_of}
+use Rattle.rdx_grammar.specs.PatternChecks as patterns
+use Rattle.rdx_grammar.specs.PatternChecks.{when, differ, clashes}
+use Rattle.rdx_grammar.specs.Reading.{reading}
+use Rattle.rdx_grammar.specs.declared.patterns.position.Position.TheVariants.{Query}
+use Rattle.rdx_grammar.proofs.Booleans.{and_both, or_false}
+use Rattle.rdx_grammar.proofs.DepthsRead.{bound_use, reading-makes, items-make}
+use Rattle.rdx_grammar.proofs.Firsts.{none_first}
+use Rattle.rdx_grammar.proofs.FittingNames.{fitting-reading, fitting-items}
+use Rattle.rdx_grammar.proofs.PassedPatterns.{are-passed}
+use Rattle.rdx_grammar.proofs.WellRead.{reading_known, items_known}
+use Rattle.rdx_defs.specs.Arguments.{is_misfit, data_at, data_by, patterns_in, templates_in}
+use Rattle.rdx_defs.specs.ExtraForms.{ExtraForm, such_that, provided, confirmed, holding, name, no_extra, ExtraPlace, form_at}
+use Rattle.rdx_defs.specs.ExtraReading.{items_reading, list_reading, premise_reading, held_reading, extra_reading, extras_reading}
+use Rattle.rdx_defs.specs.Headed.{Headed, headed}
+use Rattle.rdx_defs.specs.Inside.BareStands.{lone_pattern}
+use Rattle.rdx_defs.specs.Inside.Branches.{Takes, one, several, each, taken_occurrences, bound_by_taken, taken_reading}
+use Rattle.rdx_defs.specs.Inside.PartsHave.{PremiseHas, ExtraHas, ExtrasHave, AloneHave, CanBind, IsPattern, can_bind, can_read}
+use Rattle.rdx_defs.specs.MetafunctionReading.{argument_items}
+use Rattle.rdx_defs.specs.Scope.{Scope, mode_of, callable, has_metafunction}
+use Rattle.rdx_defs.specs.Stands.{template, names_bound, premise_arguments, arguments_stand, misfits, premise_stands, held_stands, bound_by_premise, bound_by_extra, bound_by_extras, extra_stands, is_named, extras_stand}
+use Rattle.rdx_defs.specs.TemplateReading.{template_reading, host_reading}
+use Rattle.rdx_defs.proofs.BoundParts.{taken-written}
+use Rattle.rdx_defs.proofs.FormRefusals.{ArePassed}
+use Rattle.rdx_defs.proofs.NamesBound.{any-append}
+use Rattle.rdx_defs.proofs.PassedStands.{mode-fits, IsPassedPattern, passed-both, pattern-first, template-first, host-passed, arguments-passed, misfits-false, asked-first, fits-uses, all-fit, host-uses}
+use Rattle.rdx_defs.proofs.PatternLists.{single-items, inputs-counted, outputs-counted, twice-not, each-bound, each-uses, fitting-each, each-known}
+
+-- ---- symbols that clash with fewer before them
+
+-- what clashes with none of several clashes with none of some of them
+clashes-fewer : (xs ys bs : List patterns.Bound) → clashes (xs ++ ys) bs ≡ [] → clashes xs bs ≡ []
+clashes-fewer xs ys [] e = refl
+clashes-fewer xs ys (b ∷ bs) e =
+    let h = none_first (list_any (differ b) (xs ++ ys)) b.symbol (clashes (b ∷ (xs ++ ys)) bs) e in
+    let k = (or_false (list_any (differ b) xs) (list_any (differ b) ys) (sym (any-append (differ b) xs ys) ∙ h.0)).0 in
+    λ i. when (k i) b.symbol ++ clashes-fewer (b ∷ xs) ys bs h.1 i
+
+module _ (S : Scope) (L : Language) where
+  abbrev ns : List (List ℕ)
+  ns = names_of L
+
+  -- ---- patterns
+
+  -- what is taken, where it passes, is well formed, and makes these uses
+  pub taken-passed : (bs : List patterns.Bound) (w : Takes) → CanBind ns w → IsPassedPattern ns bs (taken_occurrences w)
+      → IsPattern L ns w × (uses 0 (taken_reading ns w) ≡ map bound_use (bound_by_taken ns w))
+  taken-passed bs (one p) h g =
+      let os = occurrences 0 p in
+      let r = reading ns Query p in
+      let f = fitting-reading ns Query p h.readable.nested h.readable.spelled g.names g.places (clashes-fewer [] bs (bound_by_taken ns (one p)) g.depths) in (
+        record { binds = h; well_formed = and_both (has_known_nonterminals (defined L) r) (has_fitting_names r) (reading_known (defined L) Query p) f },
+        (reading-makes ns Query 0 p (are-passed ns 4294967296 os (taken-written (one p) h.readable) g.names g.places)).0,
+      )
+  taken-passed bs (several ds) h g =
+      let os = taken_occurrences (several ds) in
+      let r = seq (argument_items ns ds) in
+      let f = fitting-items ns Query (sexps ds) (let l = h.readable.nested in omega (arith, l)) h.readable.spelled g.names g.places (clashes-fewer [] bs (bound_by_taken ns (several ds)) g.depths) in (
+        record { binds = h; well_formed = and_both (has_known_nonterminals (defined L) r) (has_fitting_names r) (items_known (defined L) Query items_of_list (sexps ds)) f },
+        (items-make ns Query 0 (sexps ds) (are-passed ns 4294967296 os (taken-written (several ds) h.readable) g.names g.places)).0,
+      )
+  taken-passed bs (each ds) h g =
+      let r = list_reading ns ds in
+      let f = fitting-each ns ds h.readable g.names g.places (clashes-fewer [] bs (bound_by_taken ns (each ds)) g.depths) in (
+        record { binds = h; well_formed = and_both (have_known_nonterminals (defined L) (items_reading ns ds)) (has_fitting_names r) (each-known L ds) f },
+        each-uses ns ds h.readable g.names g.places,
+      )
+
+  -- patterns that stand by themselves
+  pub alone-good : (ps : List Sexp) → AloneHave (CanBind ns) ps → ArePassed S ns (map lone_pattern ps) → AloneHave (IsPattern L ns) ps
+  alone-good [] h k = tt
+  alone-good (p ∷ ps) h k =
+      let a = pattern-first S ns [] (occurrences 0 p) (map lone_pattern ps) k in
+      ((taken-passed [] (one p) h.0 a.0).0, alone-good ps h.1 a.1)
+
+  -- ---- premises
+
+  -- what a premise that passes has behind symbols that bind names: well-formed patterns, that it is valid, and these uses
+  pub record IsGoodPremise (bs : List patterns.Bound) (q : Headed) : Type 0 where
+    pub has : PremiseHas S (can_read S L ns) (Some q)
+    pub valid : (us : List Use) → us ≡ map bound_use bs → is_valid_extra (callable S) L us (holds (premise_reading S ns (names_bound bs) q)) ≡ true
+    pub makes : uses 0 (premise_reading S ns (names_bound bs) q).outputs ≡ map bound_use (bound_by_premise S ns (Some q))
+
+  -- a premise that passes
+  pub premise-good : (bs : List patterns.Bound) (d : Sexp) (q : Headed) → PremiseHas S (can_bind ns) (Some q) → ArePassed S ns (premise_stands S ns bs d q) → IsGoodPremise bs q
+  premise-good bs d q h k =
+      let o = mode_of S (text_of q.head) in
+      let a = premise_arguments S q in
+      let ds = q.arguments in
+      let p = premise_reading S ns (names_bound bs) q in
+      let F = has_metafunction S in
+      let s = asked-first S ns q.head (misfits (is_misfit o ds) d q.head ++ arguments_stand ns bs (names_bound bs) a) k in
+      let u = passed-both S ns (misfits (is_misfit o ds) d q.head) (arguments_stand ns bs (names_bound bs) a) s.1 in
+      let m = mode-fits o ds s.0 (misfits-false S ns (is_misfit o ds) d q.head u.0) in
+      let v = arguments-passed S ns bs bs a u.1 in
+      let w = taken-passed bs (each (patterns_in a)) h.1.patterns v.0 in
+      let ins : length (templates_in a) ≡ input_count m.mode =
+      ap (λ (n : Option Mode). length (data_by (option_map (map not) (option_map (map not) n)) ds)) m.fits
+      ∙ ap (λ (bs : List Bool). length (data_at bs ds)) (twice-not m.mode) ∙ inputs-counted m.mode ds m.long in
+      let outs : length (patterns_in a) ≡ output_count m.mode =
+      ap (λ (n : Option Mode). length (data_by (option_map (map not) n) ds)) m.fits ∙ outputs-counted m.mode ds m.long in
+      let fit : fits_mode (Some m.mode) p ≡ true =
+      and_both (nat_eq (length p.inputs) (input_count m.mode)) (are_single (output_count m.mode) (items_reading ns (patterns_in a)))
+      (eq-eqb (length p.inputs) (input_count m.mode) (length-map (templates_in a) (template_reading S (names_bound bs)) ∙ ins))
+      (ap (λ n. are_single n (items_reading ns (patterns_in a))) (sym outs) ∙ single-items ns (patterns_in a)) in
+      record {
+        has = (
+          subst (λ (n : Option Mode). IsSome (option_map (map not) n)) (sym m.fits) refl,
+          record { patterns = w.0; readable = h.1.readable },
+        );
+        valid = λ us e.
+            and_both (fits_mode o p) (list_all (fits F (bound_by us) 0) p.inputs && is_well_formed_in L p.outputs)
+            (ap (λ (n : Option Mode). fits_mode n p) m.is ∙ fit)
+            (and_both (list_all (fits F (bound_by us) 0) p.inputs) (is_well_formed_in L p.outputs) (all-fit S ns bs us (templates_in a) e v.1) w.0.well_formed);
+        makes = w.1 ∙ ap (map bound_use) (each-bound ns (patterns_in a));
+      }
+
+  -- ---- extras
+
+  -- behind symbols that bind names, extras have well-formed patterns, are valid, and make these uses
+  abbrev pub AreGood : ExtraPlace → List patterns.Bound → List Sexp → Type 0
+  AreGood k bs ds =
+      ExtrasHave S (can_read S L ns) k ds
+      × (((us : List Use) → us ≡ map bound_use bs → are_valid_extras (callable S) L us (extras_reading k S ns bs ds) ≡ true)
+      × (extras_uses (extras_reading k S ns bs ds) ≡ map bound_use (bound_by_extras k S ns ds)))
+
+  -- so do they with a premise in front, if there is one
+  abbrev AreGoodBehind : ExtraPlace → List patterns.Bound → Option Headed → List Sexp → Type 0
+  AreGoodBehind k bs o ds =
+      (PremiseHas S (can_read S L ns) o × ExtrasHave S (can_read S L ns) k ds)
+      × (((us : List Use) → us ≡ map bound_use bs
+      → are_valid_extras (callable S) L us (held_reading S ns (names_bound bs) o ++ extras_reading k S ns (bs ++ bound_by_premise S ns o) ds) ≡ true)
+      × (extras_uses (held_reading S ns (names_bound bs) o ++ extras_reading k S ns (bs ++ bound_by_premise S ns o) ds)
+      ≡ map bound_use (bound_by_premise S ns o ++ bound_by_extras k S ns ds)))
+
+  premise-more : (k : ExtraPlace) (bs : List patterns.Bound) (d : Sexp) (o : Option Headed) (ds : List Sexp) → PremiseHas S (can_bind ns) o
+      → ArePassed S ns (held_stands S ns bs d o) → AreGood k (bs ++ bound_by_premise S ns o) ds → AreGoodBehind k bs o ds
+  premise-more k bs d None ds h f g = ((tt, g.0), ((λ us e. g.1.0 us (e ∙ ap (map bound_use) (sym (append-nil bs)))), g.1.1))
+  premise-more k bs d (Some q) ds h f g =
+      let p = premise_reading S ns (names_bound bs) q in
+      let cs = bound_by_premise S ns (Some q) in
+      let r = premise-good bs d q h f in (
+        (r.has, g.0),
+        (
+          (λ us e.
+              and_both (is_valid_extra (callable S) L us (holds p)) (are_valid_extras (callable S) L (us ++ uses 0 p.outputs) (extras_reading k S ns (bs ++ cs) ds)) (r.valid us e)
+              (g.1.0 (us ++ uses 0 p.outputs) (ap₂ (λ (vs ws : List Use). vs ++ ws) e r.makes ∙ sym (map-append bound_use bs cs)))),
+          ap₂ (λ (vs ws : List Use). vs ++ ws) r.makes g.1.1 ∙ sym (map-append bound_use cs (bound_by_extras k S ns ds)),
+        ),
+      )
+
+  -- and with one extra in front
+  abbrev AreGoodWith : ExtraPlace → List patterns.Bound → ExtraForm → List Sexp → Type 0
+  AreGoodWith k bs e ds =
+      (ExtraHas S (can_read S L ns) e × ExtrasHave S (can_read S L ns) k ds)
+      × (((us : List Use) → us ≡ map bound_use bs
+      → are_valid_extras (callable S) L us (extra_reading S ns bs e ++ extras_reading k S ns (bs ++ bound_by_extra S ns e) ds) ≡ true)
+      × (extras_uses (extra_reading S ns bs e ++ extras_reading k S ns (bs ++ bound_by_extra S ns e) ds)
+      ≡ map bound_use (bound_by_extra S ns e ++ bound_by_extras k S ns ds)))
+
+  one-more : (k : ExtraPlace) (bs : List patterns.Bound) (again : Bool) (d : Sexp) (e : ExtraForm) (ds : List Sexp) → ExtraHas S (can_bind ns) e
+      → ArePassed S ns (extra_stands S ns bs again d e) → AreGood k (bs ++ bound_by_extra S ns e) ds → AreGoodWith k bs e ds
+  one-more k bs again d (such_that p t) ds h f g =
+      let F = has_metafunction S in
+      let a = pattern-first S ns bs (occurrences 0 p) (template (names_bound bs) t ∷ []) f in
+      let b = template-first S ns bs t [] a.1 in
+      let q = taken-passed bs (one p) h.0 a.0 in
+      let r = reading ns Query p in (
+        ((q.0, h.1), g.0),
+        (
+          (λ us e.
+              and_both (is_well_formed_in L r && fits F (bound_by us) 0 (template_reading S (names_bound bs) t))
+              (are_valid_extras (callable S) L (us ++ uses 0 r) (extras_reading k S ns (bs ++ bound_by_taken ns (one p)) ds))
+              (and_both (is_well_formed_in L r) (fits F (bound_by us) 0 (template_reading S (names_bound bs) t)) q.0.well_formed (fits-uses S ns bs us t e b.0))
+              (g.1.0 (us ++ uses 0 r) (ap₂ (λ (vs ws : List Use). vs ++ ws) e q.1 ∙ sym (map-append bound_use bs (bound_by_taken ns (one p)))))),
+          ap₂ (λ (vs ws : List Use). vs ++ ws) q.1 g.1.1 ∙ sym (map-append bound_use (bound_by_taken ns (one p)) (bound_by_extras k S ns ds)),
+        ),
+      )
+  one-more k bs again d (provided t) ds h f g =
+      let F = has_metafunction S in
+      let b = host-passed S ns bs t f in (
+        (h, g.0),
+        (
+          (λ us e.
+              and_both (fits_in F (bound_by us) 0 (host_reading S (names_bound bs) t)) (are_valid_extras (callable S) L (us ++ []) (extras_reading k S ns (bs ++ []) ds))
+              (host-uses S ns bs us t e b) (g.1.0 (us ++ []) (append-nil us ∙ e ∙ ap (map bound_use) (sym (append-nil bs))))),
+          g.1.1,
+        ),
+      )
+  one-more k bs again d (confirmed t) ds h f g =
+      let F = has_metafunction S in
+      let b = template-first S ns bs t [] f in (
+        (h, g.0),
+        (
+          (λ us e.
+              and_both (fits F (bound_by us) 0 (template_reading S (names_bound bs) t)) (are_valid_extras (callable S) L (us ++ []) (extras_reading k S ns (bs ++ []) ds))
+              (fits-uses S ns bs us t e b.0) (g.1.0 (us ++ []) (append-nil us ∙ e ∙ ap (map bound_use) (sym (append-nil bs))))),
+          g.1.1,
+        ),
+      )
+  one-more k bs again d (holding c) ds h f g = premise-more k bs c (headed c) ds h f g
+  one-more k bs again d name ds h f g = ((tt, g.0), ((λ us e. g.1.0 us (e ∙ ap (map bound_use) (sym (append-nil bs)))), g.1.1))
+  one-more k bs again d no_extra ds h f g = ((tt, g.0), ((λ us e. g.1.0 us (e ∙ ap (map bound_use) (sym (append-nil bs)))), g.1.1))
+
+  pub extras-good : (k : ExtraPlace) (bs : List patterns.Bound) (again : Bool) (ds : List Sexp) → ExtrasHave S (can_bind ns) k ds
+      → ArePassed S ns (extras_stand k S ns bs again ds) → AreGood k bs ds
+  extras-good k bs again [] h f = (tt, ((λ us e. refl), refl))
+  extras-good k bs again (d ∷ ds) h f =
+      let e = form_at k d in
+      let p = passed-both S ns (extra_stands S ns bs again d e) (extras_stand k S ns (bs ++ bound_by_extra S ns e) (is_named again e) ds) f in
+      one-more k bs again d e ds h.0 p.0 (extras-good k (bs ++ bound_by_extra S ns e) (is_named again e) ds h.1 p.1)

@@ -1,0 +1,85 @@
+use Rattle.std.proofs.Common.{◌≡◌, ◌∙◌, ℕ, List, [], Some, None, sym, ap, subst}
+use Rattle.std.specs.Prelude.{Option, option_map}
+use Rattle.rdx_lang.specs.Checked.{language_in}
+use Rattle.rdx_lang.specs.ProgramView.{premise_of}
+use Rattle.rdx_lang.specs.TemplateView.{template_of}
+use Rattle.rdx_grammar.specs.Nonterminals.{names_of}
+use Rattle.rdx_grammar.specs.Refusal.{refusal_of}
+use Rattle.rdx_defs.specs.Bound.{Bound}
+use Rattle.rdx_defs.specs.ExtraReading.{premise_reading}
+use Rattle.rdx_defs.specs.Headed.{headed}
+use Rattle.rdx_defs.specs.Inside.ByNames.{premise_names}
+use Rattle.rdx_defs.specs.Inside.PartsHave.{PremiseHas, can_bind, can_read}
+use Rattle.rdx_defs.specs.JudgementRefusal.{premise_refusal}
+use Rattle.rdx_defs.specs.Scope.{scope_of}
+use Rattle.rdx_defs.specs.Stands.{names_bound, bound_by_premise}
+use Rattle.rdx_defs.specs.TemplateReading.{template_reading}
+use Rattle.rdx_defs.proofs.NamesBound as names
+use Rattle.rdx_defs.proofs.PartsAt.{premise-weaker}
+use Rattle.rdx_defs.proofs.PassedForms.{question-valid}
+use Rattle.rdx_defs.proofs.ReadJudgements.{readable-behind, read-some}
+use Rattle.rdx_defs.proofs.judgements.premises.read_premise.Goals as goal
+
+pub returns-in-Some-clause-reads : goal.returns-in-Some-clause-reads
+returns-in-Some-clause-reads c =
+    let S = scope_of c.args.scope.now in
+    let L = language_in c.args.language.now in
+    let d = c.args.premise.now in
+    let t = option_map (λ x. x.now) c.args.behind in
+    let n0 : c.in_ok-all.all.items ≡ names_of L = c.in_ok-all.ensures in
+    let n1 : c.in_ok-names.names ≡ c.deref.result.now = c.in_ok-names.ensures in
+    let n : c.in_ok-names.names ≡ names_of L = cc in
+    (λ i. premise_refusal S (sym n i) d t) ∙ sym c.in_ok-refusal.ensures ∙ ap (option_map refusal_of) c.in-Some.is
+
+pub read_alone-requires : goal.read_alone-requires
+read_alone-requires c =
+    let S = scope_of c.args.scope.now in
+    let L = language_in c.args.language.now in
+    let d = c.args.premise.now in
+    let t = option_map (λ x. x.now) c.args.behind in
+    let n0 : c.in_ok-all.all.items ≡ names_of L = c.in_ok-all.ensures in
+    let n1 : c.in_ok-names.names ≡ c.deref.result.now = c.in_ok-names.ensures in
+    let n : c.in_ok-names.names ≡ names_of L = cc in
+    let e : premise_refusal S (names_of L) d t ≡ None =
+    (λ i. premise_refusal S (sym n i) d t) ∙ sym c.in_ok-refusal.ensures ∙ ap (option_map refusal_of) c.in_default.is in
+    let v = question-valid S L d t c.requires.premise (readable-behind c.args.behind c.requires.behind) e in
+    subst (λ (xs : List (List ℕ)). PremiseHas S (can_read S L xs) (headed d)) (sym n) v.parts.questions.0.premise
+
+pub read_behind-requires : goal.read_behind-requires
+read_behind-requires c =
+    let S = scope_of c.args.scope.now in
+    let L = language_in c.args.language.now in
+    let d = c.args.premise.now in
+    let t = option_map (λ x. x.now) c.args.behind in
+    let n0 : c.in_ok-all.all.items ≡ names_of L = c.in_ok-all.ensures in
+    let n1 : c.in_ok-names.names ≡ c.deref.result.now = c.in_ok-names.ensures in
+    let n : c.in_ok-names.names ≡ names_of L = cc in
+    let e : premise_refusal S (names_of L) d t ≡ None =
+    (λ i. premise_refusal S (sym n i) d t) ∙ sym c.in_ok-refusal.ensures ∙ ap (option_map refusal_of) c.in_default.is in
+    let v = question-valid S L d t c.requires.premise (readable-behind c.args.behind c.requires.behind) e in
+    subst (λ (xs : List (List ℕ)). PremiseHas S (can_bind xs) (headed d)) (sym n)
+    (premise-weaker S (can_read S L (names_of L)) (can_bind (names_of L)) (λ w h. h.binds) (λ q h. tt) (headed d) v.parts.questions.0.premise)
+
+pub returns-clause-reads : goal.returns-clause-reads
+returns-clause-reads c =
+    let S = scope_of c.args.scope.now in
+    let L = language_in c.args.language.now in
+    let d = c.args.premise.now in
+    let t = option_map (λ x. x.now) c.args.behind in
+    let n0 : c.in_ok-all.all.items ≡ names_of L = c.in_ok-all.ensures in
+    let n1 : c.in_ok-names.names ≡ c.deref.result.now = c.in_ok-names.ensures in
+    let n : c.in_ok-names.names ≡ names_of L = cc in
+    let e : premise_refusal S (names_of L) d t ≡ None =
+    (λ i. premise_refusal S (sym n i) d t) ∙ sym c.in_ok-refusal.ensures ∙ ap (option_map refusal_of) c.in_default.is in
+    let v = question-valid S L d t c.requires.premise (readable-behind c.args.behind c.requires.behind) e in
+    let r : option_map premise_of (Some c.in-Some-2.asked) ≡ option_map (premise_reading S (names_of L) []) (headed d) =
+    sym (ap (option_map premise_of) c.in-Some-2.is) ∙ c.in_ok-asked.ensures ∙ (λ i. option_map (premise_reading S (n i) []) (headed d)) in
+    let bound : premise_names S c.in_ok-names.names (headed d) ≡ names_bound (bound_by_premise S (names_of L) (headed d)) =
+    ap (λ (xs : List (List ℕ)). premise_names S xs (headed d)) n ∙ names.premise-names S (names_of L) (headed d) in
+    record {
+      passes = e;
+      parts = v.form;
+      is_form = v.is_form;
+      is_read = read-some (premise_reading S (names_of L) []) (headed d) v.form c.in-Some-2.asked v.is_form r;
+      result = c.in_ok-result.ensures ∙ ap (λ (es : Bound). option_map (template_reading S es) t) bound;
+    }

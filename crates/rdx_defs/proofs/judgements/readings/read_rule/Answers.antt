@@ -1,0 +1,65 @@
+use Rattle.std.proofs.Common.{◌≡◌, ◌∙◌, List, map, sym, ap, subst}
+use Rattle.std.specs.Prelude.{option_map}
+use Rattle.rdx_lang.specs.Checked.{language_in, pattern_in}
+use Rattle.rdx_lang.specs.ProgramView.{extras_of}
+use Rattle.rdx_lang.specs.TemplateView.{template_of}
+use Rattle.rdx_defs.specs.Arguments as arguments
+use Rattle.rdx_defs.specs.Arguments.{patterns_in, templates_in}
+use Rattle.rdx_defs.specs.Bound.{Bound}
+use Rattle.rdx_defs.specs.ExtraForms.{of_rule}
+use Rattle.rdx_defs.specs.ExtraReading as model
+use Rattle.rdx_defs.specs.ExtraReading.{list_reading, templates_reading}
+use Rattle.rdx_defs.specs.Inside.Branches.{RuleBranch, each, rule_branch}
+use Rattle.rdx_defs.specs.Inside.ByNames.{extras_reading, input_names, rule_names}
+use Rattle.rdx_defs.specs.Inside.FormViews.{arguments_of, rule_branch_of, rule_form_of}
+use Rattle.rdx_defs.specs.Inside.PartsHave.{CanBind, IsPattern, RuleHas, can_bind, can_read}
+use Rattle.rdx_defs.specs.JudgementStands.{bound_by_inputs, bound_by_rule, rule_arguments}
+use Rattle.rdx_defs.specs.Scope.{scope_of}
+use Rattle.rdx_defs.specs.Stands.{names_bound}
+use Rattle.rdx_defs.proofs.NamesBound as names
+use Rattle.rdx_defs.proofs.NamesBound.{extras-reads}
+use Rattle.rdx_defs.proofs.PartsAt.{rule-weaker}
+use Rattle.rdx_defs.proofs.judgements.readings.read_rule.Goals as goal
+
+pub read_patterns-requires : goal.read_patterns-requires
+read_patterns-requires c =
+    let L = language_in c.args.language.now in
+    let ns = c.args.names.now in
+    subst (λ (b : RuleBranch). IsPattern L ns (each (patterns_in b.arguments))) (sym c.rule_branch-branch.ensures) c.requires.arguments.patterns
+
+pub input_names-requires : goal.input_names-requires
+input_names-requires c =
+    let ns = c.args.names.now in
+    subst (λ (b : RuleBranch). CanBind ns (each (patterns_in b.arguments))) (sym c.rule_branch-branch.ensures) c.requires.arguments.patterns.binds
+
+pub read_extras-requires : goal.read_extras-requires
+read_extras-requires c = c.requires.premises
+
+pub rule_names-requires : goal.rule_names-requires
+rule_names-requires c =
+    let S = scope_of c.args.scope.now in
+    let L = language_in c.args.language.now in
+    let ns = c.args.names.now in
+    let b = rule_branch (option_map (λ m. m.now) c.args.mode) (rule_form_of c.args.rule) in
+    subst (λ (x : RuleBranch). RuleHas S (can_bind ns) x) (sym c.rule_branch-branch.ensures)
+    (rule-weaker S (can_read S L ns) (can_bind ns) (λ w h. h.binds) (λ q h. tt) b c.requires)
+
+pub returns : goal.returns
+returns c =
+    let S = scope_of c.args.scope.now in
+    let ns = c.args.names.now in
+    let m = option_map (λ m. m.now) c.args.mode in
+    let r = rule_form_of c.args.rule in
+    let same : rule_branch_of c.rule_branch-branch.result ≡ rule_branch m r = c.rule_branch-branch.ensures in
+    let a : arguments_of c.rule_branch-branch.result.arguments ≡ rule_arguments m r = ap (λ (b : RuleBranch). b.arguments) same in
+    let inputs : pattern_in c.in_ok-ins.ins ≡ list_reading ns (patterns_in (rule_arguments m r)) =
+    c.in_ok-ins.ensures ∙ ap (λ (x : arguments.Arguments). list_reading ns (patterns_in x)) a in
+    let bound : c.in_ok-bound.bound.items ≡ names_bound (bound_by_inputs ns m r) =
+    c.in_ok-bound.ensures ∙ ap (input_names ns) same ∙ names.input-names S ns m r in
+    let extras : extras_of c.in_ok-extras.extras.items ≡ model.extras_reading of_rule S ns (bound_by_inputs ns m r) r.premises =
+    c.in_ok-extras.ensures ∙ ap (λ (es : Bound). extras_reading of_rule S ns es r.premises) bound ∙ sym (extras-reads S ns of_rule (bound_by_inputs ns m r) r.premises) in
+    let all : c.deref.result.now ≡ names_bound (bound_by_rule S ns m r) =
+    c.deref.ensures.value ∙ c.in_ok-all.ensures ∙ ap (rule_names S ns) same ∙ names.rule-names S ns m r in
+    let outputs : map template_of c.in_ok-outs.outs.items ≡ templates_reading S (names_bound (bound_by_rule S ns m r)) (templates_in (rule_arguments m r)) =
+    c.in_ok-outs.ensures ∙ (λ i. templates_reading S (all i) (templates_in (a i))) in
+    λ i. record { name = c.in_ok-read_label.ensures i; inputs = inputs i; extras = extras i; outputs = outputs i }

@@ -1,0 +1,41 @@
+use Rattle.std.proofs.Common.{◌≡◌, ◌∙◌, ap, sym, subst}
+use Rattle.std.specs.Prelude.{IfOk, Option, option_map}
+use Rattle.rdx_grammar.specs.Refusal.{Refusal, refusal_of}
+use Rattle.rdx_defs.specs.Inside.BareStands as bare_stands
+use Rattle.rdx_defs.specs.Inside.Branches.{Outline, judgement_outline}
+use Rattle.rdx_defs.specs.Inside.FormRefusals.{form_refusal}
+use Rattle.rdx_defs.specs.Inside.FormViews.{judgement_form_of, outline_of, stands_of}
+use Rattle.rdx_defs.specs.Inside.PartsHave.{OutlineHas, can_bind}
+use Rattle.rdx_defs.specs.Scope.{scope_of}
+use Rattle.rdx_defs.proofs.FormRefusals.{judgement-refused}
+use Rattle.rdx_defs.proofs.PassedForms.{judgement-early}
+use Rattle.rdx_defs.proofs.ReadableParts.{judgement-readable, judgement_outline-readable}
+use Rattle.rdx_defs.proofs.judgements.refusals.refuse_judgement.Goals as goal
+
+pub judgement_outline-requires : goal.judgement_outline-requires
+judgement_outline-requires c = c.requires.mode
+
+pub judgement_stands-requires-clause-mode : goal.judgement_stands-requires-clause-mode
+judgement_stands-requires-clause-mode c = c.requires.mode
+
+pub judgement_stands-requires-clause-parts : goal.judgement_stands-requires-clause-parts
+judgement_stands-requires-clause-parts c =
+    let f = judgement_form_of c.args.form in
+    judgement_outline-readable (scope_of c.args.scope.now) f (judgement-readable c.args.d.now f c.requires.readable c.requires.form)
+
+pub refuse_parts-requires : goal.refuse_parts-requires
+refuse_parts-requires c =
+    let S = scope_of c.args.scope.now in
+    let f = judgement_form_of c.args.form in
+    let q : stands_of c.deref.result.now ≡ bare_stands.judgement_stands S c.args.d.now f = ap stands_of c.deref.ensures.value ∙ c.in_ok-found.ensures in
+    λ e. subst (λ (o : Outline). OutlineHas S (can_bind c.args.names.now) o) (sym c.in_ok-outline.ensures)
+    (judgement-early S c.args.names.now c.args.d.now f (stands_of c.deref.result.now) c.requires.readable c.requires.form q e)
+
+pub returns : goal.returns
+returns c =
+    let S = scope_of c.args.scope.now in
+    let ns = c.args.names.now in
+    let f = judgement_form_of c.args.form in
+    let q : stands_of c.deref.result.now ≡ bare_stands.judgement_stands S c.args.d.now f = ap stands_of c.deref.ensures.value ∙ c.in_ok-found.ensures in
+    let o : outline_of c.in_ok-outline.outline ≡ judgement_outline f = c.in_ok-outline.ensures in
+    subst (λ (r : Option Refusal). IfOk c.refuse_parts.result (λ x. option_map refusal_of x ≡ r)) ((λ i. form_refusal S ns (q i) (o i)) ∙ sym (judgement-refused S ns c.args.d.now f c.requires.built c.requires.form)) c.refuse_parts.ensures

@@ -1,0 +1,22 @@
+use Rattle.std.proofs.Common.{◌≡◌, map}
+use Rattle.std.specs.Iterator.Adapters.{zip_first, zip_second}
+use Rattle.std.specs.Slice.Iter.{iter_rest}
+use Rattle.rdx_grammar.specs.Refusal.{first}
+use Rattle.rdx_defs.specs.Arguments.{data_at}
+use Rattle.rdx_defs.specs.Inside.Branches.{each}
+use Rattle.rdx_defs.specs.Inside.ByNames.{arguments_faults, flagged_faults}
+use Rattle.rdx_defs.specs.Inside.FormViews.{arguments_of, flag_at}
+use Rattle.rdx_defs.specs.Inside.PartsHave.{AreReadable, CanBind}
+use Rattle.rdx_defs.specs.Scope.{scope_of}
+use Rattle.rdx_defs.proofs.stands.faults.fault_in_arguments.Given as goal
+
+abbrev pub invariant-loop-flag : goal.invariant-loop-flag
+invariant-loop-flag l =
+    (goal.iterator-loop-flag).can_next l.flag-iterator
+    × (goal.iterator-loop-flag).is_finite l.flag-iterator
+    × CanBind l.names (each (data_at (map (flag_at l.arguments.at_inputs) (iter_rest (zip_first l.flag-iterator))) (iter_rest (zip_second l.flag-iterator))))
+    × AreReadable (iter_rest (zip_second l.flag-iterator))
+    × (first (arguments_faults l.check (scope_of l.scope) l.names l.fn.before.items l.all (arguments_of l.fn.arguments))
+    ≡ first
+    (flagged_faults l.check (scope_of l.scope) l.names l.before.items l.all (map (flag_at l.arguments.at_inputs) (iter_rest (zip_first l.flag-iterator)))
+    (iter_rest (zip_second l.flag-iterator))))

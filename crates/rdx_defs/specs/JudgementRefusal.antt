@@ -1,0 +1,31 @@
+-- When a form of a judgement is refused, and when a premise by itself is.
+use Rattle.std.specs.Prelude.{ℕ, List, [], ◌∷◌, ◌++◌, Option, Some, None}
+use Rattle.rdx_sexp.specs.Sexp.{Sexp}
+use Rattle.rdx_grammar.specs.PatternChecks as patterns
+use Rattle.rdx_grammar.specs.Refusal.{Refusal, first_refusal}
+use Rattle.rdx_grammar.specs.Unbuilt.{unbuilt_at}
+use Rattle.rdx_defs.specs.Headed.{headed}
+use Rattle.rdx_defs.specs.JudgementForms.{judgement_form}
+use Rattle.rdx_defs.specs.JudgementStands.{judgement_stands}
+use Rattle.rdx_defs.specs.Scope.{Scope}
+use Rattle.rdx_defs.specs.StandRefusal.{stands_refusal}
+use Rattle.rdx_defs.specs.Stands.{Stand, template, names_bound, bound_by_premise, held_stands}
+
+-- the refusal of a datum as a judgement in this scope, over the nonterminals ns; S0 comes first
+abbrev pub judgement_refusal : Scope → List (List ℕ) → Sexp → Option Refusal
+judgement_refusal S ns d = first_refusal (unbuilt_at d ∷ stands_refusal S ns (judgement_stands S ns d (judgement_form d)) ∷ [])
+
+-- ---- premises by themselves
+
+-- a template behind symbols that bind names, where there is one
+abbrev pub result_stands : List patterns.Bound → Option Sexp → List Stand
+result_stands bs None = []
+result_stands bs (Some t) = template (names_bound bs) t ∷ []
+
+-- what stands in d, which has to be a premise before which no name is bound, and in a template behind it, which sees its names
+abbrev pub lone_premise_stands : Scope → List (List ℕ) → Sexp → Option Sexp → List Stand
+lone_premise_stands S ns d t = held_stands S ns [] d (headed d) ++ result_stands (bound_by_premise S ns (headed d)) t
+
+-- the refusal of these
+abbrev pub premise_refusal : Scope → List (List ℕ) → Sexp → Option Sexp → Option Refusal
+premise_refusal S ns d t = stands_refusal S ns (lone_premise_stands S ns d t)

@@ -1,0 +1,11 @@
+// Judgements, and premises by themselves.
+
+pub(crate) mod forms;
+mod premises;
+mod reader;
+mod readings;
+mod refusals;
+mod stands;
+
+pub use premises::{ReadPremise, read_premise};
+pub use reader::{judgement_name, read_judgement};

@@ -1,0 +1,114 @@
+// Premises by themselves, as queries have them.
+ghost use Rattle.std.specs.Prelude.{◌≡◌, [], IfOk, IfSome, option_map};
+ghost use Rattle.rdx_lang.specs.Checked.{language_in};
+ghost use Rattle.rdx_lang.specs.ProgramView.{premise_of};
+ghost use Rattle.rdx_lang.specs.TemplateView.{template_of};
+ghost use Rattle.rdx_grammar.specs.Nonterminals.{names_of};
+ghost use Rattle.rdx_grammar.specs.Readable.{IsReadable};
+ghost use Rattle.rdx_defs.specs.Answers.{ReadsPremise};
+ghost use Rattle.rdx_defs.specs.ExtraReading.{premise_reading};
+ghost use Rattle.rdx_defs.specs.Headed as headed;
+ghost use Rattle.rdx_defs.specs.Inside.ByNames.{premise_names};
+ghost use Rattle.rdx_defs.specs.Inside.PartsHave.{PremiseHas, can_bind, can_read};
+ghost use Rattle.rdx_defs.specs.Scope.{scope_of};
+ghost use Rattle.rdx_defs.specs.TemplateReading.{template_reading};
+
+use crate::Scope;
+use crate::arguments::headed_list;
+use crate::judgements::refusals::refuse_question;
+use crate::stands::names::lone_names;
+use crate::stands::readings;
+use crate::templates::readings as templates;
+use rdx_grammar::{DefFault, Names, language_names};
+use rdx_lang::{CheckedLang, Premise, Template};
+use rdx_sexp::Datum;
+use rdx_term::NoMemory;
+use std::alloc::Global;
+
+/// A premise, and the template behind it, where there is one.
+#[derive(Drop)]
+pub struct ReadPremise {
+    pub premise: Premise,
+    pub result: Option<Template>,
+}
+
+// The premise of a datum, before which no name is bound.
+fn read_alone(
+    alloc: Global,
+    scope: &Scope,
+    language: &CheckedLang,
+    names: &Names,
+    d: &Datum,
+) -> Result<Option<Premise>, NoMemory>
+    requires { PremiseHas (scope_of scope.now)
+        (can_read (scope_of scope.now) (language_in language.now) names.now)
+        (headed.headed d.now) }
+    ensures { IfOk result (λ q.
+        option_map premise_of q
+        ≡ option_map (premise_reading (scope_of scope.now) names.now []) (headed.headed d.now)) }
+{
+    match headed_list(d) {
+        Some(premise) => Ok(Some(readings::read_premise(
+            alloc,
+            scope,
+            language,
+            names,
+            &[],
+            premise,
+        )?)),
+        None => Ok(None),
+    }
+}
+
+// The template behind a premise, where there is one.
+fn read_behind(
+    alloc: Global,
+    scope: &Scope,
+    names: &Names,
+    premise: &Datum,
+    behind: Option<&Datum>,
+) -> Result<Option<Template>, NoMemory>
+    requires { PremiseHas (scope_of scope.now) (can_bind names.now) (headed.headed premise.now) }
+    ensures { IfOk result (λ t.
+        option_map template_of t
+        ≡ option_map (template_reading (scope_of scope.now)
+        (premise_names (scope_of scope.now) names.now (headed.headed premise.now)))
+        (option_map (λ d. d.now) behind.entry)) }
+{
+    let Some(template) = behind else {
+        return Ok(None);
+    };
+    let bound = lone_names(alloc, scope, names, premise)?;
+    Ok(Some(templates::read_datum(alloc, scope, &bound, template)?))
+}
+
+/// The premise that a datum stands for, before which no name is bound, its patterns over the
+/// language, and the template behind it, where there is one, which sees the names of the premise.
+/// Words that are not built yet aren't looked for.
+pub fn read_premise(
+    alloc: Global,
+    scope: &Scope,
+    language: &mut CheckedLang,
+    premise: &Datum,
+    behind: Option<&Datum>,
+) -> Result<ReadPremise, DefFault>
+    requires premise { IsReadable premise.now }
+    requires behind { IfSome behind (λ d. IsReadable d.now) }
+    ensures reads { ReadsPremise (scope_of scope.now) (names_of (language_in language.old))
+        premise.now (option_map (λ d. d.now) behind.entry) result }
+    ensures same { language_in language.new ≡ language_in language.old }
+{
+    let all = language_names(alloc, language)?;
+    let names = Names::new(alloc, &all)?;
+    if let Some(refusal) = refuse_question(alloc, scope, &names, premise, behind)? {
+        return Err(DefFault::Refused(refusal));
+    }
+    let Some(asked) = read_alone(alloc, scope, language, &names, premise)? else {
+        unreachable!()
+    };
+    let result = read_behind(alloc, scope, &names, premise, behind)?;
+    Ok(ReadPremise {
+        premise: asked,
+        result,
+    })
+}

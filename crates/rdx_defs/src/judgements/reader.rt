@@ -1,0 +1,67 @@
+// Judgements over languages.
+ghost use Rattle.std.specs.Prelude.{◌≡◌, None, Some, IfOk, IsTrue, option_map};
+ghost use Rattle.rdx_lang.specs.Checked.{language_in};
+ghost use Rattle.rdx_lang.specs.ProgramView.{judgement_of};
+ghost use Rattle.rdx_lang.specs.Valid.{is_valid_judgement};
+ghost use Rattle.rdx_grammar.specs.Nonterminals.{names_of};
+ghost use Rattle.rdx_grammar.specs.Readable.{IsReadable};
+ghost use Rattle.rdx_defs.specs.Answers.{ReadsJudgement};
+ghost use Rattle.rdx_defs.specs.JudgementForms as forms;
+ghost use Rattle.rdx_defs.specs.Scope.{callable, scope_of};
+
+use crate::Scope;
+use crate::judgements::forms::{judgement_form, judgement_in, own_mode};
+use crate::judgements::readings::read_parts;
+use crate::judgements::refusals::refuse_judgement;
+use rdx_grammar::refusal::unnamed;
+use rdx_grammar::unbuilt::has_word_to_come;
+use rdx_grammar::{DefFault, DefKind, Names, language_names};
+use rdx_lang::{CheckedLang, Judgement};
+use rdx_sexp::Datum;
+use std::alloc::Global;
+
+/// The name that a `define-judgment-form` form gives its judgement, in its mode, where the form has
+/// its parts and a mode.
+pub fn judgement_name(form: &Datum) -> Option<&Datum>
+    ensures named { (f : forms.JudgementForm) → forms.judgement_form form.now ≡ Some f
+        → option_map (λ d. d.now) result ≡ forms.judgement_in f }
+    ensures unnamed { forms.judgement_form form.now ≡ None
+        → option_map (λ d. d.now) result ≡ None }
+{
+    judgement_in(judgement_form(form)?)
+}
+
+/// The judgement that a `define-judgment-form` form stands for over a language, whatever the name of
+/// that is.
+pub fn read_judgement(
+    alloc: Global,
+    scope: &Scope,
+    language: &mut CheckedLang,
+    form: &Datum,
+) -> Result<Judgement, DefFault>
+    requires { IsReadable form.now }
+    ensures reads { ReadsJudgement (scope_of scope.now) (names_of (language_in language.old))
+        form.now result }
+    ensures same { language_in language.new ≡ language_in language.old }
+    ensures valid { IfOk result (λ j.
+        IsTrue (is_valid_judgement (callable (scope_of scope.now))
+        (Some (language_in language.new)) (judgement_of j))) }
+{
+    if has_word_to_come(form) {
+        return Err(DefFault::Refused(unnamed(DefKind::Unbuilt, form)));
+    }
+    let Some(parts) = judgement_form(form) else {
+        return Err(DefFault::Refused(unnamed(DefKind::Shape, form)));
+    };
+    let all = language_names(alloc, language)?;
+    let names = Names::new(alloc, &all)?;
+    let mode = own_mode(alloc, parts)?;
+    if let Some(refusal) = refuse_judgement(alloc, scope, &names, form, parts, mode.as_deref())? {
+        return Err(DefFault::Refused(refusal));
+    }
+    let Some(name) = judgement_in(parts) else {
+        unreachable!()
+    };
+    let Some(mode) = mode else { unreachable!() };
+    Ok(read_parts(alloc, scope, language, &names, parts, name, mode)?)
+}

@@ -1,0 +1,62 @@
+// Why a form of a judgement or a premise by itself is refused.
+ghost use Rattle.std.specs.Prelude.{◌≡◌, IfOk, None, Some, option_map};
+ghost use Rattle.rdx_grammar.specs.Readable.{IsReadable};
+ghost use Rattle.rdx_grammar.specs.Refusal.{refusal_of};
+ghost use Rattle.rdx_grammar.specs.Unbuilt.{unbuilt_at};
+ghost use Rattle.rdx_defs.specs.Inside.FormViews.{judgement_form_of};
+ghost use Rattle.rdx_defs.specs.Inside.PartsHave.{IsReadableIn};
+ghost use Rattle.rdx_defs.specs.JudgementForms as forms;
+ghost use Rattle.rdx_defs.specs.JudgementRefusal.{judgement_refusal, premise_refusal};
+ghost use Rattle.rdx_defs.specs.Scope.{scope_of};
+
+use crate::Scope;
+use crate::judgements::forms::JudgementForm;
+use crate::judgements::stands::{
+    judgement_outline, judgement_stands, question_outline, question_stands,
+};
+use crate::stands::refusals::refuse_parts;
+use rdx_grammar::{DefRefusal, Names};
+use rdx_sexp::Datum;
+use rdx_term::NoMemory;
+use std::alloc::Global;
+
+/// The refusal of a form with these parts and this mode, in which nothing is left unbuilt.
+pub(crate) fn refuse_judgement(
+    alloc: Global,
+    scope: &Scope,
+    names: &Names,
+    d: &Datum,
+    form: JudgementForm<'_>,
+    mode: Option<&[bool]>,
+) -> Result<Option<DefRefusal>, NoMemory>
+    requires readable { IsReadable d.now }
+    requires built { unbuilt_at d.now ≡ None }
+    requires form { forms.judgement_form d.now ≡ Some (judgement_form_of form) }
+    requires mode { option_map (λ m. m.now) mode ≡ forms.own_mode (judgement_form_of form) }
+    ensures { IfOk result (λ r.
+        option_map refusal_of r ≡ judgement_refusal (scope_of scope.now) names.now d.now) }
+{
+    let outline = judgement_outline(alloc, form, mode)?;
+    let found = judgement_stands(alloc, scope, d, form, mode)?;
+    refuse_parts(alloc, scope, names, &found, &outline)
+}
+
+/// The refusal of a premise by itself, or of the template behind it, where there is one.
+pub(crate) fn refuse_question(
+    alloc: Global,
+    scope: &Scope,
+    names: &Names,
+    premise: &Datum,
+    behind: Option<&Datum>,
+) -> Result<Option<DefRefusal>, NoMemory>
+    requires premise { IsReadable premise.now }
+    requires behind { IsReadableIn (option_map (λ d. d.now) behind) }
+    ensures { IfOk result (λ r.
+        option_map refusal_of r
+        ≡ premise_refusal (scope_of scope.now) names.now premise.now
+        (option_map (λ d. d.now) behind.entry)) }
+{
+    let outline = question_outline(alloc, premise, behind)?;
+    let found = question_stands(alloc, scope, premise, behind)?;
+    refuse_parts(alloc, scope, names, &found, &outline)
+}
