@@ -6,7 +6,7 @@ use Rattle.rdx_sexp.specs.declared.fault.ReadKind.TheVariants.{NotUtf8, Unclosed
 use Rattle.rdx_sexp.specs.declared.fault.ReadRefusal.{ReadRefusal}
 use Rattle.rdx_grammar.specs.Refusal.{Refusal}
 use Rattle.rdx_grammar.specs.declared.shape.fault.DefKind.{DefKind}
-use Rattle.rdx_grammar.specs.declared.shape.fault.DefKind.TheVariants.{Unbuilt, Shape, UnknownLanguage, Duplicate, BadName, BadPattern, EllipsisDepth, LeftRecursive, UnknownName, EllipsisVariable, RacketEscape}
+use Rattle.rdx_grammar.specs.declared.shape.fault.DefKind.TheVariants.{Unbuilt, Shape, UnknownLanguage, Duplicate, BadName, BadPattern, EllipsisDepth, LeftRecursive, UnknownName, EllipsisVariable, RacketEscape, Mode}
 
 -- the name of what a text is refused for
 abbrev pub read_name : ReadKind → List ℕ
@@ -32,6 +32,7 @@ form_name LeftRecursive = codes "S7 LeftRecursive"
 form_name UnknownName = codes "S8 UnknownName"
 form_name EllipsisVariable = codes "S9 EllipsisVariable"
 form_name RacketEscape = codes "S10 RacketEscape"
+form_name Mode = codes "S11 Mode"
 
 -- the front of the line: why the file is refused, and where
 abbrev pub place_text : List ℕ → Place → List ℕ

@@ -44,6 +44,7 @@ fn form_name(kind: DefKind) -> &'static str
         DefKind::UnknownName => "S8 UnknownName",
         DefKind::EllipsisVariable => "S9 EllipsisVariable",
         DefKind::RacketEscape => "S10 RacketEscape",
+        DefKind::Mode => "S11 Mode",
     }
 }
 

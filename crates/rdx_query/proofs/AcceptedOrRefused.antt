@@ -1,5 +1,5 @@
 -- Each form of a file is accepted or refused, and so is the file.
-use Rattle.std.proofs.Common.{◌≡◌, ℕ, ◌⊎◌, inl, inr, List, [], ◌∷◌, Option, Some, None, refl, ◌∙◌, ap, subst}
+use Rattle.std.proofs.Common.{◌≡◌, ◌++◌, ℕ, ◌⊎◌, inl, inr, List, [], ◌∷◌, Option, Some, None, refl, ◌∙◌, ap, subst}
 use Rattle.std.specs.Prelude.{option_map}
 use Rattle.rdx_sexp.specs.Sexp.{Sexp}
 use Rattle.rdx_lang.specs.Edges.{IsFree}
@@ -13,18 +13,26 @@ use Rattle.rdx_grammar.specs.Refusal.{Refusal, unnamed, or_else}
 use Rattle.rdx_grammar.specs.Unbuilt.{unbuilt_at}
 use Rattle.rdx_grammar.specs.Refused.{recursion_at}
 use Rattle.rdx_grammar.specs.declared.shape.fault.DefKind.TheVariants.{Shape, RacketEscape}
+use Rattle.rdx_defs.specs.Headed.{Headed, headed}
+use Rattle.rdx_defs.specs.JudgementForms.{JudgementForm, judgement_form}
+use Rattle.rdx_defs.specs.JudgementReading.{judgement_reading}
+use Rattle.rdx_defs.specs.JudgementRefusal.{result_stands}
 use Rattle.rdx_defs.specs.MetafunctionForms.{MetafunctionForm, metafunction_form}
 use Rattle.rdx_defs.specs.MetafunctionReading.{metafunction_reading}
 use Rattle.rdx_defs.specs.RelationForms.{RelationForm, relation_form}
 use Rattle.rdx_defs.specs.RelationReading.{relation_reading}
 use Rattle.rdx_defs.specs.RelationStands.{relation_stands}
 use Rattle.rdx_defs.specs.Scope.{Scope}
-use Rattle.rdx_query.specs.Definitions.{Defined, language, metafunction, relation, IsSound}
+use Rattle.rdx_defs.specs.Scopes.{languages_in}
+use Rattle.rdx_defs.specs.Stands.{held_stands, bound_by_premise}
+use Rattle.rdx_query.specs.Definitions.{Defined, language, metafunction, judgement, relation, IsSound}
 use Rattle.rdx_query.specs.File.{Defines, Asks, IsPassedOver, IsRefusedForm, by_check, by_recursion, by_late_check, Accepts, accepts_none, accepts_definition, accepts_query, accepts_passed, Refuses, refuses_here, refuses_behind_definition, refuses_behind_query, refuses_behind_passed, known_before, IsFile}
 use Rattle.rdx_query.specs.FormKinds.{DefinitionKind, QueryKind, FormKind, defines, asks, passes, to_come, form_kind}
 use Rattle.rdx_query.specs.FormKinds as kind
 use Rattle.rdx_query.specs.Forms.{form_refusal, late_refusal, form_definition, refusal_by_kind, definition_by_kind, query_by_kind, is_passed_kind, definition_refusal, definition_of, question_refusal, asked_query}
+use Rattle.rdx_query.specs.HoldsForms.{HoldsParts, holds_parts, asked_names, holds_refusal, holds_refusal_over, holds_by, holds_over}
 use Rattle.rdx_query.specs.HostForms.{host_of_datum, value_query}
+use Rattle.rdx_query.specs.JudgementForms.{form_names, judgement_refusal_by, defined_judgement}
 use Rattle.rdx_query.specs.Known.{Known, with_definition}
 use Rattle.rdx_query.specs.LanguageForms.{base_name, named_base, language_refusal, plain_language, extended_language}
 use Rattle.rdx_query.specs.Laws.{AreAccepted, AreRefused}
@@ -34,7 +42,7 @@ use Rattle.rdx_query.specs.Queries.{Query, matches, whether, splits, reducts, ta
 use Rattle.rdx_query.specs.RelationForms as forms
 use Rattle.rdx_query.specs.RelationForms.{DefineParts, define_parts, relation_names, define_refusal_over, define_refusal_by, defined_relation}
 use Rattle.rdx_query.specs.StepForms.{StepParts, step_parts, steps_refusal}
-use Rattle.rdx_query.proofs.OneReading.{accepts-scope}
+use Rattle.rdx_query.proofs.OneReading.{accepts-scope, accepts-languages}
 
 -- there is a value
 record HasValue (A : Type 0) (o : Option A) : Type 0 where
@@ -58,10 +66,10 @@ language-parts K base l0 d None e = absurd (not_passed (unbuilt_at d) (unnamed S
 language-parts K base l0 d (Some g) e = record { value = g; is = refl }
 
 -- a form that defines a relation has the parts of one, and so has its list
-list-parts : (K : Known) (d : Sexp) (q : DefineParts) (ns : List (List ℕ)) (o : Option RelationForm) → define_refusal_over K d q ns (relation_stands ns q.body o) ≡ None → HasValue RelationForm o
+list-parts : (K : Known) (d : Sexp) (q : DefineParts) (ns : List (List ℕ)) (o : Option RelationForm) → define_refusal_over K d q ns (relation_stands K.scope ns q.body o) ≡ None → HasValue RelationForm o
 list-parts K d q ns None e = by_rest q.rest e
   where
-    by_rest : (ds : List Sexp) → define_refusal_over K d (record { name = q.name; body = q.body; rest = ds }) ns (relation_stands ns q.body None) ≡ None → HasValue RelationForm None
+    by_rest : (ds : List Sexp) → define_refusal_over K d (record { name = q.name; body = q.body; rest = ds }) ns (relation_stands K.scope ns q.body None) ≡ None → HasValue RelationForm None
     by_rest [] f = absurd (not_passed (unbuilt_at d) (unnamed Shape q.body) f)
     by_rest (c ∷ ds) f = absurd (not_passed (unbuilt_at d) (unnamed Shape d) f)
 list-parts K d q ns (Some r) e = record { value = r; is = refl }
@@ -76,6 +84,11 @@ function-parts : (K : Known) (d : Sexp) (o : Option MetafunctionForm) → functi
 function-parts K d None e = absurd (not_passed (unbuilt_at d) (unnamed Shape d) e)
 function-parts K d (Some m) e = record { value = m; is = refl }
 
+-- or a judgement
+judgement-parts : (K : Known) (d : Sexp) (o : Option JudgementForm) → judgement_refusal_by K d o ≡ None → HasValue JudgementForm o
+judgement-parts K d None e = absurd (not_passed (unbuilt_at d) (unnamed Shape d) e)
+judgement-parts K d (Some f) e = record { value = f; is = refl }
+
 -- so it defines something
 definition-means : (K : Known) (d : Sexp) (k : DefinitionKind) → definition_refusal K d k ≡ None → HasValue Defined (definition_of K d k)
 definition-means K d kind.language e =
@@ -86,6 +99,9 @@ definition-means K d kind.extension e =
 definition-means K d kind.metafunction e =
     mapped metafunction (defined_function K d)
     (mapped (metafunction_reading K.scope (function_names K (metafunction_form d))) (metafunction_form d) (function-parts K d (metafunction_form d) e))
+definition-means K d kind.judgement e =
+    mapped judgement (defined_judgement K d)
+    (mapped (judgement_reading K.scope (form_names K (judgement_form d))) (judgement_form d) (judgement-parts K d (judgement_form d) e))
 definition-means K d kind.relation e = mapped relation (defined_relation K d) (relation-parts K d (define_parts d) e)
 
 -- a query has the parts of one
@@ -98,12 +114,24 @@ step-parts : (K : Known) (d : Sexp) (q : Option StepParts) → steps_refusal K d
 step-parts K d None e = absurd (not_passed (unbuilt_at d) (unnamed Shape d) e)
 step-parts K d (Some q) e = record { value = q; is = refl }
 
+-- so has one that asks whether a premise is met, and so has the premise
+premise-parts : (K : Known) (d : Sexp) (h : HoldsParts) (o : Option Headed)
+    → holds_refusal_over K d o (held_stands K.scope (asked_names K o) [] h.premise o ++ result_stands (bound_by_premise K.scope (asked_names K o) o) h.result) ≡ None
+    → HasValue Headed o
+premise-parts K d h None e = absurd (not_passed (unbuilt_at d) (unnamed Shape h.premise) e)
+premise-parts K d h (Some q) e = record { value = q; is = refl }
+
+holds-parts : (K : Known) (d : Sexp) (o : Option HoldsParts) → holds_refusal K d o ≡ None → HasValue Query (holds_by K o)
+holds-parts K d None e = absurd (not_passed (unbuilt_at d) (unnamed Shape d) e)
+holds-parts K d (Some h) e = mapped (holds_over K h.result) (headed h.premise) (premise-parts K d h (headed h.premise) e)
+
 -- so it asks something, as a host expression does anyway
 question-means : (K : Known) (d : Sexp) (k : QueryKind) → question_refusal K d k ≡ None → HasValue Query (asked_query K d k)
 question-means K d kind.matches e = mapped (query_over K matches) (query_parts d) (query-parts K d (query_parts d) e)
 question-means K d kind.whether e = mapped (query_over K whether) (query_parts d) (query-parts K d (query_parts d) e)
 question-means K d kind.splits e = mapped (query_over K splits) (query_parts d) (query-parts K d (query_parts d) e)
 question-means K d kind.value e = record { value = value_query K d; is = refl }
+question-means K d kind.holds e = holds-parts K d (holds_parts d) e
 question-means K d kind.reducts e =
     mapped (λ (q : StepParts). reducts (text_of q.relation) (host_of_datum K q.host)) (step_parts d) (step-parts K d (step_parts d) e)
 question-means K d kind.tagged e =
@@ -167,7 +195,8 @@ by_outcome K d ds (refused r a) f = inr (record { refusal = r; refused = refuses
 -- what is accepted is a file
 is_file : (ds : List Sexp) (J : Known) (qs : List Query) → Accepts (known_before ds) ds J qs → IsFile ds J.program qs
 is_file ds J qs a =
-    subst (λ (S : Scope). Accepts (known_before ds) ds (record { scope = S; program = J.program }) qs) (accepts-scope (known_before ds) ds J qs a) a
+    subst (λ (S : Scope). Accepts (known_before ds) ds (record { scope = S; languages = languages_in ds; program = J.program }) qs) (accepts-scope (known_before ds) ds J qs a)
+    (subst (λ (ls : List (List ℕ × List ℕ)). Accepts (known_before ds) ds (record { scope = J.scope; languages = ls; program = J.program }) qs) (accepts-languages (known_before ds) ds J qs a) a)
 
 -- ---- what becomes of a form and of a file, where each language is free of left recursion or has a first recursive nonterminal
 
@@ -176,6 +205,7 @@ module _ (decided : FreeOrRecursive) where
   by_soundness : (K : Known) (d : Sexp) (x : Defined) → form_refusal K d ≡ None → form_definition K d ≡ Some x → Outcome K d
   by_soundness K d (language L) p m = by_freedom K d L p m (decided L)
   by_soundness K d (metafunction F) p m = by_late K d (metafunction F) p m tt (late_refusal d) refl
+  by_soundness K d (judgement J) p m = by_late K d (judgement J) p m tt (late_refusal d) refl
   by_soundness K d (relation R) p m = by_late K d (relation R) p m tt (late_refusal d) refl
 
   -- a form that passes its checks

@@ -1,6 +1,6 @@
--- What stands in a form that defines a metafunction: no arrow, and a name only where none may come. So two checks of such things never are the ones
--- that are reported.
-use Rattle.std.proofs.Common.{◌≡◌, ◌++◌, ℕ, Bool, true, false, List, [], ◌∷◌, Option, Some, None, refl, ap, if◌then◌else◌}
+-- What stands in a form that defines a metafunction, and in a premise by itself: a name only where none may come. So the check of names that come
+-- twice never is the one that is reported.
+use Rattle.std.proofs.Common.{◌≡◌, ◌++◌, ℕ, Bool, true, false, List, [], ◌∷◌, Option, Some, None, refl, ap, map, if◌then◌else◌}
 use Rattle.std.specs.Prelude.{option_map, bytes_eq}
 use Rattle.rdx_sexp.specs.Sexp.{Sexp, Sexps, nil, cons}
 use Rattle.rdx_grammar.specs.Heads.{Roles, patterns as items_of_list, next, rest}
@@ -9,103 +9,153 @@ use Rattle.rdx_grammar.specs.PatternChecks as patterns
 use Rattle.rdx_grammar.specs.Reading.{is_pattern}
 use Rattle.rdx_grammar.specs.Refusal.{Refusal, unnamed, or_else, first}
 use Rattle.rdx_grammar.specs.declared.shape.fault.DefKind.TheVariants.{Shape}
-use Rattle.rdx_defs.specs.ExtraForms.{ExtraForm, such_that, provided, name, no_extra, extra_form}
+use Rattle.rdx_defs.specs.Arguments.{is_misfit}
+use Rattle.rdx_defs.specs.Bound.{Bound}
+use Rattle.rdx_defs.specs.ExtraForms.{ExtraForm, such_that, provided, confirmed, holding, name, no_extra, ExtraPlace, of_case, form_at}
+use Rattle.rdx_defs.specs.Headed.{Headed, headed}
+use Rattle.rdx_defs.specs.JudgementRefusal.{result_stands, lone_premise_stands}
 use Rattle.rdx_defs.specs.MetafunctionForms.{ClauseForm, clause_form, ContractForm, MetafunctionForm}
 use Rattle.rdx_defs.specs.MetafunctionStands.{clause_stands, clauses_stand, contract_stands, patterns_stand, function_stands}
-use Rattle.rdx_defs.specs.StandChecks.{shape_faults, shape_at, repeated_names, repeated_at, repeated_name_at, bad_arrows}
-use Rattle.rdx_defs.specs.Stands.{Stand, misshaped, function, arrow, pattern, template, condition, named, bound_by_extra, extra_stands, is_named, extras_stand}
+use Rattle.rdx_defs.specs.Scope.{Scope, mode_of}
+use Rattle.rdx_defs.specs.StandChecks.{shape_faults, shape_at, repeated_names, repeated_at, repeated_name_at}
+use Rattle.rdx_defs.specs.Stands.{Stand, misshaped, function, judgement, asked, arrow, pattern, template, condition, plain, misfit, named, bound_in, plain_argument, flagged_stand, arguments_by, arguments_stand, misfits, names_bound, premise_arguments, held_stands, bound_by_premise, bound_by_extra, extra_stands, is_named, extras_stand}
 use Rattle.rdx_defs.specs.TemplateShapes.{template_shapes, host_shapes}
 
 -- ---- what stands there
 
 -- such a thing
-abbrev pub IsOfClauses : Stand → Type 0
-IsOfClauses (misshaped d) = Unit {0}
-IsOfClauses (function d) = Unit {0}
-IsOfClauses (arrow d) = ⊥
-IsOfClauses (pattern bs os) = Unit {0}
-IsOfClauses (template bs t) = Unit {0}
-IsOfClauses (condition bs h) = Unit {0}
-IsOfClauses (named again d) = again ≡ true
+abbrev pub IsNameless : Stand → Type 0
+IsNameless (misshaped d) = Unit {0}
+IsNameless (function d) = Unit {0}
+IsNameless (judgement d) = Unit {0}
+IsNameless (asked d) = Unit {0}
+IsNameless (arrow d) = Unit {0}
+IsNameless (pattern bs os) = Unit {0}
+IsNameless (template bs t) = Unit {0}
+IsNameless (condition bs h) = Unit {0}
+IsNameless (plain os) = Unit {0}
+IsNameless (misfit d n) = Unit {0}
+IsNameless (named again d) = again ≡ true
 
 -- all are such
-abbrev pub AreOfClauses : List Stand → Type 0
-AreOfClauses [] = Unit {0}
-AreOfClauses (s ∷ ss) = IsOfClauses s × AreOfClauses ss
+abbrev pub AreNameless : List Stand → Type 0
+AreNameless [] = Unit {0}
+AreNameless (s ∷ ss) = IsNameless s × AreNameless ss
 
 -- in two lists
-of_both : (ss ts : List Stand) → AreOfClauses ss → AreOfClauses ts → AreOfClauses (ss ++ ts)
+of_both : (ss ts : List Stand) → AreNameless ss → AreNameless ts → AreNameless (ss ++ ts)
 of_both [] ts a b = b
 of_both (s ∷ ss) ts a b = (a.0, of_both ss ts a.1 b)
 
+-- ---- premises
+
+-- of arguments with flags
+of_flagged : (ns : List (List ℕ)) (bs : List patterns.Bound) (es : Bound) (fs : List Bool) (ds : List Sexp) → AreNameless (flagged_stand ns bs es fs ds)
+of_flagged ns bs es [] ds = tt
+of_flagged ns bs es (true ∷ fs) [] = tt
+of_flagged ns bs es (false ∷ fs) [] = tt
+of_flagged ns bs es (true ∷ fs) (d ∷ ds) = (tt, of_flagged ns (bs ++ bound_in ns d) es fs ds)
+of_flagged ns bs es (false ∷ fs) (d ∷ ds) = (tt, of_flagged ns bs es fs ds)
+
+-- of arguments without
+of_plain : (ds : List Sexp) → AreNameless (map plain_argument ds)
+of_plain [] = tt
+of_plain (d ∷ ds) = (tt, of_plain ds)
+
+-- of arguments
+of_arguments : (ns : List (List ℕ)) (bs : List patterns.Bound) (es : Bound) (o : Option (List Bool)) (ds : List Sexp) → AreNameless (arguments_by ns bs es o ds)
+of_arguments ns bs es None ds = of_plain ds
+of_arguments ns bs es (Some fs) ds = of_flagged ns bs es fs ds
+
+-- of what does not fit a mode
+of_misfits : (b : Bool) (d x : Sexp) → AreNameless (misfits b d x)
+of_misfits true d x = (tt, tt)
+of_misfits false d x = tt
+
+-- of what has to be a premise
+of_held : (S : Scope) (ns : List (List ℕ)) (bs : List patterns.Bound) (d : Sexp) (o : Option Headed) → AreNameless (held_stands S ns bs d o)
+of_held S ns bs d None = (tt, tt)
+of_held S ns bs d (Some q) =
+    let a = premise_arguments S q in
+    let b = is_misfit (mode_of S (text_of q.head)) q.arguments in
+    (tt, of_both (misfits b d q.head) (arguments_stand ns bs (names_bound bs) a) (of_misfits b d q.head) (of_arguments ns bs (names_bound bs) a.flags a.items))
+
+-- of a template behind it
+of_result : (bs : List patterns.Bound) (t : Option Sexp) → AreNameless (result_stands bs t)
+of_result bs None = tt
+of_result bs (Some t) = (tt, tt)
+
+-- of both by themselves
+pub of_lone_premise : (S : Scope) (ns : List (List ℕ)) (d : Sexp) (t : Option Sexp) → AreNameless (lone_premise_stands S ns d t)
+of_lone_premise S ns d t =
+    of_both (held_stands S ns [] d (headed d)) (result_stands (bound_by_premise S ns (headed d)) t) (of_held S ns [] d (headed d))
+    (of_result (bound_by_premise S ns (headed d)) t)
+
+-- ---- metafunctions
+
 -- of an extra, where no name may come
-of_extra : (bs : List patterns.Bound) (again : Bool) (d : Sexp) (e : ExtraForm) → again ≡ true → AreOfClauses (extra_stands bs again d e)
-of_extra bs again d (such_that p t) h = (tt, (tt, tt))
-of_extra bs again d (provided g) h = (tt, tt)
-of_extra bs again d name h = (h, tt)
-of_extra bs again d no_extra h = (tt, tt)
+of_extra : (S : Scope) (ns : List (List ℕ)) (bs : List patterns.Bound) (again : Bool) (d : Sexp) (e : ExtraForm) → again ≡ true → AreNameless (extra_stands S ns bs again d e)
+of_extra S ns bs again d (such_that p t) h = (tt, (tt, tt))
+of_extra S ns bs again d (provided g) h = (tt, tt)
+of_extra S ns bs again d (confirmed t) h = (tt, tt)
+of_extra S ns bs again d (holding e) h = of_held S ns bs e (headed e)
+of_extra S ns bs again d name h = (h, tt)
+of_extra S ns bs again d no_extra h = (tt, tt)
 
 -- none may come behind it either
 stays_named : (again : Bool) (e : ExtraForm) → again ≡ true → is_named again e ≡ true
 stays_named again (such_that p t) h = h
 stays_named again (provided g) h = h
+stays_named again (confirmed t) h = h
+stays_named again (holding d) h = h
 stays_named again name h = refl
 stays_named again no_extra h = h
 
 -- of extras
-of_extras : (ns : List (List ℕ)) (bs : List patterns.Bound) (again : Bool) (ds : List Sexp) → again ≡ true → AreOfClauses (extras_stand ns bs again ds)
-of_extras ns bs again [] h = tt
-of_extras ns bs again (d ∷ ds) h =
-    of_both (extra_stands bs again d (extra_form d)) (extras_stand ns (bs ++ bound_by_extra ns (extra_form d)) (is_named again (extra_form d)) ds)
-    (of_extra bs again d (extra_form d) h)
-    (of_extras ns (bs ++ bound_by_extra ns (extra_form d)) (is_named again (extra_form d)) ds (stays_named again (extra_form d) h))
+of_extras : (k : ExtraPlace) (S : Scope) (ns : List (List ℕ)) (bs : List patterns.Bound) (again : Bool) (ds : List Sexp) → again ≡ true → AreNameless (extras_stand k S ns bs again ds)
+of_extras k S ns bs again [] h = tt
+of_extras k S ns bs again (d ∷ ds) h =
+    let e = form_at k d in
+    of_both (extra_stands S ns bs again d e) (extras_stand k S ns (bs ++ bound_by_extra S ns e) (is_named again e) ds)
+    (of_extra S ns bs again d e h)
+    (of_extras k S ns (bs ++ bound_by_extra S ns e) (is_named again e) ds (stays_named again e h))
 
 -- by a test
-of_test : (b : Bool) (ss ts : List Stand) → AreOfClauses ss → AreOfClauses ts → AreOfClauses (if b then ss else ts)
+of_test : (b : Bool) (ss ts : List Stand) → AreNameless ss → AreNameless ts → AreNameless (if b then ss else ts)
 of_test true ss ts a c = a
 of_test false ss ts a c = c
 
 -- of a clause
-of_clause : (ns : List (List ℕ)) (x : List ℕ) (d : Sexp) (o : Option ClauseForm) → AreOfClauses (clause_stands ns x d o)
-of_clause ns x d None = (tt, tt)
-of_clause ns x d (Some c) = of_test (bytes_eq (text_of c.function) x) _ (misshaped d ∷ []) (tt, (tt, of_extras ns _ true c.extras refl)) (tt, tt)
+of_clause : (S : Scope) (ns : List (List ℕ)) (x : List ℕ) (d : Sexp) (o : Option ClauseForm) → AreNameless (clause_stands S ns x d o)
+of_clause S ns x d None = (tt, tt)
+of_clause S ns x d (Some c) =
+    of_test (bytes_eq (text_of c.function) x) _ (misshaped d ∷ []) (tt, (tt, of_extras of_case S ns _ true c.extras refl)) (tt, tt)
 
 -- of clauses
-of_clauses : (ns : List (List ℕ)) (x : List ℕ) (ds : List Sexp) → AreOfClauses (clauses_stand ns x ds)
-of_clauses ns x [] = tt
-of_clauses ns x (d ∷ ds) =
-    of_both (clause_stands ns x d (clause_form d)) (clauses_stand ns x ds) (of_clause ns x d (clause_form d)) (of_clauses ns x ds)
+of_clauses : (S : Scope) (ns : List (List ℕ)) (x : List ℕ) (ds : List Sexp) → AreNameless (clauses_stand S ns x ds)
+of_clauses S ns x [] = tt
+of_clauses S ns x (d ∷ ds) =
+    of_both (clause_stands S ns x d (clause_form d)) (clauses_stand S ns x ds) (of_clause S ns x d (clause_form d)) (of_clauses S ns x ds)
 
 -- of patterns among items
-of_patterns : (rs : Roles) (ds : Sexps) → AreOfClauses (patterns_stand rs ds)
+of_patterns : (rs : Roles) (ds : Sexps) → AreNameless (patterns_stand rs ds)
 of_patterns rs nil = tt
 of_patterns rs (cons d ds) =
     of_both (if is_pattern (next rs d) then pattern [] _ ∷ [] else []) (patterns_stand (rest rs d) ds)
     (of_test (is_pattern (next rs d)) (pattern [] _ ∷ []) [] (tt, tt) tt) (of_patterns (rest rs d) ds)
 
 -- of a contract
-of_contract : (o : Option ContractForm) → AreOfClauses (contract_stands o)
+of_contract : (o : Option ContractForm) → AreNameless (contract_stands o)
 of_contract None = tt
 of_contract (Some c) = of_both (patterns_stand items_of_list _) (pattern [] _ ∷ []) (of_patterns items_of_list _) (tt, tt)
 
 -- of a form by its name
-pub of_function : (ns : List (List ℕ)) (m : MetafunctionForm) (o : Option Sexp) → AreOfClauses (function_stands ns m o)
-of_function ns m None = of_clauses ns [] m.clauses
-of_function ns m (Some f) =
-    (tt, of_both (contract_stands m.contract) (clauses_stand ns (text_of f) m.clauses) (of_contract m.contract) (of_clauses ns (text_of f) m.clauses))
+pub of_function : (S : Scope) (ns : List (List ℕ)) (m : MetafunctionForm) (o : Option Sexp) → AreNameless (function_stands S ns m o)
+of_function S ns m None = of_clauses S ns [] m.clauses
+of_function S ns m (Some f) =
+    (tt, of_both (contract_stands m.contract) (clauses_stand S ns (text_of f) m.clauses) (of_contract m.contract) (of_clauses S ns (text_of f) m.clauses))
 
--- ---- checks that refuse nothing there
-
--- no arrow is none
-pub no_arrows : (ss : List Stand) → AreOfClauses ss → bad_arrows ss ≡ []
-no_arrows [] a = refl
-no_arrows (misshaped d ∷ ss) a = no_arrows ss a.1
-no_arrows (function d ∷ ss) a = no_arrows ss a.1
-no_arrows (arrow d ∷ ss) a = absurd a.0
-no_arrows (pattern bs os ∷ ss) a = no_arrows ss a.1
-no_arrows (template bs t ∷ ss) a = no_arrows ss a.1
-no_arrows (condition bs h ∷ ss) a = no_arrows ss a.1
-no_arrows (named again d ∷ ss) a = no_arrows ss a.1
+-- ---- the check that refuses nothing there
 
 -- where two lists have nothing, the second has
 behind_none : (xs ys : List Sexp) → xs ++ ys ≡ [] → ys ≡ []
@@ -118,18 +168,22 @@ no_name true d ds a e = absurd cc
 no_name false d ds a e = absurd cc
 
 -- where all have their shapes, no name comes twice
-no_repeats : (seen : List (List ℕ)) (ss : List Stand) → AreOfClauses ss → shape_faults ss ≡ [] → repeated_names seen ss ≡ []
+no_repeats : (seen : List (List ℕ)) (ss : List Stand) → AreNameless ss → shape_faults ss ≡ [] → repeated_names seen ss ≡ []
 no_repeats seen [] a e = refl
 no_repeats seen (misshaped d ∷ ss) a e = absurd cc
 no_repeats seen (function d ∷ ss) a e = no_repeats seen ss a.1 e
-no_repeats seen (arrow d ∷ ss) a e = absurd a.0
+no_repeats seen (judgement d ∷ ss) a e = no_repeats seen ss a.1 e
+no_repeats seen (asked d ∷ ss) a e = no_repeats seen ss a.1 e
+no_repeats seen (arrow d ∷ ss) a e = no_repeats seen ss a.1 e
 no_repeats seen (pattern bs os ∷ ss) a e = no_repeats seen ss a.1 (behind_none (patterns.keyword_faults os) (shape_faults ss) e)
 no_repeats seen (template bs t ∷ ss) a e = no_repeats seen ss a.1 (behind_none (template_shapes t) (shape_faults ss) e)
 no_repeats seen (condition bs h ∷ ss) a e = no_repeats seen ss a.1 (behind_none (host_shapes h) (shape_faults ss) e)
+no_repeats seen (plain os ∷ ss) a e = no_repeats seen ss a.1 (behind_none (patterns.keyword_faults os) (shape_faults ss) e)
+no_repeats seen (misfit d n ∷ ss) a e = no_repeats seen ss a.1 e
 no_repeats seen (named again d ∷ ss) a e = absurd (no_name again d (shape_faults ss) a.0 e)
 
 -- so that check is never the one that is reported
-pub without_repeats : (ss : List Stand) (o : Option Refusal) → AreOfClauses ss → or_else (shape_at ss) (or_else (repeated_name_at ss) o) ≡ or_else (shape_at ss) o
+pub without_repeats : (ss : List Stand) (o : Option Refusal) → AreNameless ss → or_else (shape_at ss) (or_else (repeated_name_at ss) o) ≡ or_else (shape_at ss) o
 without_repeats ss o a = by_shapes (shape_faults ss) refl
   where
     by_shapes : (ds : List Sexp) → shape_faults ss ≡ ds → or_else (option_map (unnamed Shape) (first ds)) (or_else (repeated_name_at ss) o) ≡ or_else (option_map (unnamed Shape) (first ds)) o

@@ -1,5 +1,5 @@
 -- The worked examples hold.
-use Rattle.std.proofs.Common.{◌≡◌, ◌⊎◌, ℕ, pos, List, [], ◌∷◌, ◌++◌, Some, None, inl, inr, refl, ap, sym, ◌∙◌, subst, codes, arith}
+use Rattle.std.proofs.Common.{◌≡◌, ◌⊎◌, ℕ, pos, List, [], ◌∷◌, ◌++◌, Some, None, map, inl, inr, refl, ap, sym, ◌∙◌, subst, codes, arith}
 use Rattle.std.specs.Str.{chars}
 use Rattle.std.specs.Prelude.{decimal, true, false}
 use Rattle.std.proofs.lemmas.Fmt.{decimal_digit}
@@ -20,26 +20,30 @@ use Rattle.rdx_lang.specs.Rules.{Match, MatchItems, SplitItems, IsAlternative, m
 use Rattle.rdx_lang.specs.declared.pattern.Kind.TheVariants.{Any}
 use Rattle.rdx_lang.specs.declared.pattern.Ref.{Ref}
 use Rattle.rdx_lang.specs.declared.pattern.Ref.TheVariants.{Nt}
-use Rattle.rdx_lang.specs.Programs.{Clause, Metafunction, Program, Relation, Rule}
+use Rattle.rdx_lang.specs.Programs.{Clause, JudgementRule, Metafunction, Mode, Premise, Program, Relation, Rule}
 use Rattle.rdx_lang.specs.Templates as template
 use Rattle.rdx_lang.specs.Templates.{Host, term, apply, more, none}
 use Rattle.rdx_lang.specs.declared.operation.HostOp.TheVariants.{Add}
 use Rattle.rdx_lang.proofs.Examples.{listed as listing}
 use Rattle.rdx_eval.specs.Answers.{value, goes, lists, not_context}
 use Rattle.rdx_eval.specs.Calls.{Calls}
+use Rattle.rdx_eval.specs.Extending.{Matched, matched, joins_none, joins_more}
 use Rattle.rdx_eval.specs.Heights.{calls_at, height}
+use Rattle.rdx_eval.specs.Instantiation.{MakeList}
+use Rattle.rdx_eval.specs.Judgements.{RuleOutputs}
 use Rattle.rdx_eval.specs.Metafunctions.{one_of}
 use Rattle.rdx_eval.specs.Making.{listed, filled, filled_no_context}
 use Rattle.rdx_defs.specs.Scope.{Scope}
 use Rattle.rdx_reduce.specs.Relations.{AreSteps}
 use Rattle.rdx_reduce.specs.Steps.{Step, RuleSteps}
-use Rattle.rdx_query.specs.AnswerText.{matches_text, splits_text, value_line, reducts_text, steps_text, fault_line}
+use Rattle.rdx_query.specs.AnswerText.{answers_text, matches_text, splits_text, value_line, reducts_text, steps_text, fault_line}
 use Rattle.rdx_query.specs.Answering.{HostValue, over_value, over_fault, no_answers, more_answers}
 use Rattle.rdx_query.specs.Definitions.{language}
-use Rattle.rdx_query.specs.Examples.{defines_L, marked_pair, AnswersInOrder, WholeAnswer, Inherited, OneSplit, FilledTerm, FaultAnswered, OneReductTwoSteps, OwnHole, OneHole, NoOwnHole, NestedSequences, OwnHoleInSequence, LengthInDecimal, FirstRefusedForm, EarlierLanguagesOnly, TakenName, HostExpression, OtherForm, Sum, Wanted, OtherModule, KnownBefore, FewItems, LeftRecursion}
+use Rattle.rdx_query.specs.Examples.{defines_L, marked_pair, AnswersInOrder, WholeAnswer, Inherited, OneSplit, FilledTerm, FaultAnswered, OneReductTwoSteps, PremiseMet, OutputsListed, OwnHole, OneHole, NoOwnHole, NestedSequences, OwnHoleInSequence, LengthInDecimal, FirstRefusedForm, EarlierLanguagesOnly, TakenName, HostExpression, OtherForm, Sum, Wanted, OtherModule, KnownBefore, FewItems, LeftRecursion}
 use Rattle.rdx_query.specs.File.{Defines, by_check, by_recursion, accepts_none, accepts_definition, accepts_query, accepts_passed, refuses_here, refuses_behind_definition}
+use Rattle.rdx_query.specs.HoldsAnswers.{FindsMet, whether_found, ValuesOf, values_of, values_found}
 use Rattle.rdx_query.specs.Known.{empty_program, nothing_in}
-use Rattle.rdx_query.specs.Queries.{matches, whether, splits, value as itself, reducts, tagged}
+use Rattle.rdx_query.specs.Queries.{matches, whether, splits, value as itself, holds, reducts, tagged}
 use Rattle.rdx_query.specs.StepAnswers.{reducts_in, AreReducts, named_steps, reducts_found, steps_found}
 
 -- ---- languages with one nonterminal e, whose alternatives are literals
@@ -93,8 +97,8 @@ free x ns y (at_once (edge_nt a)) = not_literal ns y (among_literals x ns y (nt 
 free x ns y (further (edge_nt {p = p} a) r) = none_from x ns ns p (nt y) (among_literals x ns y p a) r
 
 -- the first form defines L, whatever the file defines
-defines : (S : Scope) (s : Span) → Defines (nothing_in S) (defines_L s) (language L)
-defines S s = record { passes = refl; means = refl; sound = free (codes "L") (1 ∷ []); passes_late = refl }
+defines : (S : Scope) (ls : List (List ℕ × List ℕ)) (s : Span) → Defines (nothing_in S ls) (defines_L s) (language L)
+defines S ls s = record { passes = refl; means = refl; sound = free (codes "L") (1 ∷ []); passes_late = refl }
 
 -- ---- listings
 
@@ -319,7 +323,7 @@ length_in_decimal = sym (λ i. codes "..._a" ++ codes " = " ++ two_digit i)
 
 -- L alone
 abbrev program_L : Program
-program_L = record { languages = L ∷ []; metafunctions = []; relations = [] }
+program_L = record { languages = L ∷ []; metafunctions = []; judgements = []; relations = [] }
 
 -- a literal makes itself
 abbrev literal : ℕ → Host
@@ -359,7 +363,7 @@ R = record { name = codes "R"; language = codes "L"; domain = None; rules = rule
 
 -- L and R
 abbrev program_R : Program
-program_R = record { languages = L ∷ []; metafunctions = []; relations = R ∷ [] }
+program_R = record { languages = L ∷ []; metafunctions = []; judgements = []; relations = R ∷ [] }
 
 -- the step by the rule at this place
 abbrev step : ℕ → Step
@@ -404,7 +408,7 @@ answers_in_order s = record {
   program = program_L;
   queries = matches (codes "L") pattern pair_template ∷ matches (codes "L") (lit (tree.integer (pos 1))) (literal 1) ∷ [];
   accepted =
-      accepts_definition (defines _ s) (accepts_query (record { passes = refl; means = refl }) (accepts_query (record { passes = refl; means = refl }) accepts_none));
+      accepts_definition (defines _ _ s) (accepts_query (record { passes = refl; means = refl }) (accepts_query (record { passes = refl; means = refl }) accepts_none));
   answers =
       more_answers (codes "match 1\n  any_x = 2, any_y = 1\n") (codes "match 1\n  -\n") true true
       (over_value pair (pair_made program_L)
@@ -415,7 +419,7 @@ answers_in_order s = record {
 }
 
 pub first_refused_form : FirstRefusedForm
-first_refused_form s m = refuses_behind_definition (defines _ s) (refuses_here (by_check refl))
+first_refused_form s m = refuses_behind_definition (defines _ _ s) (refuses_here (by_check refl))
 
 pub earlier_languages_only : EarlierLanguagesOnly
 earlier_languages_only s l = refuses_here (by_check refl)
@@ -426,7 +430,7 @@ whole_answer s = record {
   program = program_L;
   queries = whether (codes "L") named_e (literal 1) ∷ whether (codes "L") named_e (literal 2) ∷ [];
   accepted =
-      accepts_definition (defines _ s) (accepts_query (record { passes = refl; means = refl }) (accepts_query (record { passes = refl; means = refl }) accepts_none));
+      accepts_definition (defines _ _ s) (accepts_query (record { passes = refl; means = refl }) (accepts_query (record { passes = refl; means = refl }) accepts_none));
   answers =
       more_answers (codes "matches #t\n") (codes "matches #f\n") true true
       (over_value (tree.integer (pos 1)) refl
@@ -439,10 +443,10 @@ whole_answer s = record {
 pub inherited : Inherited
 unfolding chars
 inherited s = record {
-  program = record { languages = L ∷ M ∷ []; metafunctions = []; relations = [] };
+  program = record { languages = L ∷ M ∷ []; metafunctions = []; judgements = []; relations = [] };
   queries = whether (codes "M") named_e (literal 1) ∷ [];
   accepted =
-      accepts_definition (defines _ s)
+      accepts_definition (defines _ _ s)
       (accepts_definition (record { passes = refl; means = refl; sound = free (codes "M") (1 ∷ []); passes_late = refl }) (accepts_query (record { passes = refl; means = refl }) accepts_none));
   answers =
       more_answers (codes "matches #t\n") [] true true
@@ -455,7 +459,7 @@ unfolding chars
 one_split s = record {
   program = program_L;
   queries = splits (codes "L") split_pattern (term split_template) ∷ [];
-  accepted = accepts_definition (defines _ s) (accepts_query (record { passes = refl; means = refl }) accepts_none);
+  accepted = accepts_definition (defines _ _ s) (accepts_query (record { passes = refl; means = refl }) accepts_none);
   answers =
       more_answers (codes "splits 1\n  (hole hole) at [0] is 1 with any = hole\n") [] true true
       (over_value split_term (split_made program_L)
@@ -497,7 +501,7 @@ one_reduct_two_steps s = record {
   program = program_R;
   queries = reducts (codes "R") (literal 1) ∷ tagged (codes "R") (literal 1) ∷ [];
   accepted =
-      accepts_definition (defines _ s)
+      accepts_definition (defines _ _ s)
       (accepts_definition (record { passes = refl; means = refl; sound = tt; passes_late = refl })
       (accepts_query (record { passes = refl; means = refl }) (accepts_query (record { passes = refl; means = refl }) accepts_none)));
   answers =
@@ -510,10 +514,10 @@ one_reduct_two_steps s = record {
 }
 
 pub taken_name : TakenName
-taken_name s l = refuses_behind_definition (defines _ s) (refuses_here (by_check refl))
+taken_name s l = refuses_behind_definition (defines _ _ s) (refuses_here (by_check refl))
 
 pub host_expression : HostExpression
-host_expression s h = refuses_behind_definition (defines _ s) (refuses_here (by_check refl))
+host_expression s h = refuses_behind_definition (defines _ _ s) (refuses_here (by_check refl))
 
 pub other_form : OtherForm
 other_form s = refuses_here (by_check refl)
@@ -561,7 +565,7 @@ f = record { name = codes "f"; language = codes "L"; contract = None; clauses = 
 
 -- L and f
 abbrev program_f : Program
-program_f = record { languages = L ∷ []; metafunctions = f ∷ []; relations = [] }
+program_f = record { languages = L ∷ []; metafunctions = f ∷ []; judgements = []; relations = [] }
 
 -- `(f 1)`
 abbrev call_of_f : Host
@@ -600,10 +604,181 @@ known_before s = record {
   queries = itself call_of_f ∷ [];
   accepted =
       accepts_query (record { passes = refl; means = refl })
-      (accepts_definition (defines _ s) (accepts_definition (record { passes = refl; means = refl; sound = tt; passes_late = refl }) accepts_none));
+      (accepts_definition (defines _ _ s) (accepts_definition (record { passes = refl; means = refl; sound = tt; passes_late = refl }) accepts_none));
   answers =
       more_answers (codes "value 2\n") [] true true
       (over_value (tree.integer (pos 2)) value_of_f (record { printed = two_printed; is_met = refl })) no_answers;
+}
+
+-- ---- what J gives for 1
+
+-- `[(J 1 n ...)]`
+abbrev rule_of_J : List ℕ → JudgementRule
+rule_of_J ns = record { name = None; inputs = clause_of_f.arguments; extras = []; outputs = map (λ n. template.lit (tree.integer (pos n))) ns }
+
+-- L and J, with this mode and these rules
+abbrev program_J : Mode → List JudgementRule → Program
+program_J m rs = record {
+  languages = L ∷ [];
+  metafunctions = [];
+  judgements = record { name = codes "J"; language = codes "L"; mode = m; contract = None; rules = rs } ∷ [];
+  relations = [];
+}
+
+-- the input of a premise
+abbrev input_of_J : List template.Template
+input_of_J = template.lit (tree.integer (pos 1)) ∷ []
+
+input_made : (C : Calls) → MakeList C [] input_of_J (value arguments_of_f)
+input_made C = goes (goes (goes refl refl) (goes refl refl)) (listed (record { shallow = omega arith; small = omega arith }))
+
+-- ---- J without outputs
+
+-- the list of no outputs
+abbrev no_outputs : tree.Tree
+no_outputs = tree.list None tree.nil
+
+-- the rule gives it
+given_none : (C : Calls) → RuleOutputs L C arguments_of_f (rule_of_J []) (value (no_outputs ∷ []))
+given_none C =
+    goes (goes (lists taken_by_f) refl) (goes (goes (goes refl (listed (record { shallow = omega arith; small = omega arith }))) refl) (goes refl refl))
+
+-- it matches with no names
+only_empty : (b : Binding) → Match L (seq nil) no_outputs b → b ≡ []
+only_empty b (match_seq match_none) = refl
+
+empty_listing : Matches L (seq nil) no_outputs ([] ∷ [])
+empty_listing = one_alone [] (match_seq match_none) only_empty
+
+-- so the premise is met
+abbrev program_met : Program
+program_met = program_J (true ∷ []) (rule_of_J [] ∷ [])
+
+abbrev premise_met_by : Premise
+premise_met_by = record { judgement = codes "J"; inputs = input_of_J; outputs = seq nil }
+
+met_once : FindsMet program_met premise_met_by (value ([] ∷ []))
+unfolding calls_at
+met_once = record {
+  judgement = record { name = codes "J"; language = codes "L"; mode = true ∷ []; contract = None; rules = rule_of_J [] ∷ [] };
+  named = refl;
+  language = L;
+  known = refl;
+  meets =
+      goes
+      (goes
+      (goes (input_made (calls_at program_met height))
+      (goes (goes (given_none (calls_at program_met 399)) (goes refl refl)) (lists (one_alone no_outputs (here refl) (λ t i. only_member t no_outputs i)))))
+      (goes (matched empty_listing (joins_more nothing_at_all joins_none)) (goes refl refl)))
+      (lists (one_alone [] (here refl) (λ b i. only_member b [] i)));
+}
+
+pub premise_met : PremiseMet
+unfolding chars
+premise_met s = record {
+  program = program_met;
+  queries = holds premise_met_by None ∷ [];
+  accepted =
+      accepts_definition (defines _ _ s)
+      (accepts_definition (record { passes = refl; means = refl; sound = tt; passes_late = refl }) (accepts_query (record { passes = refl; means = refl }) accepts_none));
+  answers =
+      more_answers (codes "holds #t\n") [] true true (record { found = value ([] ∷ []); finds = met_once; written = whether_found refl refl }) no_answers;
+}
+
+-- ---- J with an output
+
+-- the list of one output
+abbrev output : ℕ → tree.Tree
+output n = tree.list None (tree.cons (tree.integer (pos n)) tree.nil)
+
+-- a rule gives it
+given_one : (C : Calls) (n : ℕ) → RuleOutputs L C arguments_of_f (rule_of_J (n ∷ [])) (value (output n ∷ []))
+given_one C n =
+    goes (goes (lists taken_by_f) refl)
+    (goes (goes (goes (goes (goes refl refl) (goes refl refl)) (listed (record { shallow = omega arith; small = omega arith }))) refl) (goes refl refl))
+
+-- `any` binds it
+abbrev output_pattern : Pattern
+output_pattern = seq (one (named (codes "any") (of_kind Any)) nil)
+
+only_output : (n : ℕ) (b : Binding) → Match L output_pattern (output n) b → b ≡ binds (codes "any") n
+only_output n b (match_seq (match_one {c = c} g match_none k)) =
+    one_join (binds (codes "any") n) [] b (binds (codes "any") n) (subst (λ (a : Binding). IsJoin a [] b) (named_binds (codes "any") n c g) k)
+    (nothing_behind (codes "any") n)
+
+output_listing : (n : ℕ) → Matches L output_pattern (output n) (binds (codes "any") n ∷ [])
+output_listing n =
+    one_alone (binds (codes "any") n) (match_seq (match_one (named_matches (codes "any") n) match_none (nothing_behind (codes "any") n))) (only_output n)
+
+output_matched : (n : ℕ) → Matched L output_pattern [] (output n) (value (binds (codes "any") n ∷ []))
+output_matched n = matched (output_listing n) (joins_more (with_nothing (codes "any") n) joins_none)
+
+-- 3 and 2 are listed the other way round
+turned : (t : tree.Tree) → In t (output 3 ∷ output 2 ∷ []) → In t (output 2 ∷ output 3 ∷ [])
+turned t (here e) = there (here e)
+turned t (there (here e)) = here e
+turned t (there (there i)) = elim i [ ]
+
+-- two bindings meet the premise
+abbrev program_listed : Program
+program_listed = program_J (true ∷ false ∷ []) (rule_of_J (3 ∷ []) ∷ rule_of_J (2 ∷ []) ∷ [])
+
+abbrev premise_listed : Premise
+premise_listed = record { judgement = codes "J"; inputs = input_of_J; outputs = output_pattern }
+
+abbrev two_bindings : List Binding
+two_bindings = binds (codes "any") 2 ∷ binds (codes "any") 3 ∷ []
+
+met_twice : FindsMet program_listed premise_listed (value two_bindings)
+unfolding calls_at
+met_twice =
+    let C : Calls = calls_at program_listed 399 in
+    record {
+      judgement = record { name = codes "J"; language = codes "L"; mode = true ∷ false ∷ []; contract = None; rules = rule_of_J (3 ∷ []) ∷ rule_of_J (2 ∷ []) ∷ [] };
+      named = refl;
+      language = L;
+      known = refl;
+      meets =
+          goes
+          (goes
+          (goes (input_made (calls_at program_listed height))
+          (goes (goes (given_one C 3) (goes (goes (given_one C 2) (goes refl refl)) refl))
+          (lists (listing (output 2 ∷ output 3 ∷ []) ((refl, tt), (tt, tt)) (there (here refl), (here refl, tt)) turned))))
+          (goes (output_matched 2) (goes (goes (output_matched 3) (goes refl refl)) refl)))
+          (lists (listing two_bindings ((refl, tt), (tt, tt)) (here refl, (there (here refl), tt)) (λ b i. i)));
+    }
+
+-- the template makes a value of each
+abbrev two_values : List tree.Tree
+two_values = tree.integer (pos 2) ∷ tree.integer (pos 3) ∷ []
+
+values_made : (C : Calls) → ValuesOf C (template.var (codes "any") 0) (value two_bindings) (value two_values)
+values_made C =
+    values_of
+    (goes (goes (goes refl refl) (goes (goes (goes refl refl) (goes refl refl)) refl))
+    (lists (listing two_values ((refl, tt), (tt, tt)) (here refl, (there (here refl), tt)) (λ t i. i))))
+
+answers_printed : codes "answers 2\n  2\n  3\n" ≡ answers_text two_values
+answers_printed = λ i. codes "answers" ++ codes " " ++ two_digit i ++ codes "\n"
+    ++ (codes "  " ++ two_digit i ++ codes "\n" ++ (codes "  " ++ three_digit i ++ codes "\n" ++ []))
+
+pub outputs_listed : OutputsListed
+unfolding chars
+outputs_listed s = record {
+  program = program_listed;
+  queries = holds premise_listed (Some (template.var (codes "any") 0)) ∷ [];
+  accepted =
+      accepts_definition (defines _ _ s)
+      (accepts_definition (record { passes = refl; means = refl; sound = tt; passes_late = refl }) (accepts_query (record { passes = refl; means = refl }) accepts_none));
+  answers =
+      more_answers (codes "answers 2\n  2\n  3\n") [] true true
+      (record {
+        found = value two_bindings;
+        finds = met_twice;
+        values = value two_values;
+        made = values_made (calls_at program_listed height);
+        written = values_found answers_printed refl;
+      }) no_answers;
 }
 
 pub few_items : FewItems

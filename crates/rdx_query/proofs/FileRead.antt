@@ -8,7 +8,7 @@ use Rattle.rdx_grammar.specs.Refusal.{Refusal, refusal_of}
 use Rattle.rdx_grammar.specs.declared.shape.fault.DefFault.{DefFault}
 use Rattle.rdx_grammar.specs.declared.shape.fault.DefFault.TheVariants.{Refused, NoMemory}
 use Rattle.rdx_defs.specs.Scope.{Scope}
-use Rattle.rdx_defs.specs.Scopes.{scope_in}
+use Rattle.rdx_defs.specs.Scopes.{languages_in, scope_in}
 use Rattle.rdx_query.specs.Definitions.{Defined}
 use Rattle.rdx_query.specs.File.{Defines, Asks, IsPassedOver, Accepts, accepts_none, accepts_definition, accepts_query, accepts_passed, Refuses, refuses_here, refuses_behind_definition, refuses_behind_query, refuses_behind_passed, known_before, IsFile, IsFileRefusal}
 use Rattle.rdx_query.specs.Inside.Defining.{IsFormFault}
@@ -17,46 +17,42 @@ use Rattle.rdx_query.specs.Known.{Known, nothing_in, with_definition}
 use Rattle.rdx_query.specs.Queries.{Query}
 use Rattle.rdx_query.specs.Views.{AllNamesKnown, IsFileFault}
 use Rattle.rdx_grammar.proofs.Rests.{drop-at}
-use Rattle.rdx_query.proofs.NamesKnown.{all_names_known-more, all_names_known-push, LanguagesKnown, languages_known-nothing, languages_known-more, asks-known, defines-known}
+use Rattle.rdx_query.proofs.AskedNames.{fit-before, can_answer}
 
 -- ---- what is read so far
 
 -- behind K and the queries qs, which the forms before define and ask, the rest of a file decides what the file means
 pub record SoFar (all rest : List Sexp) (K : Known) (qs : List Query) : Type 0 where
   pub scope : K.scope ≡ scope_in all
+  pub languages : K.languages ≡ languages_in all
   pub accepted : (J : Known) (rs : List Query) → Accepts K rest J rs → Accepts (known_before all) all J (qs ++ rs)
   pub refused : (r : Refusal) → Refuses K rest r → IsFileRefusal all r
-  pub named : AllNamesKnown K.program qs
-  pub languages : LanguagesKnown K.program
 
 -- the next form defines something
 behind_definition : (all more : List Sexp) (d : Sexp) (K : Known) (qs : List Query) (x : Defined) → Defines K d x → SoFar all (d ∷ more) K qs → SoFar all more (with_definition K x) qs
 behind_definition all more d K qs x f s = record {
   scope = s.scope;
+  languages = s.languages;
   accepted = λ J rs a. s.accepted J rs (accepts_definition f a);
   refused = λ r a. s.refused r (refuses_behind_definition f a);
-  named = all_names_known-more K.program x qs s.named;
-  languages = languages_known-more K.program x (defines-known K d x f) s.languages;
 }
 
 -- the next form asks something
 behind_query : (all more : List Sexp) (d : Sexp) (K : Known) (qs : List Query) (q : Query) → Asks K d q → SoFar all (d ∷ more) K qs → SoFar all more K (qs ++ q ∷ [])
 behind_query all more d K qs q f s = record {
   scope = s.scope;
+  languages = s.languages;
   accepted = λ J rs a. subst (λ (ps : List Query). Accepts (known_before all) all J ps) (sym (append_assoc qs (q ∷ []) rs)) (s.accepted J (q ∷ rs) (accepts_query f a));
   refused = λ r a. s.refused r (refuses_behind_query f a);
-  named = all_names_known-push K.program qs q s.named (asks-known K d q s.languages f);
-  languages = s.languages;
 }
 
 -- the next form is passed over
 behind_passed : (all more : List Sexp) (d : Sexp) (K : Known) (qs : List Query) → IsPassedOver K d → SoFar all (d ∷ more) K qs → SoFar all more K qs
 behind_passed all more d K qs f s = record {
   scope = s.scope;
+  languages = s.languages;
   accepted = λ J rs a. s.accepted J rs (accepts_passed f a);
   refused = λ r a. s.refused r (refuses_behind_passed f a);
-  named = s.named;
-  languages = s.languages;
 }
 
 -- the same of what is equal
@@ -71,10 +67,11 @@ stepped all more d K J qs rs (step_asks q f e g) s = so_far-same all more K J (q
 stepped all more d K J qs rs (step_passes f e g) s = so_far-same all more K J qs rs e g (behind_passed all more d K qs f s)
 
 -- before the first form
-pub so_far-start : (all : List Sexp) (S : Scope) → S ≡ scope_in all → SoFar all all (nothing_in S) []
-so_far-start all S e =
-    subst (λ (T : Scope). SoFar all all (nothing_in T) []) (sym e)
-    (record { scope = refl; accepted = λ J rs a. a; refused = λ r a. a; named = tt; languages = languages_known-nothing })
+pub so_far-start : (all : List Sexp) (S : Scope) (ls : List (List ℕ × List ℕ)) → S ≡ scope_in all → ls ≡ languages_in all → SoFar all all (nothing_in S ls) []
+so_far-start all S ls e f =
+    subst (λ (T : Scope). SoFar all all (nothing_in T ls) []) (sym e)
+    (subst (λ (ms : List (List ℕ × List ℕ)). SoFar all all (nothing_in (scope_in all) ms) []) (sym f)
+    (record { scope = refl; languages = refl; accepted = λ J rs a. a; refused = λ r a. a }))
 
 -- one form more
 pub so_far-next : (all : List Sexp) (i : ℕ) (d : Sexp) (K J : Known) (qs rs : List Query) → i < length all → d ≡ get_or all i d → Step K qs d J rs → SoFar all (drop i all) K qs → SoFar all (drop (i + 1) all) J rs
@@ -93,16 +90,21 @@ drop-none [] (suc i) h = refl
 drop-none (x ∷ xs) zero h = absurd (omega arith)
 drop-none (x ∷ xs) (suc i) h = drop-none xs i (omega arith)
 
--- what is known, in a scope
-abbrev known_in : Program → Scope → Known
-known_in P S = record { scope = S; program = P }
+-- what is known, in a scope with these languages
+abbrev known_in : Program → Scope → List (List ℕ × List ℕ) → Known
+known_in P S ls = record { scope = S; languages = ls; program = P }
 
 -- all forms are read
 pub so_far-end : (all : List Sexp) (i : ℕ) (K : Known) (qs : List Query) → length all ≤ i → SoFar all (drop i all) K qs → IsFile all K.program qs
 so_far-end all i K qs h s =
-    subst (λ (ps : List Query). Accepts (known_before all) all (known_in K.program (scope_in all)) ps) (append-nil qs)
-    (subst (λ (S : Scope). Accepts (known_before all) all (known_in K.program S) (qs ++ [])) s.scope
-    (s.accepted K [] (subst (λ (ds : List Sexp). Accepts K ds K []) (sym (drop-none all i h)) accepts_none)))
+    subst (λ (ps : List Query). Accepts (known_before all) all (known_in K.program (scope_in all) (languages_in all)) ps) (append-nil qs)
+    (subst (λ (S : Scope). Accepts (known_before all) all (known_in K.program S (languages_in all)) (qs ++ [])) s.scope
+    (subst (λ (ls : List (List ℕ × List ℕ)). Accepts (known_before all) all (known_in K.program K.scope ls) (qs ++ [])) s.languages
+    (s.accepted K [] (subst (λ (ds : List Sexp). Accepts K ds K []) (sym (drop-none all i h)) accepts_none))))
+
+-- and what they name is known
+pub file-named : (ds : List Sexp) (P : Program) (qs : List Query) → IsFile ds P qs → AllNamesKnown P qs
+file-named ds P qs a = (can_answer (known_before ds) ds _ qs (fit-before ds) a).named
 
 -- ---- what can be read
 

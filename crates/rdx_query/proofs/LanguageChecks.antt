@@ -21,6 +21,7 @@ use Rattle.rdx_query.specs.Inside.Defining.{IsLanguageFault, language_by_check, 
 use Rattle.rdx_query.specs.Inside.Earlier.{number, earlier, IsFirstFault, IsUnless}
 use Rattle.rdx_query.specs.Inside.PartViews.{second_item}
 use Rattle.rdx_query.specs.Known.{Known, is_taken}
+use Rattle.rdx_query.specs.MetafunctionForms.{function_taken_at}
 use Rattle.rdx_query.specs.LanguageForms.{unknown_at, unknown_by, taken_at, name_taken_at, language_refusal}
 use Rattle.rdx_query.proofs.CheckNumbers.{HasNumber, Checks, AreChecks, refused, merge, merged, or_none, unnamed-number, named-number, earlier_of-first}
 
@@ -51,6 +52,11 @@ taken-number K x = taken_by-number (is_taken K (text_of x)) x
 pub item-number : (K : Known) (o : Option Sexp) → HasNumber 3 (taken_at_item K o)
 item-number K None r e = absurd cc
 item-number K (Some x) r e = taken-number K x r e
+
+-- the name is taken by either name of that check
+pub taken-same : (K : Known) (o : Option Sexp) → function_taken_at K o ≡ taken_at_item K o
+taken-same K None = refl
+taken-same K (Some f) = refl
 
 -- ---- the checks
 

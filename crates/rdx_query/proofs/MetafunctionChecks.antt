@@ -6,11 +6,11 @@ use Rattle.rdx_lang.specs.ProgramView.{metafunction_of}
 use Rattle.rdx_lang.specs.declared.program.Metafunction.{Metafunction}
 use Rattle.rdx_grammar.specs.Nonterminals.{names_of}
 use Rattle.rdx_grammar.specs.Parts.{parts, is_symbol, is_word}
-use Rattle.rdx_grammar.specs.Refusal.{Refusal, refusal_of, unnamed, named, or_else, first, first_refusal}
+use Rattle.rdx_grammar.specs.Refusal.{Refusal, refusal_of, unnamed, or_else, first_refusal}
 use Rattle.rdx_grammar.specs.Unbuilt.{has_word_to_come, unbuilt_at}
 use Rattle.rdx_grammar.specs.declared.shape.fault.DefFault.{DefFault}
 use Rattle.rdx_grammar.specs.declared.shape.fault.DefFault.TheVariants.{Refused, NoMemory}
-use Rattle.rdx_grammar.specs.declared.shape.fault.DefKind.TheVariants.{Shape, BadName, BadPattern, EllipsisDepth, UnknownName, EllipsisVariable, RacketEscape}
+use Rattle.rdx_grammar.specs.declared.shape.fault.DefKind.TheVariants.{Shape}
 use Rattle.rdx_grammar.specs.declared.shape.fault.DefRefusal.{DefRefusal}
 use Rattle.rdx_defs.specs.Answers.{ReadsMetafunction}
 use Rattle.rdx_defs.specs.MetafunctionForms.{ContractForm, MetafunctionForm, cut_at_arrow, with_clauses, contracted, metafunction_over, metafunction_among, metafunction_form, function_in}
@@ -18,9 +18,9 @@ use Rattle.rdx_defs.specs.MetafunctionReading.{metafunction_reading}
 use Rattle.rdx_defs.specs.MetafunctionRefusal.{metafunction_refusal}
 use Rattle.rdx_defs.specs.MetafunctionStands.{metafunction_stands}
 use Rattle.rdx_defs.specs.RelationForms.{may_name}
-use Rattle.rdx_defs.specs.RelationRefusal.{stands_refusal}
 use Rattle.rdx_defs.specs.Scope.{Scope}
-use Rattle.rdx_defs.specs.StandChecks.{shape_at, bad_name_at, bad_place_at, depth_fault_at, bad_arrow_at, undriven_at, escape_at}
+use Rattle.rdx_defs.specs.StandChecks.{shape_at, bad_name_at, bad_place_at, depth_fault_at, unknown_name_at, undriven_at, escape_at, mode_fault_at}
+use Rattle.rdx_defs.specs.StandRefusal.{stands_refusal}
 use Rattle.rdx_defs.specs.Stands.{Stand}
 use Rattle.rdx_query.specs.Definitions.{metafunction}
 use Rattle.rdx_query.specs.File.{by_check}
@@ -29,60 +29,23 @@ use Rattle.rdx_query.specs.FormKinds.{defines, form_kind}
 use Rattle.rdx_query.specs.Forms.{refusal_by_kind, late_refusal_by_kind, definition_by_kind}
 use Rattle.rdx_query.specs.Known.{Known}
 use Rattle.rdx_query.specs.LanguageForms.{named_base, unknown_at}
-use Rattle.rdx_query.specs.MetafunctionForms.{function_taken_at, function_refusal, function_refusal_by, function_by}
+use Rattle.rdx_query.specs.MetafunctionForms.{function_refusal, function_refusal_by, function_by}
 use Rattle.rdx_query.specs.Inside.Defining.{FunctionsBy, taken_at_item}
 use Rattle.rdx_query.specs.Inside.Earlier.{earlier, IsRefusedBy, IsUnless}
 use Rattle.rdx_query.specs.Inside.PartViews.{language_item, may_name_item, second_among}
-use Rattle.rdx_query.proofs.CheckNumbers.{Checks, AreChecks, refused, merged, or_none, unnamed-number, named-number}
-use Rattle.rdx_query.proofs.ClauseStands.{AreOfClauses, of_function, no_arrows, without_repeats}
-use Rattle.rdx_query.proofs.LanguageChecks.{unbuilt-number, unknown-number, item-number}
+use Rattle.rdx_query.proofs.CheckNumbers.{Checks, AreChecks, refused, merged, or_none, unnamed-number}
+use Rattle.rdx_query.proofs.ClauseStands.{AreNameless, of_function}
+use Rattle.rdx_query.proofs.LanguageChecks.{unbuilt-number, unknown-number, item-number, taken-same}
+use Rattle.rdx_query.proofs.StandNumbers.{nameless_checks, nameless-checks, nameless-refusal}
 
 -- ---- the checks
 
 -- those of the form by itself
 abbrev form_checks : Scope → List (List ℕ) → Sexp → List Stand → Checks
-form_checks S ns d ss =
-    (0, unbuilt_at d)
-    ∷ (1, shape_at ss)
-    ∷ (4, bad_name_at ss)
-    ∷ (5, bad_place_at S ns ss)
-    ∷ (6, depth_fault_at S ns ss)
-    ∷ (9, undriven_at S ss)
-    ∷ (10, escape_at S ss)
-    ∷ []
+form_checks S ns d ss = (0, unbuilt_at d) ∷ nameless_checks S ns ss
 
 form-checks : (S : Scope) (ns : List (List ℕ)) (d : Sexp) (ss : List Stand) → AreChecks 0 (form_checks S ns d ss)
-form-checks S ns d ss = (
-  omega arith,
-  (
-    unbuilt-number (has_word_to_come d) d,
-    (
-      omega arith,
-      (
-        unnamed-number Shape _,
-        (
-          omega arith,
-          (
-            named-number BadName _,
-            (
-              omega arith,
-              (
-                unnamed-number BadPattern _,
-                (
-                  omega arith,
-                  (
-                    named-number EllipsisDepth _,
-                    (omega arith, (unnamed-number EllipsisVariable _, (omega arith, (unnamed-number RacketEscape _, tt)))),
-                  ),
-                ),
-              ),
-            ),
-          ),
-        ),
-      ),
-    ),
-  ),
-)
+form-checks S ns d ss = (omega arith, (unbuilt-number (has_word_to_come d) d, nameless-checks S ns ss))
 
 -- those of the names
 abbrev name_checks : Known → Option Sexp → Option Sexp → Checks
@@ -92,15 +55,8 @@ name-checks : (K : Known) (l x : Option Sexp) → AreChecks 0 (name_checks K l x
 name-checks K l x = (omega arith, (unknown-number K l, (omega arith, (item-number K x, tt))))
 
 -- the form is refused by those, where it has its parts
-stands-refusal : (S : Scope) (ns : List (List ℕ)) (d : Sexp) (ss : List Stand) → AreOfClauses ss → or_else (unbuilt_at d) (or_else (stands_refusal S ns ss) None) ≡ refused (form_checks S ns d ss)
-stands-refusal S ns d ss a =
-    let late = or_else (undriven_at S ss) (or_else (escape_at S ss) None) in
-    let last : Option Refusal → Option Refusal = λ o. or_else (bad_name_at ss) (or_else (bad_place_at S ns ss) (or_else (depth_fault_at S ns ss) o)) in
-    ap (or_else (unbuilt_at d)) (
-    or_none (stands_refusal S ns ss)
-    ∙ without_repeats ss (last (or_else (bad_arrow_at ss) late)) a
-    ∙ ap (λ ds. or_else (shape_at ss) (last (or_else (option_map (named UnknownName) (first ds)) late))) (no_arrows ss a)
-    )
+stands-refusal : (S : Scope) (ns : List (List ℕ)) (d : Sexp) (ss : List Stand) → AreNameless ss → or_else (unbuilt_at d) (or_else (stands_refusal S ns ss) None) ≡ refused (form_checks S ns d ss)
+stands-refusal S ns d ss a = ap (or_else (unbuilt_at d)) (or_none (stands_refusal S ns ss) ∙ nameless-refusal S ns ss a)
 
 -- ---- the language's name
 
@@ -142,13 +98,6 @@ among-language (Some (h ∷ l ∷ ds)) m e = by_test (may_name l) e
 language-item : (d : Sexp) (m : MetafunctionForm) → metafunction_form d ≡ Some m → language_item d ≡ Some m.language
 language-item d m e = among-language (parts d) m e
 
--- ---- the name is taken
-
--- by either name of that check
-taken-same : (K : Known) (o : Option Sexp) → function_taken_at K o ≡ taken_at_item K o
-taken-same K None = refl
-taken-same K (Some f) = refl
-
 -- ---- what is read
 
 -- what is read of the form is refused so
@@ -169,19 +118,21 @@ module _ (K : Known) (d : Sexp) (x : Option Sexp) (n : IsNameOf d x) where
   -- of the form by itself, with these parts, over the language l
   abbrev form_refusal : Option Sexp → Option MetafunctionForm → Option Refusal
   form_refusal l o =
-      or_else (unbuilt_at d) (or_else (stands_refusal K.scope (names_of (named_base K l)) (metafunction_stands (names_of (named_base K l)) d o)) None)
+      or_else (unbuilt_at d) (or_else (stands_refusal K.scope (names_of (named_base K l)) (metafunction_stands K.scope (names_of (named_base K l)) d o)) None)
 
   -- a form that has its parts
   known-parts : (m : MetafunctionForm) → function_refusal_by K d (Some m) ≡ earlier (names_refusal (Some m.language) (function_in m)) (form_refusal (Some m.language) (Some m))
   known-parts m =
       let ns = names_of (named_base K (Some m.language)) in
-      let ss = metafunction_stands ns d (Some m) in
+      let ss = metafunction_stands K.scope ns d (Some m) in
       let last =
-      first_refusal (bad_name_at ss ∷ bad_place_at K.scope ns ss ∷ depth_fault_at K.scope ns ss ∷ undriven_at K.scope ss ∷ escape_at K.scope ss ∷ [])
+      first_refusal
+      (bad_name_at ss ∷ bad_place_at K.scope ns ss ∷ depth_fault_at K.scope ns ss ∷ unknown_name_at K.scope ss ∷ undriven_at K.scope ss
+      ∷ escape_at K.scope ss ∷ mode_fault_at ss ∷ [])
       in
       (λ i. or_else (unbuilt_at d) (or_else (shape_at ss) (or_else (unknown_at K (Some m.language)) (or_else (taken-same K (function_in m) i) last))))
       ∙ merged 0 (name_checks K (Some m.language) (function_in m)) (form_checks K.scope ns d ss) (name-checks K (Some m.language) (function_in m)) (form-checks K.scope ns d ss)
-      ∙ ap (earlier (names_refusal (Some m.language) (function_in m))) (sym (stands-refusal K.scope ns d ss (of_function ns m (function_in m))))
+      ∙ ap (earlier (names_refusal (Some m.language) (function_in m))) (sym (stands-refusal K.scope ns d ss (of_function K.scope ns m (function_in m))))
 
   -- one that has them not
   no-parts : (l y : Option Sexp) → function_refusal_by K d None ≡ earlier (names_refusal l y) (form_refusal l None)

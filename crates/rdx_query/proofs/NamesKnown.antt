@@ -1,35 +1,50 @@
 -- What forms name is known, and stays known.
 use Rattle.std.proofs.Common.{◌≡◌, ◌⊎◌, inl, inr, ◌++◌, ℕ, Bool, true, false, List, [], ◌∷◌, Option, Some, None, refl, sym, subst, if◌then◌else◌}
-use Rattle.std.specs.Prelude.{is_some, bytes_eq, option_map, IsSome}
+use Rattle.std.specs.Prelude.{not, is_some, bytes_eq, option_map, IsSome}
 use Rattle.rdx_sexp.specs.Sexp.{Sexp}
 use Rattle.rdx_lang.specs.Patterns.{Pattern, Language}
-use Rattle.rdx_lang.specs.Programs.{Program, Relation, language_among, language_named, relation_among, relation_named}
+use Rattle.rdx_lang.proofs.Collecting.{only}
+use Rattle.rdx_lang.proofs.MemberLaws.{in-append}
+use Rattle.rdx_lang.specs.Members.{In, here, there}
+use Rattle.rdx_lang.specs.Programs.{Judgement, Program, Relation, language_among, language_named, judgement_among, judgement_named, relation_among, relation_named}
 use Rattle.rdx_lang.specs.Templates.{Host}
 use Rattle.rdx_grammar.specs.Nonterminals.{names_of}
 use Rattle.rdx_grammar.specs.Parts.{text_of}
 use Rattle.rdx_grammar.specs.Occurrences.{occurrences}
 use Rattle.rdx_grammar.specs.PatternRefusal.{bad_binder_at, depth_clash_at}
-use Rattle.rdx_grammar.specs.Refusal.{Refusal, or_else, first_refusal}
+use Rattle.rdx_grammar.specs.PatternChecks.{when}
+use Rattle.rdx_grammar.specs.Refusal.{Refusal, named, or_else, first, first_refusal}
 use Rattle.rdx_grammar.specs.Unbuilt.{unbuilt_at}
+use Rattle.rdx_grammar.specs.declared.shape.fault.DefKind.TheVariants.{UnknownName}
+use Rattle.rdx_defs.specs.Arguments.{is_misfit}
+use Rattle.rdx_defs.specs.Headed.{Headed, headed}
+use Rattle.rdx_defs.specs.JudgementForms.{JudgementForm, judgement_form}
+use Rattle.rdx_defs.specs.JudgementReading.{judgement_reading}
+use Rattle.rdx_defs.specs.JudgementRefusal.{result_stands}
+use Rattle.rdx_defs.specs.JudgementStands.{judgement_stands}
 use Rattle.rdx_defs.specs.RelationForms.{RelationForm, relation_form}
 use Rattle.rdx_defs.specs.RelationReading.{relation_reading}
 use Rattle.rdx_defs.specs.RelationStands.{relation_stands}
-use Rattle.rdx_defs.specs.StandChecks.{repeated_name_at, bad_name_at, bad_place_at, depth_fault_at, bad_arrow_at, undriven_at, escape_at}
-use Rattle.rdx_query.specs.Definitions.{Defined, language, metafunction, relation}
+use Rattle.rdx_defs.specs.Scope.{Scope, mode_of}
+use Rattle.rdx_defs.specs.StandChecks.{shape_at, repeated_name_at, bad_name_at, bad_place_at, depth_fault_at, unknown_names, unknown_name_at, undriven_at, escape_at, mode_fault_at}
+use Rattle.rdx_defs.specs.Stands.{Stand, asked, misfits, arguments_stand, names_bound, premise_arguments, held_stands, bound_by_premise}
+use Rattle.rdx_query.specs.Definitions.{Defined, language, metafunction, judgement, relation}
 use Rattle.rdx_query.specs.File.{Defines, Asks}
 use Rattle.rdx_query.specs.FormKinds as kind
 use Rattle.rdx_query.specs.FormKinds.{FormKind, defines, asks, passes, to_come, form_kind}
 use Rattle.rdx_query.specs.Forms.{refusal_by_kind, definition_by_kind, query_by_kind}
+use Rattle.rdx_query.specs.HoldsForms.{HoldsParts, holds_parts, asked_names, asked_unknown_at, holds_refusal, holds_refusal_over, holds_by, holds_over}
 use Rattle.rdx_query.specs.HostForms.{host_of_datum}
-use Rattle.rdx_query.specs.Known.{Known, empty_program, extended_by}
+use Rattle.rdx_query.specs.JudgementForms.{form_name, form_names, judgement_refusal_by, judgement_by, defined_judgement}
+use Rattle.rdx_query.specs.Known.{Known, empty_program, extended_by, with_definition}
 use Rattle.rdx_query.specs.LanguageForms.{named_base, name_taken_at, unknown_at, unknown_by, plain_language, extended_language}
 use Rattle.rdx_query.specs.MatchForms.{QueryParts, query_parts, query_shape_at, checked_parts, query_host, bad_query_at, undriven_host_at, query_escape_at, query_refusal, query_over}
-use Rattle.rdx_query.specs.MetafunctionForms.{defined_function}
-use Rattle.rdx_query.specs.Queries.{Query, matches, whether, splits, value, reducts, tagged, KnowsRelation, NamesKnown}
+use Rattle.rdx_query.specs.MetafunctionForms.{function_taken_at, defined_function}
+use Rattle.rdx_query.specs.Queries.{Query, matches, whether, splits, value, holds, reducts, tagged, KnowsRelation, KnowsJudgement, NamesKnown}
 use Rattle.rdx_query.specs.RelationForms as forms
 use Rattle.rdx_query.specs.RelationForms.{DefineParts, define_parts, define_shape_at, bad_relation_at, define_refusal_by, relation_names, relation_language, defined_relation}
 use Rattle.rdx_query.specs.StepForms.{StepParts, step_parts, steps_shape_at, checked_steps, steps_host, bad_host_at, host_escape_at, unknown_relation_at, unknown_relation_by, steps_refusal}
-use Rattle.rdx_query.specs.Views.{AllNamesKnown}
+use Rattle.rdx_query.proofs.DefinedJudgements.{judgements_in, mapped-some}
 use Rattle.rdx_grammar.proofs.Firsts.{none_or}
 
 -- ---- names stay known
@@ -58,32 +73,35 @@ found-more (S ∷ Rs) M R x e = found-by (bytes_eq S.name x) S R (relation_among
 language-more : (P : Program) (x : Defined) (y : List ℕ) → IsSome (language_named P y) → IsSome (language_named (extended_by P x) y)
 language-more P (language M) y e = named-more P.languages M y e
 language-more P (metafunction F) y e = e
+language-more P (judgement J) y e = e
 language-more P (relation R) y e = e
 
 -- so does a relation with its language
 relation-more : (P : Program) (x : Defined) (y : List ℕ) → KnowsRelation P y → KnowsRelation (extended_by P x) y
 relation-more P (language M) y k = record { relation = k.relation; named = k.named; language = named-more P.languages M k.relation.language k.language }
 relation-more P (metafunction F) y k = record { relation = k.relation; named = k.named; language = k.language }
+relation-more P (judgement J) y k = record { relation = k.relation; named = k.named; language = k.language }
 relation-more P (relation R) y k = record { relation = k.relation; named = found-more P.relations R k.relation y k.named; language = k.language }
 
--- so does what a query names
-pub names_known-more : (P : Program) (x : Defined) (q : Query) → NamesKnown P q → NamesKnown (extended_by P x) q
-names_known-more P x (matches name p h) e = language-more P x name e
-names_known-more P x (whether name p h) e = language-more P x name e
-names_known-more P x (splits name p h) e = language-more P x name e
-names_known-more P x (value h) e = tt
-names_known-more P x (reducts name h) e = relation-more P x name e
-names_known-more P x (tagged name h) e = relation-more P x name e
+-- what a query names is known, but for a judgement, which may be defined behind the query: that the file has
+abbrev pub IsAwaited : Known → Query → Type 0
+IsAwaited K (matches name p h) = IsSome (language_named K.program name)
+IsAwaited K (whether name p h) = IsSome (language_named K.program name)
+IsAwaited K (splits name p h) = IsSome (language_named K.program name)
+IsAwaited K (value h) = Unit {0}
+IsAwaited K (holds q t) = IsSome (mode_of K.scope q.judgement)
+IsAwaited K (reducts name h) = KnowsRelation K.program name
+IsAwaited K (tagged name h) = KnowsRelation K.program name
 
--- and what queries name
-pub all_names_known-more : (P : Program) (x : Defined) (qs : List Query) → AllNamesKnown P qs → AllNamesKnown (extended_by P x) qs
-all_names_known-more P x [] n = tt
-all_names_known-more P x (q ∷ qs) n = (names_known-more P x q n.0, all_names_known-more P x qs n.1)
-
--- one more query that names what is known
-pub all_names_known-push : (P : Program) (qs : List Query) (q : Query) → AllNamesKnown P qs → NamesKnown P q → AllNamesKnown P (qs ++ q ∷ [])
-all_names_known-push P [] q n e = (e, tt)
-all_names_known-push P (p ∷ qs) q n e = (n.0, all_names_known-push P qs q n.1 e)
+-- so it stays
+pub awaited-more : (K : Known) (x : Defined) (q : Query) → IsAwaited K q → IsAwaited (with_definition K x) q
+awaited-more K x (matches name p h) e = language-more K.program x name e
+awaited-more K x (whether name p h) e = language-more K.program x name e
+awaited-more K x (splits name p h) e = language-more K.program x name e
+awaited-more K x (value h) e = tt
+awaited-more K x (holds q t) e = e
+awaited-more K x (reducts name h) e = relation-more K.program x name e
+awaited-more K x (tagged name h) e = relation-more K.program x name e
 
 -- ---- the language of each relation is known
 
@@ -110,21 +128,101 @@ found-last : (Rs : List Relation) (M R : Relation) (x : List ℕ) → relation_a
 found-last [] M R x e = inr (only-by (bytes_eq M.name x) M R e)
 found-last (S ∷ Rs) M R x e = last-by (bytes_eq S.name x) S M R (relation_among Rs x) (relation_among (Rs ++ M ∷ []) x) (found-last Rs M R x) e
 
--- the language of what is defined is known, where it is a relation
+-- the language of what is defined is known, where it is a judgement or a relation
 abbrev pub IsGrounded : Program → Defined → Type 0
 IsGrounded P (language L) = Unit {0}
 IsGrounded P (metafunction F) = Unit {0}
+IsGrounded P (judgement J) = IsSome (language_named P J.language)
 IsGrounded P (relation R) = IsSome (language_named P R.language)
 
 -- with one more of what a form can define
 pub languages_known-more : (P : Program) (x : Defined) → IsGrounded P x → LanguagesKnown P → LanguagesKnown (extended_by P x)
 languages_known-more P (language M) g l x R e = named-more P.languages M R.language (l x R e)
 languages_known-more P (metafunction F) g l x R e = l x R e
+languages_known-more P (judgement J) g l x R e = l x R e
 languages_known-more P (relation M) g l x R e = either (found-last P.relations M R x e)
   where
     either : (relation_among P.relations x ≡ Some R) ⊎ (R ≡ M) → IsSome (language_named P R.language)
     either (inl f) = l x R f
     either (inr f) = subst (λ (S : Relation). IsSome (language_named P S.language)) (sym f) g
+
+-- ---- the language of each judgement is known
+
+-- the language of each judgement
+abbrev pub JudgementsKnown : Program → Type 0
+JudgementsKnown P = (J : Judgement) → In J P.judgements → IsSome (language_named P J.language)
+
+-- before the first form there is no judgement
+pub judgements_known-nothing : JudgementsKnown empty_program
+judgements_known-nothing J i = elim i [ ]
+
+-- with one more of what a form can define
+pub judgements_known-more : (P : Program) (x : Defined) → IsGrounded P x → JudgementsKnown P → JudgementsKnown (extended_by P x)
+judgements_known-more P (language M) g l J i = named-more P.languages M J.language (l J i)
+judgements_known-more P (metafunction F) g l J i = l J i
+judgements_known-more P (judgement M) g l J i = either (in-append P.judgements (M ∷ []) J i)
+  where
+    either : In J P.judgements ⊎ In J (M ∷ []) → IsSome (language_named P J.language)
+    either (inl j) = l J j
+    either (inr j) = subst (λ (I : Judgement). IsSome (language_named P I.language)) (sym (only j)) g
+judgements_known-more P (relation R) g l J i = l J i
+
+-- the first judgement, or one behind it
+member-by : (b : Bool) (I J : Judgement) (Js : List Judgement) (o : Option Judgement) → (o ≡ Some J → In J Js) → (if b then Some I else o) ≡ Some J → In J (I ∷ Js)
+member-by true I J Js o f e = here (let g : I ≡ J = cc in sym g)
+member-by false I J Js o f e = there (f e)
+
+-- what is found by its name is one of those among which it is found
+judgement-among : (Js : List Judgement) (x : List ℕ) (J : Judgement) → judgement_among Js x ≡ Some J → In J Js
+judgement-among [] x J e = absurd cc
+judgement-among (I ∷ Js) x J e = member-by (bytes_eq I.name x) I J Js (judgement_among Js x) (judgement-among Js x J) e
+
+-- a judgement that is found stays found before others
+judgement-left : (Js Is : List Judgement) (x : List ℕ) → IsSome (judgement_among Js x) → IsSome (judgement_among (Js ++ Is) x)
+judgement-left [] Is x e = absurd cc
+judgement-left (J ∷ Js) Is x e = known-by (bytes_eq J.name x) J (judgement_among Js x) (judgement_among (Js ++ Is) x) (judgement-left Js Is x) e
+
+-- some one is found behind others
+behind-by : (b : Bool) (J : Judgement) (o : Option Judgement) → is_some o ≡ true → is_some (if b then Some J else o) ≡ true
+behind-by true J o e = refl
+behind-by false J o e = e
+
+judgement-right : (Js Is : List Judgement) (x : List ℕ) → IsSome (judgement_among Is x) → IsSome (judgement_among (Js ++ Is) x)
+judgement-right [] Is x e = e
+judgement-right (J ∷ Js) Is x e = behind-by (bytes_eq J.name x) J (judgement_among (Js ++ Is) x) (judgement-right Js Is x e)
+
+-- one that is known stays known behind whatever is defined
+pub judgement-more : (P : Program) (x : Defined) (y : List ℕ) → IsSome (judgement_named P y) → IsSome (judgement_named (extended_by P x) y)
+judgement-more P (language M) y e = e
+judgement-more P (metafunction F) y e = e
+judgement-more P (judgement J) y e = judgement-left P.judgements (J ∷ []) y e
+judgement-more P (relation R) y e = e
+
+-- so does one that is defined
+pub judgement-new : (P : Program) (x : Defined) (y : List ℕ) → IsSome (judgement_among (judgements_in x) y) → IsSome (judgement_named (extended_by P x) y)
+judgement-new P (language M) y e = absurd cc
+judgement-new P (metafunction F) y e = absurd cc
+judgement-new P (judgement J) y e = judgement-right P.judgements (J ∷ []) y e
+judgement-new P (relation R) y e = absurd cc
+
+-- its language is
+knows-by : (P : Program) (x : List ℕ) (o : Option Judgement) → JudgementsKnown P → judgement_named P x ≡ o → is_some o ≡ true → KnowsJudgement P x
+knows-by P x None l e f = absurd cc
+knows-by P x (Some J) l e f = record { judgement = J; named = e; language = l J (judgement-among P.judgements x J e) }
+
+-- all judgements of the scope are defined
+abbrev pub HasJudgements : Known → Type 0
+HasJudgements K = (x : List ℕ) → IsSome (mode_of K.scope x) → IsSome (judgement_named K.program x)
+
+-- then all that a query names is known
+pub awaited-known : (K : Known) (q : Query) → JudgementsKnown K.program → HasJudgements K → IsAwaited K q → NamesKnown K.program q
+awaited-known K (matches name p h) l f a = a
+awaited-known K (whether name p h) l f a = a
+awaited-known K (splits name p h) l f a = a
+awaited-known K (value h) l f a = tt
+awaited-known K (holds q t) l f a = knows-by K.program q.judgement (judgement_named K.program q.judgement) l refl (f q.judgement a)
+awaited-known K (reducts name h) l f a = a
+awaited-known K (tagged name h) l f a = a
 
 -- ---- what an accepted form names
 
@@ -141,6 +239,10 @@ known-relation P (Some R) r l f e = record { relation = R; named = f; language =
 -- the third check of a chain refuses nothing where none does
 third-none : (a b c o : Option Refusal) → or_else a (or_else b (or_else c o)) ≡ None → c ≡ None
 third-none a b c o e = (none_or c o (none_or b (or_else c o) (none_or a (or_else b (or_else c o)) e).1).1).0
+
+-- none does behind the third
+behind-three : (a b c o : Option Refusal) → or_else a (or_else b (or_else c o)) ≡ None → o ≡ None
+behind-three a b c o e = (none_or c o (none_or b (or_else c o) (none_or a (or_else b (or_else c o)) e).1).1).1
 
 -- nor does the fourth
 fourth-none : (a b c d o : Option Refusal) → or_else a (or_else b (or_else c (or_else d o))) ≡ None → d ≡ None
@@ -169,35 +271,68 @@ steps-known K d q l e =
 
 -- a query of any of three kinds
 by_query : (K : Known) (d : Sexp) (make : List ℕ → Pattern → Host → Query) (o : Option QueryParts) (r : Query)
-    → ((q : QueryParts) → IsSome (language_named K.program (text_of q.language)) → NamesKnown K.program (query_over K make q))
-    → query_refusal K d o ≡ None → option_map (query_over K make) o ≡ Some r → NamesKnown K.program r
+    → ((q : QueryParts) → IsSome (language_named K.program (text_of q.language)) → IsAwaited K (query_over K make q))
+    → query_refusal K d o ≡ None → option_map (query_over K make) o ≡ Some r → IsAwaited K r
 by_query K d make None r f e m = absurd cc
-by_query K d make (Some q) r f e m = let g : query_over K make q ≡ r = cc in subst (NamesKnown K.program) g (f q (query-known K d q e))
+by_query K d make (Some q) r f e m = let g : query_over K make q ≡ r = cc in subst (IsAwaited K) g (f q (query-known K d q e))
 
 -- a form that asks for steps, in either kind
-by_steps : (K : Known) (d : Sexp) (make : StepParts → Query) (o : Option StepParts) (r : Query) → LanguagesKnown K.program → ((q : StepParts) → KnowsRelation K.program (text_of q.relation) → NamesKnown K.program (make q))
-    → steps_refusal K d o ≡ None → option_map make o ≡ Some r → NamesKnown K.program r
+by_steps : (K : Known) (d : Sexp) (make : StepParts → Query) (o : Option StepParts) (r : Query) → LanguagesKnown K.program → ((q : StepParts) → KnowsRelation K.program (text_of q.relation) → IsAwaited K (make q))
+    → steps_refusal K d o ≡ None → option_map make o ≡ Some r → IsAwaited K r
 by_steps K d make None r l f e m = absurd cc
-by_steps K d make (Some q) r l f e m = let g : make q ≡ r = cc in subst (NamesKnown K.program) g (f q (steps-known K d q l e))
+by_steps K d make (Some q) r l f e m = let g : make q ≡ r = cc in subst (IsAwaited K) g (f q (steps-known K d q l e))
 
 -- a form that is a host expression
-by_value : (P : Program) (h : Host) (r : Query) → (let o : Option Query = Some (value h) in o) ≡ Some r → NamesKnown P r
-by_value P h r m = let g : value h ≡ r = cc in subst (NamesKnown P) g tt
+by_value : (K : Known) (h : Host) (r : Query) → (let o : Option Query = Some (value h) in o) ≡ Some r → IsAwaited K r
+by_value K h r m = let g : value h ≡ r = cc in subst (IsAwaited K) g tt
 
--- what an accepted query names is known
-by_question : (K : Known) (d : Sexp) (k : FormKind) (q : Query) → LanguagesKnown K.program → refusal_by_kind K d k ≡ None → query_by_kind K d k ≡ Some q → NamesKnown K.program q
+-- a datum where a test holds, before others
+none_when : (b : Bool) (d : Sexp) (ds : List Sexp) → option_map (named UnknownName) (first (when (not b) d ++ ds)) ≡ None → b ≡ true
+none_when true d ds e = refl
+none_when false d ds e = absurd cc
+
+-- the judgement of a premise in which S8 refuses nothing
+asked-known : (S : Scope) (j : Sexp) (ss : List Stand) → unknown_name_at S (asked j ∷ ss) ≡ None → IsSome (mode_of S (text_of j))
+asked-known S j ss e = none_when (is_some (mode_of S (text_of j))) j (unknown_names S ss) e
+
+-- an accepted form that asks whether a premise is met
+by_premise : (K : Known) (d : Sexp) (h : HoldsParts) (o : Option Headed) (r : Query)
+    → holds_refusal_over K d o (held_stands K.scope (asked_names K o) [] h.premise o ++ result_stands (bound_by_premise K.scope (asked_names K o) o) h.result) ≡ None
+    → option_map (holds_over K h.result) o ≡ Some r → IsAwaited K r
+by_premise K d h None r e m = absurd cc
+by_premise K d h (Some q) r e m =
+    let ns = asked_names K (Some q) in
+    let misfitting = misfits (is_misfit (mode_of K.scope (text_of q.head)) q.arguments) h.premise q.head in
+    let behind = (misfitting ++ arguments_stand ns [] (names_bound []) (premise_arguments K.scope q)) ++ result_stands (bound_by_premise K.scope ns (Some q)) h.result in
+    let ss = asked q.head ∷ behind in
+    let last = or_else (undriven_at K.scope ss) (or_else (escape_at K.scope ss) (or_else (mode_fault_at ss) None)) in
+    let late = or_else (bad_name_at ss) (or_else (bad_place_at K.scope ns ss) (or_else (depth_fault_at K.scope ns ss) (or_else (unknown_name_at K.scope ss) last))) in
+    let n : unknown_name_at K.scope ss ≡ None =
+    fourth-none (bad_name_at ss) (bad_place_at K.scope ns ss) (depth_fault_at K.scope ns ss) (unknown_name_at K.scope ss) last
+    (behind-three (unbuilt_at d) (shape_at ss) (asked_unknown_at K (Some q)) late e)
+    in
+    let g : holds_over K h.result q ≡ r = cc in
+    subst (IsAwaited K) g (asked-known K.scope q.head behind n)
+
+by_holds : (K : Known) (d : Sexp) (o : Option HoldsParts) (r : Query) → holds_refusal K d o ≡ None → holds_by K o ≡ Some r → IsAwaited K r
+by_holds K d None r e m = absurd cc
+by_holds K d (Some h) r e m = by_premise K d h (headed h.premise) r e m
+
+-- what an accepted query names is known, or awaited
+by_question : (K : Known) (d : Sexp) (k : FormKind) (q : Query) → LanguagesKnown K.program → refusal_by_kind K d k ≡ None → query_by_kind K d k ≡ Some q → IsAwaited K q
 by_question K d (defines k) q l e m = absurd cc
 by_question K d (asks kind.matches) q l e m = by_query K d matches (query_parts d) q (λ r s. s) e m
 by_question K d (asks kind.whether) q l e m = by_query K d whether (query_parts d) q (λ r s. s) e m
 by_question K d (asks kind.splits) q l e m = by_query K d splits (query_parts d) q (λ r s. s) e m
-by_question K d (asks kind.value) q l e m = by_value K.program (host_of_datum K d) q m
+by_question K d (asks kind.value) q l e m = by_value K (host_of_datum K d) q m
+by_question K d (asks kind.holds) q l e m = by_holds K d (holds_parts d) q e m
 by_question K d (asks kind.reducts) q l e m = by_steps K d (λ r. reducts (text_of r.relation) (host_of_datum K r.host)) (step_parts d) q l (λ r s. s) e m
 by_question K d (asks kind.tagged) q l e m = by_steps K d (λ r. tagged (text_of r.relation) (host_of_datum K r.host)) (step_parts d) q l (λ r s. s) e m
 by_question K d (passes k) q l e m = absurd cc
 by_question K d to_come q l e m = absurd cc
 
-pub asks-known : (K : Known) (d : Sexp) (q : Query) → LanguagesKnown K.program → Asks K d q → NamesKnown K.program q
-asks-known K d q l a = by_question K d (form_kind d) q l a.passes a.means
+pub asks-awaited : (K : Known) (d : Sexp) (q : Query) → LanguagesKnown K.program → Asks K d q → IsAwaited K q
+asks-awaited K d q l a = by_question K d (form_kind d) q l a.passes a.means
 
 -- the language of a relation, by the parts of its list
 by_form : (K : Known) (o : Option RelationForm) (ns : List (List ℕ)) (x : List ℕ) (R : Relation) → unknown_at K (option_map (λ (r : RelationForm). r.language) o) ≡ None → option_map (relation_reading K.scope ns x) o ≡ Some R
@@ -211,11 +346,11 @@ by_form K (Some r) ns x R e m =
 language-none : (K : Known) (d : Sexp) (q : DefineParts) → define_refusal_by K d (Some q) ≡ None → unknown_at K (relation_language q) ≡ None
 language-none K d q e =
     let ns = relation_names K q in
-    let ss = relation_stands ns q.body (relation_form q.body) in
+    let ss = relation_stands K.scope ns q.body (relation_form q.body) in
     let last =
     first_refusal
     (name_taken_at K q.name ∷ repeated_name_at ss ∷ bad_relation_at q.name ∷ bad_name_at ss ∷ bad_place_at K.scope ns ss
-    ∷ depth_fault_at K.scope ns ss ∷ bad_arrow_at ss ∷ undriven_at K.scope ss ∷ escape_at K.scope ss ∷ [])
+    ∷ depth_fault_at K.scope ns ss ∷ unknown_name_at K.scope ss ∷ undriven_at K.scope ss ∷ escape_at K.scope ss ∷ mode_fault_at ss ∷ [])
     in
     third-none (unbuilt_at d) (define_shape_at d q.rest ss) (unknown_at K (relation_language q)) last e
 
@@ -224,10 +359,20 @@ by_define : (K : Known) (d : Sexp) (o : Option DefineParts) (R : Relation) → d
 by_define K d None R e m = absurd cc
 by_define K d (Some q) R e m = by_form K (relation_form q.body) (relation_names K q) (text_of q.name) R (language-none K d q e) m
 
--- of what an accepted form defines, where it defines some of one kind
-mapped-some : {A : Type 0} (f : A → Defined) (o : Option A) (x : Defined) → option_map f o ≡ Some x → (P : Defined → Type 0) → ((a : A) → o ≡ Some a → P (f a)) → P x
-mapped-some f None x m P g = absurd cc
-mapped-some f (Some a) x m P g = let h : f a ≡ x = cc in subst P h (g a refl)
+-- the language of a judgement, by the parts of the form
+by_judgement : (K : Known) (d : Sexp) (o : Option JudgementForm) (J : Judgement) → judgement_refusal_by K d o ≡ None → judgement_by K o ≡ Some J → IsSome (language_named K.program J.language)
+by_judgement K d None J e m = absurd cc
+by_judgement K d (Some f) J e m =
+    let ns = form_names K (Some f) in
+    let ss = judgement_stands K.scope ns d (Some f) in
+    let last =
+    first_refusal
+    (function_taken_at K (form_name (Some f)) ∷ repeated_name_at ss ∷ bad_name_at ss ∷ bad_place_at K.scope ns ss ∷ depth_fault_at K.scope ns ss
+    ∷ unknown_name_at K.scope ss ∷ undriven_at K.scope ss ∷ escape_at K.scope ss ∷ mode_fault_at ss ∷ [])
+    in
+    let g : judgement_reading K.scope ns f ≡ J = cc in
+    subst (λ (I : Judgement). IsSome (language_named K.program I.language)) g
+    (known-name (language_named K.program (text_of f.language)) f.language (third-none (unbuilt_at d) (shape_at ss) (unknown_at K (Some f.language)) last e))
 
 by_definition : (K : Known) (d : Sexp) (k : FormKind) (x : Defined) → refusal_by_kind K d k ≡ None → definition_by_kind K d k ≡ Some x → IsGrounded K.program x
 by_definition K d (asks k) x e m = absurd cc
@@ -236,6 +381,8 @@ by_definition K d to_come x e m = absurd cc
 by_definition K d (defines kind.language) x e m = mapped-some language (plain_language d) x m (IsGrounded K.program) (λ L f. tt)
 by_definition K d (defines kind.extension) x e m = mapped-some language (extended_language K d) x m (IsGrounded K.program) (λ L f. tt)
 by_definition K d (defines kind.metafunction) x e m = mapped-some metafunction (defined_function K d) x m (IsGrounded K.program) (λ F f. tt)
+by_definition K d (defines kind.judgement) x e m =
+    mapped-some judgement (defined_judgement K d) x m (IsGrounded K.program) (λ J f. by_judgement K d (judgement_form d) J e f)
 by_definition K d (defines kind.relation) x e m =
     mapped-some relation (defined_relation K d) x m (IsGrounded K.program) (λ R f. by_define K d (define_parts d) R e f)
 

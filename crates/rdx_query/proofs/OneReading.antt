@@ -176,3 +176,10 @@ accepts-scope K [] J qs accepts_none = refl
 accepts-scope K (d ∷ ds) J qs (accepts_definition {x} a more) = accepts-scope (with_definition K x) ds J qs more
 accepts-scope K (d ∷ ds) J qs (accepts_query {qs = more_qs} a more) = accepts-scope K ds J more_qs more
 accepts-scope K (d ∷ ds) J qs (accepts_passed a more) = accepts-scope K ds J qs more
+
+-- so do the languages of judgements
+pub accepts-languages : (K : Known) (ds : List Sexp) (J : Known) (qs : List Query) → Accepts K ds J qs → J.languages ≡ K.languages
+accepts-languages K [] J qs accepts_none = refl
+accepts-languages K (d ∷ ds) J qs (accepts_definition {x} a more) = accepts-languages (with_definition K x) ds J qs more
+accepts-languages K (d ∷ ds) J qs (accepts_query {qs = more_qs} a more) = accepts-languages K ds J more_qs more
+accepts-languages K (d ∷ ds) J qs (accepts_passed a more) = accepts-languages K ds J qs more

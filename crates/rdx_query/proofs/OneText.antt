@@ -7,18 +7,21 @@ use Rattle.rdx_lang.specs.Laws.{OneListing, OneSplitsListing}
 use Rattle.rdx_lang.specs.Listing.{Matches, Splits}
 use Rattle.rdx_lang.specs.Members.{In}
 use Rattle.rdx_lang.specs.Patterns.{Pattern, Language}
-use Rattle.rdx_lang.specs.Programs.{Program, Relation, Rule, language_named}
-use Rattle.rdx_lang.specs.Templates.{Host}
+use Rattle.rdx_lang.specs.Programs.{Judgement, Premise, Program, Relation, Rule, language_named}
+use Rattle.rdx_lang.specs.Templates.{Host, Template}
 use Rattle.rdx_lang.specs.Templates as template
 use Rattle.rdx_lang.proofs.OrderLaws.{one_listing as one_ascending}
 use Rattle.rdx_sexp.specs.Sexp.{Sexp}
 use Rattle.rdx_term.specs.Model.TotalOrder.{tree_cmp-total}
 use Rattle.rdx_term.specs.Order.{tree_cmp}
 use Rattle.rdx_term.specs.Tree.{Tree}
-use Rattle.rdx_eval.specs.Answers.{Answer, Fault, fault}
+use Rattle.rdx_eval.specs.Answers.{Answer, Fault, fault, Gather, Single}
 use Rattle.rdx_eval.specs.Answers as evaluation
+use Rattle.rdx_eval.specs.Extending.{Meets}
 use Rattle.rdx_eval.specs.Heights.{calls_at, height}
-use Rattle.rdx_eval.specs.Laws.{Once, OneTerm}
+use Rattle.rdx_eval.specs.Instantiation.{Makes}
+use Rattle.rdx_eval.specs.Laws.{Once, OneMeeting, OneTerm}
+use Rattle.rdx_eval.proofs.OneAnswer.{once-then, once-gather, once-single, once-lists}
 use Rattle.rdx_reduce.specs.Laws.{OneStepping}
 use Rattle.rdx_reduce.specs.Relations.{StepsOver, AreSteps}
 use Rattle.rdx_reduce.specs.Steps.{Step}
@@ -26,8 +29,9 @@ use Rattle.rdx_query.specs.AnswerText.{matches_text, whether_text, splits_text, 
 use Rattle.rdx_query.specs.Answering.{HostValue, Over, over_value, over_fault, IsValueAnswer, IsAnswer, AreAnswers, no_answers, more_answers, Writes}
 use Rattle.rdx_query.specs.Known.{Known}
 use Rattle.rdx_query.specs.File.{known_before}
+use Rattle.rdx_query.specs.HoldsAnswers.{FindsMet, WritesWhether, whether_found, not_found, IsHoldsAnswer, ValuesOf, values_of, no_bindings, WritesValues, values_found, no_values, IsValuesAnswer, IsPremiseAnswer}
 use Rattle.rdx_query.specs.MatchAnswers.{Finds, FindsSplits, IsMatchesAnswer, IsWhetherAnswer, IsSplitsAnswer}
-use Rattle.rdx_query.specs.Queries.{Query, matches, whether, splits, value, reducts, tagged}
+use Rattle.rdx_query.specs.Queries.{Query, matches, whether, splits, value, holds, reducts, tagged}
 use Rattle.rdx_query.specs.StepAnswers.{reducts_in, WritesReducts, reducts_found, no_reducts, WritesSteps, steps_found, no_steps, IsReductsAnswer, IsTaggedAnswer}
 use Rattle.rdx_query.proofs.OneReading.{accepts-one}
 
@@ -71,7 +75,19 @@ once-steps : (rs : List Rule) (a : Answer (List Step)) → OnceWritten (WritesSt
 once-steps rs (evaluation.value ss) t u m n (steps_found e f) (steps_found g h) = record { text = e ∙ sym g; met = f ∙ sym h }
 once-steps rs (fault p) t u m n (no_steps e f) (no_steps g h) = record { text = e ∙ sym g; met = f ∙ sym h }
 
-module _ (one_listing : OneListing) (one_splits : OneSplitsListing) (one_term : OneTerm) (one_stepping : OneStepping) where
+-- ---- what is written over a premise
+
+-- equal answers of bindings are written in one way
+once-met : (a : Answer (List Binding)) → OnceWritten (WritesWhether a)
+once-met (evaluation.value bs) t u m n (whether_found e f) (whether_found g h) = record { text = e ∙ sym g; met = f ∙ sym h }
+once-met (fault p) t u m n (not_found e f) (not_found g h) = record { text = e ∙ sym g; met = f ∙ sym h }
+
+-- and so are those of values
+once-written_values : (a : Answer (List Tree)) → OnceWritten (WritesValues a)
+once-written_values (evaluation.value ts) t u m n (values_found e f) (values_found g h) = record { text = e ∙ sym g; met = f ∙ sym h }
+once-written_values (fault p) t u m n (no_values e f) (no_values g h) = record { text = e ∙ sym g; met = f ∙ sym h }
+
+module _ (one_listing : OneListing) (one_splits : OneSplitsListing) (one_term : OneTerm) (one_meeting : OneMeeting) (one_stepping : OneStepping) where
   -- ---- matches and splits
 
   -- one listing is found at most
@@ -134,6 +150,43 @@ module _ (one_listing : OneListing) (one_splits : OneSplitsListing) (one_term : 
       once-steps b.relation.rules b.answer text other m n
       (subst (λ (r : Answer (List Step)). WritesSteps b.relation.rules r text m) s (subst (λ (R : Relation). WritesSteps R.rules a.answer text m) k a.written)) b.written
 
+  -- ---- premises
+
+  -- a premise finds one list of bindings at most, or one fault
+  once-finds : (P : Program) (q : Premise) → Once (FindsMet P q)
+  once-finds P q r s a b =
+      let j : a.judgement ≡ b.judgement = let e = a.named in let f = b.named in cc in
+      let k : a.language ≡ b.language =
+      let e : language_named P b.judgement.language ≡ Some a.language = subst (λ (J : Judgement). language_named P J.language ≡ Some a.language) j a.known in
+      let f = b.known in
+      cc in
+      one_meeting b.language P height q r s (subst (λ (L : Language). Meets L (calls_at P height) q r) k a.meets) b.meets
+
+  -- of what is found a template has one list of values at most, or one fault
+  once-values : (P : Program) (t : Template) (found : Answer (List Binding)) → Once (ValuesOf (calls_at P height) t found)
+  once-values P t (evaluation.value bs) r s (values_of h) (values_of k) =
+      let R : Binding → Answer Tree → Type 0 = λ b. Makes (calls_at P height) b t in
+      once-then (Gather (λ b. Single (R b)) bs) _ (once-gather (λ b. Single (R b)) (λ b. once-single (R b) (one_term P height b t)) bs)
+      (λ ts. once-lists tree_cmp (λ u. In u ts) tree_cmp-total) r s h k
+  once-values P t (fault f) r s no_bindings no_bindings = refl
+
+  once-holds : (P : Program) (q : Premise) → OnceWritten (IsHoldsAnswer P q)
+  once-holds P q text other m n a b =
+      let s : a.found ≡ b.found = once-finds P q a.found b.found a.finds b.finds in
+      once-met b.found text other m n (subst (λ (r : Answer (List Binding)). WritesWhether r text m) s a.written) b.written
+
+  once-by-values : (P : Program) (q : Premise) (t : Template) → OnceWritten (IsValuesAnswer P q t)
+  once-by-values P q t text other m n a b =
+      let s : a.found ≡ b.found = once-finds P q a.found b.found a.finds b.finds in
+      let v : a.values ≡ b.values =
+      once-values P t b.found a.values b.values (subst (λ (r : Answer (List Binding)). ValuesOf (calls_at P height) t r a.values) s a.made) b.made in
+      once-written_values b.values text other m n (subst (λ (r : Answer (List Tree)). WritesValues r text m) v a.written) b.written
+
+  -- with a template and without one
+  once-premise : (P : Program) (q : Premise) (o : Option Template) → OnceWritten (IsPremiseAnswer P q o)
+  once-premise P q None = once-holds P q
+  once-premise P q (Some t) = once-by-values P q t
+
   -- ---- queries
 
   -- a host expression makes one term, or has one fault
@@ -160,6 +213,7 @@ module _ (one_listing : OneListing) (one_splits : OneSplitsListing) (one_term : 
   one_answer P (whether name p h) = over-once P h (IsWhetherAnswer P name p) (once-whether P name p)
   one_answer P (splits name p h) = over-once P h (IsSplitsAnswer P name p) (once-splits P name p)
   one_answer P (value h) = over-once P h IsValueAnswer once-value
+  one_answer P (holds q t) = once-premise P q t
   one_answer P (reducts name h) = over-once P h (IsReductsAnswer P name) (once-by-reducts P name)
   one_answer P (tagged name h) = over-once P h (IsTaggedAnswer P name) (once-by-steps P name)
 

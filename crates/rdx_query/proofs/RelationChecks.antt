@@ -13,15 +13,15 @@ use Rattle.rdx_grammar.specs.Refusal.{Refusal, refusal_of, named, or_else, first
 use Rattle.rdx_grammar.specs.Unbuilt.{has_word_to_come}
 use Rattle.rdx_grammar.specs.declared.shape.fault.DefFault.{DefFault}
 use Rattle.rdx_grammar.specs.declared.shape.fault.DefFault.TheVariants.{Refused, NoMemory}
-use Rattle.rdx_grammar.specs.declared.shape.fault.DefKind.TheVariants.{Shape, BadName, BadPattern, EllipsisDepth, UnknownName, EllipsisVariable, RacketEscape}
+use Rattle.rdx_grammar.specs.declared.shape.fault.DefKind.TheVariants.{BadName}
 use Rattle.rdx_grammar.specs.declared.shape.fault.DefRefusal.{DefRefusal}
 use Rattle.rdx_defs.specs.Answers.{ReadsRelation}
 use Rattle.rdx_defs.specs.RelationForms.{RelationForm, is_keyword, may_name, relation_among, relation_over, relation_form}
 use Rattle.rdx_defs.specs.RelationReading.{relation_reading}
-use Rattle.rdx_defs.specs.RelationRefusal.{stands_refusal, relation_refusal}
+use Rattle.rdx_defs.specs.RelationRefusal.{relation_refusal}
 use Rattle.rdx_defs.specs.RelationStands.{relation_stands}
 use Rattle.rdx_defs.specs.Scope.{Scope}
-use Rattle.rdx_defs.specs.StandChecks.{shape_at, repeated_at, repeated_name_at, bad_name_at, bad_place_at, depth_fault_at, bad_arrow_at, undriven_at, escape_at}
+use Rattle.rdx_defs.specs.StandRefusal.{stands_refusal}
 use Rattle.rdx_defs.specs.Stands.{Stand}
 use Rattle.rdx_query.specs.Definitions as defined
 use Rattle.rdx_query.specs.File.{by_check}
@@ -33,11 +33,12 @@ use Rattle.rdx_query.specs.LanguageForms.{named_base, unknown_at, name_taken_at}
 use Rattle.rdx_query.specs.RelationForms as forms
 use Rattle.rdx_query.specs.RelationForms.{DefineParts, define_parts, bad_relation_at, define_refusal, define_refusal_by, defined_relation}
 use Rattle.rdx_query.specs.Inside.Defining.{parts_refusal, parts_relation, RelatesOver, RelatesBy}
-use Rattle.rdx_query.specs.Inside.Earlier.{number, earlier, IsFaultAt, IsRefusedBy, IsUnless}
+use Rattle.rdx_query.specs.Inside.Earlier.{earlier, IsFaultAt, IsRefusedBy, IsUnless}
 use Rattle.rdx_query.specs.Inside.PartViews.{Defining, defining_by, is_more, second_among, may_name_item, language_item}
-use Rattle.rdx_query.proofs.CheckNumbers.{or_none, HasNumber, Checks, AreChecks, refused, merge, merged, unnamed-number, named-number}
+use Rattle.rdx_query.proofs.CheckNumbers.{or_none, HasNumber, Checks, AreChecks, refused, merge, merged, named-number}
 use Rattle.rdx_grammar.proofs.Firsts.{none_of}
 use Rattle.rdx_query.proofs.LanguageChecks.{unknown-number, taken-number}
+use Rattle.rdx_query.proofs.StandNumbers.{stand_checks, stand-checks}
 use Rattle.rdx_query.proofs.FormParts.{unbuilt_at-built, define-items, parts-readable, parts-built}
 
 -- ---- the language's name
@@ -78,63 +79,8 @@ bad-number : (b : Bool) (x : Sexp) → HasNumber 4 (if b then Some (named BadNam
 bad-number true x r e = named-number BadName (Some x) r e
 bad-number false x r e = absurd cc
 
--- of the check of the names of cases
-repeated-number : (o : Option Sexp) → HasNumber 3 (option_map repeated_at o)
-repeated-number None r e = absurd cc
-repeated-number (Some d) r e = let f : repeated_at d ≡ r = cc in ap (λ (q : Refusal). number q.kind) (sym f)
+-- ---- the checks of the names
 
--- ---- the checks
-
--- those of the list
-abbrev list_checks : Scope → List (List ℕ) → List Stand → Checks
-list_checks S ns ss =
-    (1, shape_at ss)
-    ∷ (3, repeated_name_at ss)
-    ∷ (4, bad_name_at ss)
-    ∷ (5, bad_place_at S ns ss)
-    ∷ (6, depth_fault_at S ns ss)
-    ∷ (8, bad_arrow_at ss)
-    ∷ (9, undriven_at S ss)
-    ∷ (10, escape_at S ss)
-    ∷ []
-
-list-checks : (S : Scope) (ns : List (List ℕ)) (ss : List Stand) → AreChecks 0 (list_checks S ns ss)
-list-checks S ns ss = (
-  omega arith,
-  (
-    unnamed-number Shape _,
-    (
-      omega arith,
-      (
-        repeated-number _,
-        (
-          omega arith,
-          (
-            named-number BadName _,
-            (
-              omega arith,
-              (
-                unnamed-number BadPattern _,
-                (
-                  omega arith,
-                  (
-                    named-number EllipsisDepth _,
-                    (
-                      omega arith,
-                      (named-number UnknownName _, (omega arith, (unnamed-number EllipsisVariable _, (omega arith, (unnamed-number RacketEscape _, tt))))),
-                    ),
-                  ),
-                ),
-              ),
-            ),
-          ),
-        ),
-      ),
-    ),
-  ),
-)
-
--- those of the names
 abbrev name_checks : Known → Option Sexp → Sexp → Checks
 name_checks K o x = (2, unknown_at K o) ∷ (3, name_taken_at K x) ∷ (4, bad_relation_at x) ∷ []
 
@@ -241,7 +187,7 @@ module _ (K : Known) (d x body : Sexp) (e : define_parts d ≡ Some (record { na
 
   -- what stands in the list
   abbrev stands : List Stand
-  stands = relation_stands names body (relation_form body)
+  stands = relation_stands K.scope names body (relation_form body)
 
   -- the list can be read
   pub body-readable : IsReadable d → IsReadable body
@@ -256,23 +202,23 @@ module _ (K : Known) (d x body : Sexp) (e : define_parts d ≡ Some (record { na
   body-built = let k = define-items d its_parts e in (parts-built d (k.head ∷ x ∷ body ∷ []) k.are b).1.1.0
 
   -- the list is refused by its checks
-  body-refusal : relation_refusal K.scope names body ≡ refused (list_checks K.scope names stands)
+  body-refusal : relation_refusal K.scope names body ≡ refused (stand_checks K.scope names stands)
   body-refusal =
       (λ i. or_else (unbuilt_at-built body body-built i) (or_else (stands_refusal K.scope names stands) None))
-      ∙ or_none (refused (list_checks K.scope names stands))
+      ∙ or_none (refused (stand_checks K.scope names stands))
 
   -- the form is refused by those of the names and of the list
-  chain : define_refusal K d ≡ refused (merge (name_checks K (language_item body) x) (list_checks K.scope names stands))
+  chain : define_refusal K d ≡ refused (merge (name_checks K (language_item body) x) (stand_checks K.scope names stands))
   chain =
       ap (define_refusal_by K d) e
       ∙ λ i. or_else (unbuilt_at-built d b i) (refused (merge (name_checks K (language-item body i) x)
-      (list_checks K.scope (names_of (named_base K (language-item body i))) (relation_stands (names_of (named_base K (language-item body i))) body (relation_form body)))))
+      (stand_checks K.scope (names_of (named_base K (language-item body i))) (relation_stands K.scope (names_of (named_base K (language-item body i))) body (relation_form body)))))
 
   -- so the parts are
   define-refusal : define_refusal K d ≡ parts_refusal K x body
   define-refusal =
       chain
-      ∙ merged 0 (name_checks K (language_item body) x) (list_checks K.scope names stands) (name-checks K (language_item body) x) (list-checks K.scope names stands)
+      ∙ merged 0 (name_checks K (language_item body) x) (stand_checks K.scope names stands) (name-checks K (language_item body) x) (stand-checks K.scope names stands)
       ∙ ap (earlier (refused (name_checks K (language_item body) x))) (sym body-refusal)
 
   -- the relation that the form defines

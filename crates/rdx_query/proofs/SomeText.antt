@@ -12,22 +12,26 @@ use Rattle.rdx_lang.specs.Decompositions.{Decomposition}
 use Rattle.rdx_lang.specs.Laws.{FreeOrRecursive, SomeListing, SomeSplitsListing}
 use Rattle.rdx_lang.specs.Members.{In}
 use Rattle.rdx_lang.specs.Patterns.{Pattern, Language}
-use Rattle.rdx_lang.specs.Programs.{Program, Relation, Rule, language_named}
-use Rattle.rdx_lang.specs.Templates.{Host}
+use Rattle.rdx_lang.specs.Programs.{Premise, Program, Relation, Rule, language_named}
+use Rattle.rdx_lang.specs.Templates.{Host, Template}
 use Rattle.rdx_lang.specs.Templates as template
 use Rattle.rdx_eval.specs.Answers as evaluation
-use Rattle.rdx_eval.specs.Answers.{Answer, fault}
+use Rattle.rdx_eval.specs.Answers.{Answer, fault, Gather, Single}
 use Rattle.rdx_eval.specs.Heights.{calls_at, height}
-use Rattle.rdx_eval.specs.Laws.{HasAnswer, AreFree, SomeTerm}
+use Rattle.rdx_eval.specs.Instantiation.{Makes}
+use Rattle.rdx_eval.specs.Judgements as judging
+use Rattle.rdx_eval.specs.Laws.{HasAnswer, AreFree, SomeMeeting, SomeTerm}
+use Rattle.rdx_eval.proofs.SomeAnswer.{some-then, some-gather, some-single, some-lists}
 use Rattle.rdx_reduce.specs.Laws.{SomeStepping}
 use Rattle.rdx_reduce.specs.Relations.{StepsOver, AreSteps}
 use Rattle.rdx_reduce.specs.Steps.{Step}
-use Rattle.rdx_query.specs.AnswerText.{value_line, matches_text, whether_text, splits_text, reducts_text, steps_text, fault_line}
+use Rattle.rdx_query.specs.AnswerText.{answers_text, holds_text, value_line, matches_text, whether_text, splits_text, reducts_text, steps_text, fault_line}
 use Rattle.rdx_query.specs.Answering.{HostValue, Over, over_value, over_fault, IsValueAnswer, IsAnswer, AreAnswers, no_answers, more_answers}
 use Rattle.rdx_query.specs.File.{known_before}
+use Rattle.rdx_query.specs.HoldsAnswers.{FindsMet, WritesWhether, whether_found, not_found, ValuesOf, values_of, no_bindings, WritesValues, values_found, no_values, IsPremiseAnswer}
 use Rattle.rdx_query.specs.Laws.{AreAccepted, AreRefused, DoWrite}
 use Rattle.rdx_query.specs.MatchAnswers.{Finds, FindsSplits, IsMatchesAnswer, IsWhetherAnswer, IsSplitsAnswer}
-use Rattle.rdx_query.specs.Queries.{Query, matches, whether, splits, value, reducts, tagged, NamesKnown, KnowsRelation}
+use Rattle.rdx_query.specs.Queries.{Query, matches, whether, splits, value, holds, reducts, tagged, NamesKnown, KnowsJudgement, KnowsRelation}
 use Rattle.rdx_query.specs.StepAnswers.{reducts_in, named_steps, AreReducts, WritesReducts, reducts_found, no_reducts, WritesSteps, steps_found, no_steps, IsReductsAnswer, IsTaggedAnswer}
 use Rattle.rdx_query.specs.Views.{AllNamesKnown}
 use Rattle.rdx_query.proofs.AcceptedOrRefused.{accepted_or_refused}
@@ -69,10 +73,21 @@ write-steps : (rs : List Rule) (a : Answer (List Step)) → DoesWrite (WritesSte
 write-steps rs (evaluation.value ss) = record { text = steps_text (named_steps rs ss); met = true; written = steps_found refl refl }
 write-steps rs (fault f) = record { text = fault_line f; met = false; written = no_steps refl refl }
 
+-- ---- what is written over a premise
+
+write-met : (a : Answer (List Binding)) → DoesWrite (WritesWhether a)
+write-met (evaluation.value bs) = record { text = holds_text (judging.are_some bs); met = true; written = whether_found refl refl }
+write-met (fault f) = record { text = fault_line f; met = false; written = not_found refl refl }
+
+write-found_values : (a : Answer (List Tree)) → DoesWrite (WritesValues a)
+write-found_values (evaluation.value ts) = record { text = answers_text ts; met = true; written = values_found refl refl }
+write-found_values (fault f) = record { text = fault_line f; met = false; written = no_values refl refl }
+
 -- ---- where each language is free of left recursion or has a first recursive nonterminal, patterns have their listings where it is free, and
 -- rules the listings of their steps; and templates make something
 
-module _ (decided : FreeOrRecursive) (some : SomeListing) (some_splits : SomeSplitsListing) (some_term : SomeTerm) (some_stepping : SomeStepping) where
+module _ (decided : FreeOrRecursive) (some : SomeListing) (some_splits : SomeSplitsListing) (some_term : SomeTerm)
+    (some_meeting : SomeMeeting) (some_stepping : SomeStepping) where
   -- bindings are found
   are_found : (P : Program) (name : List ℕ) (p : Pattern) (t : Tree) → AreFree P → (o : Option Language) → language_named P name ≡ o → IsSome o → AreFound P name p t
   are_found P name p t f None e n = absurd cc
@@ -93,6 +108,35 @@ module _ (decided : FreeOrRecursive) (some : SomeListing) (some_splits : SomeSpl
   are_steps P R t f (Some L) e n =
       let s = some_stepping L P height t R.rules (f L (language-among P.languages R.language L e)) f in
       record { answer = s.answer; allowed = subst (λ (o : Option Language). StepsOver o (calls_at P height) t R.rules s.answer) (sym e) s.allowed }
+
+  -- ---- the answers over a premise
+
+  -- bindings meet it, or there is a fault
+  are_met : (P : Program) (q : Premise) → AreFree P → (n : KnowsJudgement P q.judgement) → (o : Option Language) → language_named P n.judgement.language ≡ o → IsSome o → HasAnswer (FindsMet P q)
+  are_met P q f n None e h = absurd cc
+  are_met P q f n (Some L) e h =
+      let s = some_meeting L P height q (f L (language-among P.languages n.judgement.language L e)) f in
+      record { answer = s.answer; allowed = record { judgement = n.judgement; named = n.named; language = L; known = e; meets = s.allowed } }
+
+  -- a template has values of what is found, or there is a fault
+  are_values : (P : Program) (t : Template) → AreFree P → (found : Answer (List Binding)) → HasAnswer (ValuesOf (calls_at P height) t found)
+  are_values P t f (evaluation.value bs) =
+      let R : Binding → Answer Tree → Type 0 = λ b. Makes (calls_at P height) b t in
+      let s = some-then (Gather (λ b. Single (R b)) bs) _ (some-gather (λ b. Single (R b)) (λ b. some-single (R b) (some_term P height b t f)) bs)
+      (some-lists tree_cmp tree_cmp-total tree_cmp-equal) in
+      record { answer = s.answer; allowed = values_of s.allowed }
+  are_values P t f (fault p) = record { answer = fault p; allowed = no_bindings }
+
+  write-premise : (P : Program) (q : Premise) (o : Option Template) → AreFree P → KnowsJudgement P q.judgement → DoesWrite (IsPremiseAnswer P q o)
+  write-premise P q None f n =
+      let s = are_met P q f n (language_named P n.judgement.language) refl n.language in
+      let w = write-met s.answer in
+      record { text = w.text; met = w.met; written = record { found = s.answer; finds = s.allowed; written = w.written } }
+  write-premise P q (Some t) f n =
+      let s = are_met P q f n (language_named P n.judgement.language) refl n.language in
+      let v = are_values P t f s.answer in
+      let w = write-found_values v.answer in
+      record { text = w.text; met = w.met; written = record { found = s.answer; finds = s.allowed; values = v.answer; made = v.allowed; written = w.written } }
 
   -- ---- the answers to each kind of query over a term
 
@@ -146,6 +190,7 @@ module _ (decided : FreeOrRecursive) (some : SomeListing) (some_splits : SomeSpl
   has_answer P (whether name p h) f n = write-over P h (IsWhetherAnswer P name p) f (write-whether P name p f n)
   has_answer P (splits name p h) f n = write-over P h (IsSplitsAnswer P name p) f (write-splits P name p f n)
   has_answer P (value h) f n = write-over P h IsValueAnswer f write-value
+  has_answer P (holds q t) f n = write-premise P q t f n
   has_answer P (reducts name h) f n = write-over P h (IsReductsAnswer P name) f (write-by-reducts P name f n)
   has_answer P (tagged name h) f n = write-over P h (IsTaggedAnswer P name) f (write-by-steps P name f n)
 

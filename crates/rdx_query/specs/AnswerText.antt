@@ -1,5 +1,5 @@
 -- The text of an answer: how many there are, and then a line for each.
-use Rattle.std.specs.Prelude.{ℕ, Bool, ◌&&◌, nat_lt, List, [], ◌∷◌, ◌++◌, Option, Some, None, map, length, codes, decimal, if◌then◌else◌}
+use Rattle.std.specs.Prelude.{ℕ, Bool, true, false, ◌&&◌, nat_lt, List, [], ◌∷◌, ◌++◌, Option, Some, None, map, length, codes, decimal, if◌then◌else◌}
 use Rattle.rdx_term.specs.Context.{is_context}
 use Rattle.rdx_term.specs.Path.{path}
 use Rattle.rdx_term.specs.Text.{tree_text, spaced_text}
@@ -97,6 +97,15 @@ whether_text (b ∷ bs) = codes "matches #t\n"
 -- `value t`
 abbrev pub value_line : Tree → List ℕ
 value_line t = codes "value " ++ tree_text t ++ codes "\n"
+
+-- whether a premise is met
+abbrev pub holds_text : Bool → List ℕ
+holds_text true = codes "holds #t\n"
+holds_text false = codes "holds #f\n"
+
+-- `answers N`, and the N terms
+abbrev pub answers_text : List Tree → List ℕ
+answers_text ts = counted_text (codes "answers") (map tree_text ts)
 
 -- `reducts N`, and the N terms
 abbrev pub reducts_text : List Tree → List ℕ

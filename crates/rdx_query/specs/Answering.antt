@@ -11,8 +11,9 @@ use Rattle.rdx_eval.specs.Heights.{calls_at, height}
 use Rattle.rdx_eval.specs.Instantiation.{HostMakes}
 use Rattle.rdx_query.specs.AnswerText.{value_line, fault_line}
 use Rattle.rdx_query.specs.File.{IsFile}
+use Rattle.rdx_query.specs.HoldsAnswers.{IsPremiseAnswer}
 use Rattle.rdx_query.specs.MatchAnswers.{IsMatchesAnswer, IsWhetherAnswer, IsSplitsAnswer}
-use Rattle.rdx_query.specs.Queries.{Query, matches, whether, splits, value, reducts, tagged}
+use Rattle.rdx_query.specs.Queries.{Query, matches, whether, splits, value, holds, reducts, tagged}
 use Rattle.rdx_query.specs.StepAnswers.{IsReductsAnswer, IsTaggedAnswer}
 
 -- what a host expression of a query makes, where no name is bound
@@ -35,6 +36,7 @@ IsAnswer P (matches name p h) text met = Over P h (IsMatchesAnswer P name p) tex
 IsAnswer P (whether name p h) text met = Over P h (IsWhetherAnswer P name p) text met
 IsAnswer P (splits name p h) text met = Over P h (IsSplitsAnswer P name p) text met
 IsAnswer P (value h) text met = Over P h IsValueAnswer text met
+IsAnswer P (holds q t) text met = IsPremiseAnswer P q t text met
 IsAnswer P (reducts name h) text met = Over P h (IsReductsAnswer P name) text met
 IsAnswer P (tagged name h) text met = Over P h (IsTaggedAnswer P name) text met
 

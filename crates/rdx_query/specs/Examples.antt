@@ -1,7 +1,7 @@
 -- Worked examples: short files, with the text that they write or their refusal. They are proved, as the clauses of `laws::worked_examples`.
 use Rattle.std.specs.Prelude.{◌≡◌, ℕ, true, false, pos, List, [], ◌∷◌, Option, Some, None, codes}
 use Rattle.rdx_base.specs.declared.place.Span.{Span}
-use Rattle.rdx_sexp.specs.Sexp.{Sexp, symbol, integer, text, leaf, list, sexps}
+use Rattle.rdx_sexp.specs.Sexp.{Sexp, symbol, integer, text, keyword, leaf, list, sexps}
 use Rattle.rdx_term.specs.Tree as tree
 use Rattle.rdx_term.specs.Tree.{Tree}
 use Rattle.rdx_lang.specs.Bindings.{Value, one, many, len, values}
@@ -72,6 +72,14 @@ defines_R s =
 abbrev pub applies_R : Span → List ℕ → Sexp
 applies_R s head = form s (word s head ∷ word s (codes "R") ∷ asks_term s (number s 1) ∷ [])
 
+-- `(J d ...)`
+abbrev pub about_J : Span → List Sexp → Sexp
+about_J s ds = form s (word s (codes "J") ∷ ds)
+
+-- `(define-judgment-form L #:mode (J i ...) r ...)`
+abbrev pub defines_J : Span → List Sexp → List Sexp → Sexp
+defines_J s is rs = form s (word s (codes "define-judgment-form") ∷ word s (codes "L") ∷ leaf (keyword (codes "mode")) s ∷ about_J s is ∷ rs)
+
 -- ---- what files write
 
 -- Answers come in the file's order. The pairs of a binding come by the bytes of their names, whatever the order in the pattern, and a match
@@ -115,6 +123,27 @@ abbrev pub OneReductTwoSteps : Type 0
 OneReductTwoSteps = (s : Span) →
     Writes (defines_L s ∷ defines_R s ∷ applies_R s (codes "apply-reduction-relation") ∷ applies_R s (codes "apply-reduction-relation/tag-with-names") ∷ [])
     (codes "reducts 1\n  2\nsteps 2\n  a 2\n  \"b c\" 2\n") true
+
+-- A premise is met where its judgement has outputs for the inputs, also outputs of no terms: `(define-language L (e 1)) (define-judgment-form L
+-- #:mode (J I) [(J 1)]) (judgment-holds (J 1))`.
+abbrev pub PremiseMet : Type 0
+PremiseMet = (s : Span) →
+    Writes
+    (defines_L s
+    ∷ defines_J s (word s (codes "I") ∷ []) (form s (about_J s (number s 1 ∷ []) ∷ []) ∷ [])
+    ∷ form s (word s (codes "judgment-holds") ∷ about_J s (number s 1 ∷ []) ∷ []) ∷ [])
+    (codes "holds #t\n") true
+
+-- All rules give their outputs, and what the template makes of them is listed ascending, not by the rules: `(define-language L (e 1))
+-- (define-judgment-form L #:mode (J I O) [(J 1 3)] [(J 1 2)]) (judgment-holds (J 1 any) any)`.
+abbrev pub OutputsListed : Type 0
+OutputsListed = (s : Span) →
+    let rule : ℕ → Sexp = λ n. form s (about_J s (number s 1 ∷ number s n ∷ []) ∷ []) in
+    Writes
+    (defines_L s
+    ∷ defines_J s (word s (codes "I") ∷ word s (codes "O") ∷ []) (rule 3 ∷ rule 2 ∷ [])
+    ∷ form s (word s (codes "judgment-holds") ∷ about_J s (number s 1 ∷ word s (codes "any") ∷ []) ∷ word s (codes "any") ∷ []) ∷ [])
+    (codes "answers 2\n  2\n  3\n") true
 
 -- ---- how values are printed
 

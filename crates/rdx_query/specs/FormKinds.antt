@@ -3,20 +3,23 @@ use Rattle.std.specs.Prelude.{ℕ, List, [], ◌∷◌, Option, Some, None, byte
 use Rattle.rdx_sexp.specs.Sexp.{symbol, Sexp, leaf}
 use Rattle.rdx_grammar.specs.Parts.{parts}
 
--- what a form defines: a language by itself, one that extends another, a metafunction, or a relation
+-- what a form defines: a language by itself, one that extends another, a metafunction, a judgement, or a relation
 pub data DefinitionKind : Type 0 where
   language : DefinitionKind
   extension : DefinitionKind
   metafunction : DefinitionKind
+  judgement : DefinitionKind
   relation : DefinitionKind
 
 -- what a form asks: the bindings by which a pattern matches a term, whether there are some, or what the pattern splits the term into; what a
--- host expression makes; the terms to which a relation leads from a term, or the steps with the names of their rules
+-- host expression makes; whether a premise is met, or what a template makes of the bindings that meet it; the terms to which a relation leads from
+-- a term, or the steps with the names of their rules
 pub data QueryKind : Type 0 where
   matches : QueryKind
   whether : QueryKind
   splits : QueryKind
   value : QueryKind
+  holds : QueryKind
   reducts : QueryKind
   tagged : QueryKind
 
@@ -39,16 +42,16 @@ heads =
     (codes "define-language", defines language)
     ∷ (codes "define-extended-language", defines extension)
     ∷ (codes "define-metafunction", defines metafunction)
+    ∷ (codes "define-judgment-form", defines judgement)
     ∷ (codes "define", defines relation)
     ∷ (codes "redex-match", asks matches)
     ∷ (codes "redex-match?", asks whether)
     ∷ (codes "redex-decompose", asks splits)
+    ∷ (codes "judgment-holds", asks holds)
     ∷ (codes "apply-reduction-relation", asks reducts)
     ∷ (codes "apply-reduction-relation/tag-with-names", asks tagged)
     ∷ (codes "require", passes wants)
     ∷ (codes "provide", passes offers)
-    ∷ (codes "define-judgment-form", to_come)
-    ∷ (codes "judgment-holds", to_come)
     ∷ (codes "stepper", to_come)
     ∷ (codes "test-equal", to_come)
     ∷ (codes "test-->", to_come)

@@ -5,11 +5,13 @@ use Rattle.rdx_sexp.specs.Sexp.{Sexp}
 use Rattle.rdx_grammar.specs.Forms.{language_form, extension_form}
 use Rattle.rdx_grammar.specs.Refusal.{Refusal, unnamed}
 use Rattle.rdx_grammar.specs.declared.shape.fault.DefKind.TheVariants.{Unbuilt}
-use Rattle.rdx_query.specs.Definitions.{Defined, language, metafunction, relation}
+use Rattle.rdx_query.specs.Definitions.{Defined, language, metafunction, judgement, relation}
 use Rattle.rdx_query.specs.FormKinds as kind
 use Rattle.rdx_query.specs.FormKinds.{DefinitionKind, QueryKind, PassedKind, FormKind, defines, asks, passes, to_come, form_kind}
 use Rattle.rdx_query.specs.Known.{Known}
+use Rattle.rdx_query.specs.HoldsForms.{holds_parts, holds_refusal, holds_query}
 use Rattle.rdx_query.specs.HostForms.{value_refusal, value_query}
+use Rattle.rdx_query.specs.JudgementForms.{define_judgement_refusal, defined_judgement}
 use Rattle.rdx_query.specs.LanguageForms.{plain_refusal, plain_language, extension_refusal, extended_language, language_escape}
 use Rattle.rdx_query.specs.MatchForms.{query_parts, query_refusal, match_query}
 use Rattle.rdx_query.specs.MetafunctionForms.{function_refusal, defined_function}
@@ -25,6 +27,7 @@ abbrev pub definition_refusal : Known → Sexp → DefinitionKind → Option Ref
 definition_refusal K d kind.language = plain_refusal K d
 definition_refusal K d kind.extension = extension_refusal K d
 definition_refusal K d kind.metafunction = function_refusal K d
+definition_refusal K d kind.judgement = define_judgement_refusal K d
 definition_refusal K d kind.relation = define_refusal K d
 
 -- the refusal by what comes behind left recursion
@@ -32,6 +35,7 @@ abbrev pub definition_late_refusal : Sexp → DefinitionKind → Option Refusal
 definition_late_refusal d kind.language = language_escape d (language_form d)
 definition_late_refusal d kind.extension = language_escape d (extension_form d)
 definition_late_refusal d kind.metafunction = None
+definition_late_refusal d kind.judgement = None
 definition_late_refusal d kind.relation = None
 
 -- what it defines, if it has the parts
@@ -39,6 +43,7 @@ abbrev pub definition_of : Known → Sexp → DefinitionKind → Option Defined
 definition_of K d kind.language = option_map language (plain_language d)
 definition_of K d kind.extension = option_map language (extended_language K d)
 definition_of K d kind.metafunction = option_map metafunction (defined_function K d)
+definition_of K d kind.judgement = option_map judgement (defined_judgement K d)
 definition_of K d kind.relation = option_map relation (defined_relation K d)
 
 -- ---- questions: a case for each kind
@@ -49,6 +54,7 @@ question_refusal K d kind.matches = query_refusal K d (query_parts d)
 question_refusal K d kind.whether = query_refusal K d (query_parts d)
 question_refusal K d kind.splits = query_refusal K d (query_parts d)
 question_refusal K d kind.value = value_refusal K d
+question_refusal K d kind.holds = holds_refusal K d (holds_parts d)
 question_refusal K d kind.reducts = steps_refusal K d (step_parts d)
 question_refusal K d kind.tagged = steps_refusal K d (step_parts d)
 
@@ -58,6 +64,7 @@ asked_query K d kind.matches = match_query K matches d
 asked_query K d kind.whether = match_query K whether d
 asked_query K d kind.splits = match_query K splits d
 asked_query K d kind.value = Some (value_query K d)
+asked_query K d kind.holds = holds_query K d
 asked_query K d kind.reducts = steps_query K reducts d
 asked_query K d kind.tagged = steps_query K tagged d
 

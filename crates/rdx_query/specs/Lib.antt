@@ -5,14 +5,17 @@ pub mod LanguageForms
 pub mod Queries
 pub mod HostForms
 pub mod MatchForms
+pub mod HoldsForms
 pub mod StepForms
 pub mod RelationForms
 pub mod MetafunctionForms
+pub mod JudgementForms
 pub mod PassedForms
 pub mod Forms
 pub mod File
 pub mod AnswerText
 pub mod MatchAnswers
+pub mod HoldsAnswers
 pub mod StepAnswers
 pub mod Answering
 pub mod Views

@@ -8,7 +8,7 @@ use Rattle.rdx_grammar.specs.Unbuilt.{unbuilt_at}
 use Rattle.rdx_defs.specs.MetafunctionForms.{MetafunctionForm, metafunction_form, function_in}
 use Rattle.rdx_defs.specs.MetafunctionReading.{metafunction_reading}
 use Rattle.rdx_defs.specs.MetafunctionStands.{metafunction_stands}
-use Rattle.rdx_defs.specs.StandChecks.{shape_at, bad_name_at, bad_place_at, depth_fault_at, undriven_at, escape_at}
+use Rattle.rdx_defs.specs.StandChecks.{shape_at, bad_name_at, bad_place_at, depth_fault_at, undriven_at, escape_at, unknown_name_at, mode_fault_at}
 use Rattle.rdx_defs.specs.Stands.{Stand}
 use Rattle.rdx_query.specs.Known.{Known}
 use Rattle.rdx_query.specs.LanguageForms.{named_base, unknown_at, name_taken_at}
@@ -42,13 +42,15 @@ function_refusal_over K d m ns ss =
     ∷ bad_name_at ss  -- S4
     ∷ bad_place_at K.scope ns ss  -- S5
     ∷ depth_fault_at K.scope ns ss  -- S6
+    ∷ unknown_name_at K.scope ss  -- S8
     ∷ undriven_at K.scope ss  -- S9
     ∷ escape_at K.scope ss  -- S10
+    ∷ mode_fault_at ss  -- S11
     ∷ [])
 
 -- the refusal of the form d with these parts
 abbrev pub function_refusal_by : Known → Sexp → Option MetafunctionForm → Option Refusal
-function_refusal_by K d m = function_refusal_over K d m (function_names K m) (metafunction_stands (function_names K m) d m)
+function_refusal_by K d m = function_refusal_over K d m (function_names K m) (metafunction_stands K.scope (function_names K m) d m)
 
 -- the refusal of `(define-metafunction ...)`
 abbrev pub function_refusal : Known → Sexp → Option Refusal

@@ -1,8 +1,8 @@
 -- What a form can ask.
-use Rattle.std.specs.Prelude.{◌≡◌, ℕ, List, Some, IsSome}
+use Rattle.std.specs.Prelude.{◌≡◌, ℕ, List, Option, Some, IsSome}
 use Rattle.rdx_lang.specs.Patterns.{Pattern}
-use Rattle.rdx_lang.specs.Programs.{Program, Relation, language_named, relation_named}
-use Rattle.rdx_lang.specs.Templates.{Host}
+use Rattle.rdx_lang.specs.Programs.{Judgement, Premise, Program, Relation, language_named, judgement_named, relation_named}
+use Rattle.rdx_lang.specs.Templates.{Host, Template}
 
 -- a query, over what a host expression makes: in the language of a name, the bindings by which a pattern matches it, whether there are some, or
 -- what the pattern splits it into; itself; or, by the relation of a name, the terms that it leads to, or the steps with the names of their rules
@@ -11,6 +11,8 @@ pub data Query : Type 0 where
   whether : List ℕ → Pattern → Host → Query
   splits : List ℕ → Pattern → Host → Query
   value : Host → Query
+  -- of a premise, whether it is met, or what a template makes of the bindings that meet it
+  holds : Premise → Option Template → Query
   reducts : List ℕ → Host → Query
   tagged : List ℕ → Host → Query
 
@@ -20,11 +22,18 @@ pub record KnowsRelation (P : Program) (x : List ℕ) : Type 0 where
   pub named : relation_named P x ≡ Some relation
   pub language : IsSome (language_named P relation.language)
 
+-- a judgement of this name is known, and its language is
+pub record KnowsJudgement (P : Program) (x : List ℕ) : Type 0 where
+  pub judgement : Judgement
+  pub named : judgement_named P x ≡ Some judgement
+  pub language : IsSome (language_named P judgement.language)
+
 -- what the query names is known
 abbrev pub NamesKnown : Program → Query → Type 0
 NamesKnown P (matches name p h) = IsSome (language_named P name)
 NamesKnown P (whether name p h) = IsSome (language_named P name)
 NamesKnown P (splits name p h) = IsSome (language_named P name)
 NamesKnown P (value h) = Unit {0}
+NamesKnown P (holds q t) = KnowsJudgement P q.judgement
 NamesKnown P (reducts name h) = KnowsRelation P name
 NamesKnown P (tagged name h) = KnowsRelation P name

@@ -12,7 +12,7 @@ use Rattle.rdx_grammar.specs.declared.shape.fault.DefKind.TheVariants.{Shape, Ba
 use Rattle.rdx_defs.specs.RelationForms.{relation_form}
 use Rattle.rdx_defs.specs.RelationReading.{relation_reading}
 use Rattle.rdx_defs.specs.RelationStands.{relation_stands}
-use Rattle.rdx_defs.specs.StandChecks.{shape_at, repeated_name_at, bad_name_at, bad_place_at, depth_fault_at, bad_arrow_at, undriven_at, escape_at}
+use Rattle.rdx_defs.specs.StandChecks.{shape_at, repeated_name_at, bad_name_at, bad_place_at, depth_fault_at, unknown_name_at, undriven_at, escape_at, mode_fault_at}
 use Rattle.rdx_defs.specs.Stands.{Stand}
 use Rattle.rdx_query.specs.Known.{Known}
 use Rattle.rdx_query.specs.LanguageForms.{named_base, unknown_at, name_taken_at}
@@ -74,9 +74,10 @@ define_refusal_over K d q ns ss =
     ∷ bad_name_at ss  -- S4
     ∷ bad_place_at K.scope ns ss  -- S5
     ∷ depth_fault_at K.scope ns ss  -- S6
-    ∷ bad_arrow_at ss  -- S8
+    ∷ unknown_name_at K.scope ss  -- S8
     ∷ undriven_at K.scope ss  -- S9
     ∷ escape_at K.scope ss  -- S10
+    ∷ mode_fault_at ss  -- S11
     ∷ [])
 
 -- the nonterminals of the language that it names
@@ -89,7 +90,7 @@ define_refusal_by K d None = first_refusal (unbuilt_at d  -- S0
     ∷ Some (unnamed RacketEscape d)  -- S10
     ∷ [])
 define_refusal_by K d (Some q) =
-    define_refusal_over K d q (relation_names K q) (relation_stands (relation_names K q) q.body (relation_form q.body))
+    define_refusal_over K d q (relation_names K q) (relation_stands K.scope (relation_names K q) q.body (relation_form q.body))
 
 -- the refusal of `(define ...)`
 abbrev pub define_refusal : Known → Sexp → Option Refusal

@@ -1,10 +1,10 @@
 -- What the values of the code stand for.
-use Rattle.std.specs.Prelude.{List, [], ◌∷◌, map}
+use Rattle.std.specs.Prelude.{List, [], ◌∷◌, map, option_map}
 use Rattle.rdx_sexp.specs.Sexp.{Sexp}
 use Rattle.rdx_lang.specs.Checked.{pattern_in}
-use Rattle.rdx_lang.specs.ProgramView.{program_of}
+use Rattle.rdx_lang.specs.ProgramView.{premise_of, program_of}
 use Rattle.rdx_lang.specs.Programs.{Program}
-use Rattle.rdx_lang.specs.TemplateView.{host_of}
+use Rattle.rdx_lang.specs.TemplateView.{host_of, template_of}
 use Rattle.rdx_grammar.specs.Refusal.{refusal_of}
 use Rattle.rdx_grammar.specs.declared.shape.fault.DefFault.{DefFault}
 use Rattle.rdx_grammar.specs.declared.shape.fault.DefFault.TheVariants.{Refused, NoMemory}
@@ -12,7 +12,7 @@ use Rattle.rdx_query.specs.File.{IsFileRefusal}
 use Rattle.rdx_query.specs.Queries as model
 use Rattle.rdx_query.specs.declared.file.CheckedFile.{CheckedFile}
 use Rattle.rdx_query.specs.declared.file.Query.{Query}
-use Rattle.rdx_query.specs.declared.file.Query.TheVariants.{Match, Whether, Decompose, Value, Reducts, Tagged}
+use Rattle.rdx_query.specs.declared.file.Query.TheVariants.{Match, Whether, Decompose, Value, Holds, Reducts, Tagged}
 
 -- what a query of the code asks
 abbrev pub query_of : Query → model.Query
@@ -20,6 +20,7 @@ query_of (Match name p h) = model.matches name (pattern_in p) (host_of h)
 query_of (Whether name p h) = model.whether name (pattern_in p) (host_of h)
 query_of (Decompose name p h) = model.splits name (pattern_in p) (host_of h)
 query_of (Value h) = model.value (host_of h)
+query_of (Holds q t) = model.holds (premise_of q) (option_map template_of t)
 query_of (Reducts name h) = model.reducts name (host_of h)
 query_of (Tagged name h) = model.tagged name (host_of h)
 

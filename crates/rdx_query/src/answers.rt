@@ -1,5 +1,5 @@
 // The answers to the queries of a file.
-ghost use Rattle.std.specs.Prelude.{◌≡◌, IfOk};
+ghost use Rattle.std.specs.Prelude.{◌≡◌, Some, IfOk, IsSome};
 ghost use Rattle.rdx_eval.specs.Views as engines;
 ghost use Rattle.rdx_lang.specs.ProgramView.{program_of};
 ghost use Rattle.rdx_lang.specs.TemplateView.{host_of};
@@ -9,6 +9,7 @@ ghost use Rattle.rdx_query.specs.Queries.{NamesKnown};
 ghost use Rattle.rdx_query.specs.Views.{AllNamesKnown, program_in, queries_of, query_of};
 ghost use Rattle.rdx_term.specs.View.{tree_of};
 
+use crate::holds_answers::answer_holds;
 use crate::match_answers::{answer_matches, answer_splits, answer_whether};
 use crate::step_answers::{answer_reducts, answer_steps};
 use crate::texts::{write_fault, write_value_line};
@@ -83,19 +84,35 @@ fn try_answer(
         out.old.items out.new.items result }
     ensures same { engines.program_in engine.new ≡ engines.program_in engine.old }
 {
-    let t = engine.host(host(query), &Binding::new(Vec::new(alloc)))?;
-    try_answer_over(alloc, engine, query, &t, out)
+    match query {
+        Query::Holds(premise, template) => answer_holds(alloc, engine, premise, template, out),
+        Query::Match(_, _, host)
+        | Query::Whether(_, _, host)
+        | Query::Decompose(_, _, host)
+        | Query::Value(host)
+        | Query::Reducts(_, host)
+        | Query::Tagged(_, host) => try_answer_with(alloc, engine, query, host, out),
+    }
 }
 
-// The host expression of a query.
-fn host(query: &Query) -> &HostExpr
-    ensures { host_of result.now ≡ host_in (query_of query.now) }
+// Appends the answer to a query with this host expression, or gives the fault of it.
+fn try_answer_with(
+    alloc: Global,
+    engine: &mut Engine<Table>,
+    query: &Query,
+    host: &HostExpr,
+    out: &mut Vec<u8>,
+) -> Result<(), EvalFault>
+    requires known { NamesKnown (program_of (engines.program_in engine.old).now)
+        (query_of query.now) }
+    requires host { host_in (query_of query.now) ≡ Some (host_of host.now) }
+    ensures answer { Tries
+        (IsAnswer (program_of (engines.program_in engine.old).now) (query_of query.now))
+        out.old.items out.new.items result }
+    ensures same { engines.program_in engine.new ≡ engines.program_in engine.old }
 {
-    match query {
-        Query::Match(_, _, host) | Query::Whether(_, _, host) | Query::Decompose(_, _, host) =>
-            host,
-        Query::Value(host) | Query::Reducts(_, host) | Query::Tagged(_, host) => host,
-    }
+    let t = engine.host(host, &Binding::new(Vec::new(alloc)))?;
+    try_answer_over(alloc, engine, query, &t, out)
 }
 
 // Appends the answer to a query whose host expression makes this term, or gives the fault of it.
@@ -106,7 +123,9 @@ fn try_answer_over(
     t: &Term,
     out: &mut Vec<u8>,
 ) -> Result<(), EvalFault>
-    requires { NamesKnown (program_of (engines.program_in engine.old).now) (query_of query.now) }
+    requires known { NamesKnown (program_of (engines.program_in engine.old).now)
+        (query_of query.now) }
+    requires host { IsSome (host_in (query_of query.now)) }
     ensures answer { Tries
         (IsAnswerOver (program_of (engines.program_in engine.old).now) (query_of query.now)
         (tree_of t.now)) out.old.items out.new.items result }
@@ -117,6 +136,7 @@ fn try_answer_over(
         Query::Whether(name, pat, _) => Ok(answer_whether(alloc, engine, name, pat, t, out)?),
         Query::Decompose(name, pat, _) => Ok(answer_splits(alloc, engine, name, pat, t, out)?),
         Query::Value(_) => Ok(write_value_line(t, out)?),
+        Query::Holds(_, _) => unreachable!(),
         Query::Reducts(name, _) => answer_reducts(alloc, engine, name, t, out),
         Query::Tagged(name, _) => answer_steps(alloc, engine, name, t, out),
     }

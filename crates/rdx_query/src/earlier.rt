@@ -22,6 +22,7 @@ fn number(kind: DefKind) -> u32
         DefKind::UnknownName => 8,
         DefKind::EllipsisVariable => 9,
         DefKind::RacketEscape => 10,
+        DefKind::Mode => 11,
     }
 }
 

@@ -6,9 +6,9 @@ ghost use Rattle.rdx_query.specs.Views.{AllNamesKnown, IsFileFault, program_in, 
 
 use crate::forms::read_form;
 use crate::known::Known;
-use rdx_defs::scope_of;
+use rdx_defs::{judgement_languages, scope_of};
 use rdx_grammar::DefFault;
-use rdx_lang::{CheckedPat, HostExpr, Program};
+use rdx_lang::{CheckedPat, HostExpr, Premise, Program, Template};
 use rdx_sexp::Datum;
 use rdx_term::Name;
 use std::alloc::Global;
@@ -24,6 +24,8 @@ pub enum Query {
     Decompose(Name, CheckedPat, HostExpr),
     /// The term itself.
     Value(HostExpr),
+    /// Whether the premise is met, or what the template makes of each binding that meets it.
+    Holds(Premise, Option<Template>),
     /// The terms to which the relation of this name leads from the term.
     Reducts(Name, HostExpr),
     /// The steps that it takes from the term, each with the name of its rule.
@@ -47,9 +49,11 @@ pub fn check_file(alloc: Global, forms: &[Datum]) -> Result<CheckedFile, DefFaul
 {
     let mut known = Known {
         scope: scope_of(alloc, forms)?,
+        languages: judgement_languages(alloc, forms)?,
         program: Program {
             languages: Vec::new(alloc),
             metafunctions: Vec::new(alloc),
+            judgements: Vec::new(alloc),
             relations: Vec::new(alloc),
         },
     };

@@ -8,7 +8,9 @@ ghost use Rattle.rdx_query.specs.Inside.Steps.{AddsBy, AsksQuery, PassesBy, Step
 ghost use Rattle.rdx_query.specs.Views.{query_of};
 
 use crate::Query;
+use crate::holds_forms::read_holds;
 use crate::host_forms::read_unbound;
+use crate::judgement_forms::define_judgement;
 use crate::kind::{DefinitionKind, FormKind, PassedKind, QueryKind, form_kind};
 use crate::known::Known;
 use crate::language_forms::{define_extension, define_language};
@@ -17,6 +19,7 @@ use crate::metafunction_forms::define_metafunction;
 use crate::passed_forms::{check_offers, check_wants};
 use crate::relation_forms::define_relation;
 use crate::step_forms::{Stepping, read_steps};
+use rdx_defs::ReadPremise;
 use rdx_grammar::refusal::unnamed;
 use rdx_grammar::{DefFault, DefKind};
 use rdx_sexp::Datum;
@@ -45,6 +48,10 @@ fn define(
         DefinitionKind::Metafunction => {
             let metafunction = define_metafunction(alloc, known, form)?;
             Ok(known.program.metafunctions.push(metafunction)?)
+        }
+        DefinitionKind::Judgement => {
+            let judgement = define_judgement(alloc, known, form)?;
+            Ok(known.program.judgements.push(judgement)?)
         }
         DefinitionKind::Relation => {
             let relation = define_relation(alloc, known, form)?;
@@ -79,6 +86,10 @@ fn question(
             Ok(Query::Decompose(name, pat, host))
         }
         QueryKind::Value => Ok(Query::Value(read_unbound(alloc, &known.scope, form)?)),
+        QueryKind::Holds => {
+            let ReadPremise { premise, result } = read_holds(alloc, known, form)?;
+            Ok(Query::Holds(premise, result))
+        }
         QueryKind::Reducts => {
             let Stepping { relation, host } = read_steps(alloc, known, form)?;
             Ok(Query::Reducts(relation, host))

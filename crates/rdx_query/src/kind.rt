@@ -15,6 +15,8 @@ pub enum DefinitionKind {
     Extension,
     /// A metafunction: `define-metafunction`.
     Metafunction,
+    /// A judgement: `define-judgment-form`.
+    Judgement,
     /// A relation: `define`.
     Relation,
 }
@@ -30,6 +32,9 @@ pub enum QueryKind {
     Decompose,
     /// What a host expression makes: the form itself.
     Value,
+    /// Whether a premise is met, or what a template makes of the bindings that meet it:
+    /// `judgment-holds`.
+    Holds,
     /// The terms to which a relation leads from a term: `apply-reduction-relation`.
     Reducts,
     /// The steps, with the names of their rules: `apply-reduction-relation/tag-with-names`.
@@ -66,17 +71,17 @@ fn kind_by_text(head: &str) -> FormKind
         "define-language" => FormKind::Defines(DefinitionKind::Language),
         "define-extended-language" => FormKind::Defines(DefinitionKind::Extension),
         "define-metafunction" => FormKind::Defines(DefinitionKind::Metafunction),
+        "define-judgment-form" => FormKind::Defines(DefinitionKind::Judgement),
         "define" => FormKind::Defines(DefinitionKind::Relation),
         "redex-match" => FormKind::Asks(QueryKind::Match),
         "redex-match?" => FormKind::Asks(QueryKind::Whether),
         "redex-decompose" => FormKind::Asks(QueryKind::Decompose),
+        "judgment-holds" => FormKind::Asks(QueryKind::Holds),
         "apply-reduction-relation" => FormKind::Asks(QueryKind::Reducts),
         "apply-reduction-relation/tag-with-names" => FormKind::Asks(QueryKind::Tagged),
         "require" => FormKind::Passes(PassedKind::Wants),
         "provide" => FormKind::Passes(PassedKind::Offers),
-        "define-judgment-form"
-        | "judgment-holds"
-        | "stepper"
+        "stepper"
         | "test-equal"
         | "test-->"
         | "test-->>"

@@ -13,6 +13,7 @@ pub fn one_text()
 {
     rdx_lang::laws::one_listing();
     rdx_eval::laws::one_term();
+    rdx_eval::laws::one_meeting();
     rdx_reduce::laws::one_stepping();
 }
 
@@ -45,6 +46,7 @@ pub fn some_text_or_refusal()
     rdx_lang::laws::free_or_recursive();
     rdx_lang::laws::some_listing();
     rdx_eval::laws::one_term();
+    rdx_eval::laws::one_meeting();
     rdx_reduce::laws::one_stepping();
 }
 
@@ -57,6 +59,8 @@ pub fn worked_examples()
     ensures filled_term { example.FilledTerm }
     ensures fault_answered { example.FaultAnswered }
     ensures one_reduct_two_steps { example.OneReductTwoSteps }
+    ensures premise_met { example.PremiseMet }
+    ensures outputs_listed { example.OutputsListed }
     ensures own_hole { example.OwnHole }
     ensures one_hole { example.OneHole }
     ensures no_own_hole { example.NoOwnHole }

@@ -1,44 +1,25 @@
 // Forms that define a metafunction.
-ghost use Rattle.std.specs.Prelude.{◌≡◌, ◌∷◌, [], IfOk, option_map};
+ghost use Rattle.std.specs.Prelude.{◌≡◌, option_map};
 ghost use Rattle.rdx_defs.specs.Answers.{ReadsMetafunction};
 ghost use Rattle.rdx_defs.specs.Scope.{scope_of};
 ghost use Rattle.rdx_grammar.specs.Nonterminals.{names_of};
 ghost use Rattle.rdx_grammar.specs.Readable.{IsReadable};
-ghost use Rattle.rdx_grammar.specs.Refusal.{first_refusal, refusal_of};
 ghost use Rattle.rdx_query.specs.FormKinds as forms;
-ghost use Rattle.rdx_query.specs.Inside.Defining.{FunctionsBy, taken_at_item};
+ghost use Rattle.rdx_query.specs.Inside.Defining.{FunctionsBy};
 ghost use Rattle.rdx_query.specs.Inside.KnownView.{known_of};
-ghost use Rattle.rdx_query.specs.LanguageForms.{named_base, unknown_at};
+ghost use Rattle.rdx_query.specs.LanguageForms.{named_base};
 
 use crate::earlier::unless;
 use crate::known::Known;
 use crate::language_forms::empty_language;
 use crate::lookup::place_of;
 use crate::parts::language_item;
-use crate::refusals::{refuse_language, refuse_taken};
+use crate::refusals::refuse_names;
 use rdx_defs::{metafunction_name, read_metafunction};
-use rdx_grammar::{DefFault, DefRefusal};
+use rdx_grammar::DefFault;
 use rdx_lang::Metafunction;
 use rdx_sexp::Datum;
-use rdx_term::NoMemory;
 use std::alloc::Global;
-
-// The refusal of the names in a form, of the language's first.
-fn refuse_names(
-    alloc: Global,
-    known: &Known,
-    language: Option<&Datum>,
-    name: Option<&Datum>,
-) -> Result<Option<DefRefusal>, NoMemory>
-    ensures { IfOk result (λ r. option_map refusal_of r ≡ first_refusal
-        (unknown_at (known_of known.now) (option_map (λ d. d.now) language.entry)
-        ∷ taken_at_item (known_of known.now) (option_map (λ d. d.now) name.entry) ∷ [])) }
-{
-    match refuse_language(alloc, known, language)? {
-        Some(refusal) => Ok(Some(refusal)),
-        None => refuse_taken(alloc, known, name),
-    }
-}
 
 // The metafunction of a form over the language of this name, or over an empty one where that is
 // unknown.

@@ -1,7 +1,8 @@
 // The parts of data and of forms.
 ghost use Rattle.std.specs.Prelude.{◌≡◌, [], option_map};
 ghost use Rattle.rdx_grammar.specs.Parts.{parts};
-ghost use Rattle.rdx_query.specs.Inside.PartViews.{defining_by, defining_of, defining_with, parts_of, second_item, language_item, steps_of};
+ghost use Rattle.rdx_query.specs.HoldsForms.{holds_parts};
+ghost use Rattle.rdx_query.specs.Inside.PartViews.{defining_by, defining_of, defining_with, holds_of, judgement_head, parts_of, second_item, language_item, steps_of};
 ghost use Rattle.rdx_query.specs.LanguageForms.{base_name};
 ghost use Rattle.rdx_query.specs.MatchForms.{query_parts};
 ghost use Rattle.rdx_query.specs.RelationForms.{begins_relation, define_named, define_parts};
@@ -25,6 +26,13 @@ pub(crate) struct StepParts<'a> {
     pub(crate) host: &'a Datum,
 }
 
+/// What has to be a premise, and the template behind it, where there is one.
+#[derive(Clone, Copy)]
+pub(crate) struct HoldsParts<'a> {
+    pub(crate) premise: &'a Datum,
+    pub(crate) result: Option<&'a Datum>,
+}
+
 /// The name of a relation, the list that says what it is, and whether something stands behind that.
 #[derive(Clone, Copy)]
 pub(crate) struct DefineParts<'a> {
@@ -43,8 +51,8 @@ pub(crate) fn second_item(d: &Datum) -> Option<&Datum>
     }
 }
 
-/// The second item, where it may name a language: in a form that defines a metafunction, or in a list
-/// that says what a relation is.
+/// The second item, where it may name a language: in a form that defines a metafunction or a
+/// judgement, or in a list that says what a relation is.
 pub(crate) fn language_item(d: &Datum) -> Option<&Datum>
     ensures { option_map (λ d. d.now) result ≡ language_item d.now }
 {
@@ -86,6 +94,33 @@ pub(crate) fn step_parts(d: &Datum) -> Option<StepParts<'_>>
 {
     match items(d)? {
         [_, relation, host] => Some(StepParts { relation, host }),
+        _ => None,
+    }
+}
+
+/// The parts of a form that asks whether a premise is met.
+pub(crate) fn holds_parts(d: &Datum) -> Option<HoldsParts<'_>>
+    ensures { option_map holds_of result ≡ holds_parts d.now }
+{
+    match items(d)? {
+        [_, premise] => Some(HoldsParts {
+            premise,
+            result: None,
+        }),
+        [_, premise, result] => Some(HoldsParts {
+            premise,
+            result: Some(result),
+        }),
+        _ => None,
+    }
+}
+
+/// The symbol that heads a premise, which names its judgement.
+pub(crate) fn judgement_head(d: &Datum) -> Option<&Datum>
+    ensures { option_map (λ d. d.now) result ≡ judgement_head d.now }
+{
+    match items(d)? {
+        [head, ..] if is_symbol(head) => Some(head),
         _ => None,
     }
 }

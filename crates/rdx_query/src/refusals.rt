@@ -1,6 +1,6 @@
 // Refusals of a form that has not its shape, and of the names in forms.
-ghost use Rattle.std.specs.Prelude.{◌≡◌, Some, IfOk, option_map};
-ghost use Rattle.rdx_grammar.specs.Refusal.{refusal_of};
+ghost use Rattle.std.specs.Prelude.{◌≡◌, ◌∷◌, [], Some, IfOk, option_map};
+ghost use Rattle.rdx_grammar.specs.Refusal.{first_refusal, refusal_of};
 ghost use Rattle.rdx_grammar.specs.Refusal as places;
 ghost use Rattle.rdx_grammar.specs.Unbuilt.{unbuilt_at};
 ghost use Rattle.rdx_grammar.specs.declared.shape.fault.DefKind.TheVariants.{Shape};
@@ -63,5 +63,23 @@ pub(crate) fn refuse_taken(
         Ok(Some(named(alloc, DefKind::Duplicate, name)?))
     } else {
         Ok(None)
+    }
+}
+
+/// The refusal of the names in a form that defines a metafunction or a judgement, of the language's
+/// first.
+pub(crate) fn refuse_names(
+    alloc: Global,
+    known: &Known,
+    language: Option<&Datum>,
+    name: Option<&Datum>,
+) -> Result<Option<DefRefusal>, NoMemory>
+    ensures { IfOk result (λ r. option_map refusal_of r ≡ first_refusal
+        (unknown_at (known_of known.now) (option_map (λ d. d.now) language.entry)
+        ∷ taken_at_item (known_of known.now) (option_map (λ d. d.now) name.entry) ∷ [])) }
+{
+    match refuse_language(alloc, known, language)? {
+        Some(refusal) => Ok(Some(refusal)),
+        None => refuse_taken(alloc, known, name),
     }
 }

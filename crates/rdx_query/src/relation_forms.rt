@@ -21,7 +21,7 @@ use crate::lookup::{is_taken, place_of};
 use crate::parts::{DefineParts, define_parts, language_item};
 use crate::refusals::refuse_language;
 use rdx_defs::read_relation;
-use rdx_grammar::names::begins_with_dots;
+use rdx_grammar::names::is_bad_name;
 use rdx_grammar::refusal::{named, unnamed};
 use rdx_grammar::shape::text;
 use rdx_grammar::unbuilt::has_word_to_come;
@@ -31,13 +31,6 @@ use rdx_sexp::Datum;
 use rdx_term::{Name, NoMemory};
 use std::alloc::Global;
 use std::rc::RcStr;
-
-// Whether a relation may not have this name.
-fn is_bad_name(name: &str) -> bool
-    ensures { result ≡ names.is_bad_name name.now }
-{
-    name == "hole" || name == "_" || begins_with_dots(name)
-}
 
 // The name of a symbol, or some name where no relation may have it.
 fn name_of(alloc: Global, d: &Datum) -> Result<Name, NoMemory>

@@ -31,8 +31,8 @@ fn relation<'a>(program: &'a Program, name: &Name) -> &'a Relation
     }
 }
 
-// The members of a set, ascending.
-fn terms_of(alloc: Global, set: BTreeSet<Term>) -> Result<Vec<Term>, NoMemory>
+/// The members of a set, ascending.
+pub(crate) fn terms_of(alloc: Global, set: BTreeSet<Term>) -> Result<Vec<Term>, NoMemory>
     ensures { IfOk result (λ keys. keys.items ≡ set.keys) }
 {
     let keys = set.into_iter().collect(alloc)?;

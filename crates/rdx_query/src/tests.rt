@@ -145,7 +145,7 @@ fn both_matchers_agree(rt: HostRuntime) -> Result<(), Fail> {
                 let same = agree(alloc, &mut plain, &mut table, name, pat, host)?;
                 assert!(rt; same);
             }
-            Query::Value(_) | Query::Reducts(_, _) | Query::Tagged(_, _) => {
+            Query::Value(_) | Query::Holds(_, _) | Query::Reducts(_, _) | Query::Tagged(_, _) => {
                 assert!(rt; false, "no pattern");
             }
         }

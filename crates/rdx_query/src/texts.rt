@@ -252,15 +252,41 @@ fn write_term_lines(found: &[Term], out: &mut Vec<u8>) -> Result<(), NoMemory>
     Ok(())
 }
 
-/// How many terms there are, and then each.
+// How many terms there are, behind what they are, and then each.
+fn write_terms(what: &[u8], found: &[Term], out: &mut Vec<u8>) -> Result<(), NoMemory>
+    ensures { OnOk result (out.new.items ≡ out.old.items
+        ++ text.counted_text what.now (map tree_text (map tree_of found.now))) }
+{
+    out.extend_from_slice(what)?;
+    out.push(b' ')?;
+    write_number(found.len(), out)?;
+    out.push(b'\n')?;
+    write_term_lines(found, out)
+}
+
+/// How many reducts there are, and then each.
 pub(crate) fn write_reducts(found: &[Term], out: &mut Vec<u8>) -> Result<(), NoMemory>
     ensures { OnOk result
         (out.new.items ≡ out.old.items ++ text.reducts_text (map tree_of found.now)) }
 {
-    out.extend_from_slice(b"reducts ")?;
-    write_number(found.len(), out)?;
-    out.push(b'\n')?;
-    write_term_lines(found, out)
+    write_terms(b"reducts", found, out)
+}
+
+/// How many values of a template there are, and then each.
+pub(crate) fn write_answers(found: &[Term], out: &mut Vec<u8>) -> Result<(), NoMemory>
+    ensures { OnOk result
+        (out.new.items ≡ out.old.items ++ text.answers_text (map tree_of found.now)) }
+{
+    write_terms(b"answers", found, out)
+}
+
+/// Whether a premise is met.
+pub(crate) fn write_holds(is_met: bool, out: &mut Vec<u8>) -> Result<(), NoMemory>
+    ensures { OnOk result (out.new.items ≡ out.old.items ++ text.holds_text is_met) }
+{
+    let line: &[u8] = if is_met { b"holds #t\n" } else { b"holds #f\n" };
+    out.extend_from_slice(line)?;
+    Ok(())
 }
 
 // Whether a text is spelled like a symbol: a name is, and so is `hole`.

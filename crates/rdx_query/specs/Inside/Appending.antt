@@ -1,5 +1,5 @@
 -- One answer behind another.
-use Rattle.std.specs.Prelude.{◌≡◌, ℕ, Bool, true, false, List, ◌++◌, Result, Ok, Err}
+use Rattle.std.specs.Prelude.{◌≡◌, ℕ, Bool, true, false, List, ◌++◌, Option, Some, None, Result, Ok, Err}
 use Rattle.rdx_term.specs.Tree.{Tree}
 use Rattle.rdx_lang.specs.Programs.{Program}
 use Rattle.rdx_lang.specs.Templates.{Host}
@@ -9,7 +9,7 @@ use Rattle.rdx_eval.specs.declared.fault.EvalFault.TheVariants.{Named, NoMemory}
 use Rattle.rdx_query.specs.AnswerText.{fault_line}
 use Rattle.rdx_query.specs.Answering.{IsAnswer, IsValueAnswer}
 use Rattle.rdx_query.specs.MatchAnswers.{IsMatchesAnswer, IsWhetherAnswer, IsSplitsAnswer}
-use Rattle.rdx_query.specs.Queries.{Query, matches, whether, splits, value, reducts, tagged}
+use Rattle.rdx_query.specs.Queries.{Query, matches, whether, splits, value, holds, reducts, tagged}
 use Rattle.rdx_query.specs.StepAnswers.{IsReductsAnswer, IsTaggedAnswer}
 
 -- after holds what before held, and then a text that W has, and met is whether what is stated is met
@@ -28,20 +28,22 @@ Tries W before after (Ok u) = Appends W before after true
 Tries W before after (Err (Named f)) = (after ≡ before) × W (fault_line (fault_of f)) false
 Tries W before after (Err NoMemory) = Unit {0}
 
--- the host expression of a query
-abbrev pub host_in : Query → Host
-host_in (matches name p h) = h
-host_in (whether name p h) = h
-host_in (splits name p h) = h
-host_in (value h) = h
-host_in (reducts name h) = h
-host_in (tagged name h) = h
+-- the host expression of a query, where it has one: a premise has none
+abbrev pub host_in : Query → Option Host
+host_in (matches name p h) = Some h
+host_in (whether name p h) = Some h
+host_in (splits name p h) = Some h
+host_in (value h) = Some h
+host_in (holds q t) = None
+host_in (reducts name h) = Some h
+host_in (tagged name h) = Some h
 
--- the answer to a query, where its host expression makes the term t
+-- the answer to the query, where its host expression makes the term t
 abbrev pub IsAnswerOver : Program → Query → Tree → List ℕ → Bool → Type 0
 IsAnswerOver P (matches name p h) t = IsMatchesAnswer P name p t
 IsAnswerOver P (whether name p h) t = IsWhetherAnswer P name p t
 IsAnswerOver P (splits name p h) t = IsSplitsAnswer P name p t
 IsAnswerOver P (value h) t = IsValueAnswer t
+IsAnswerOver P (holds q o) t = λ text met. ⊥
 IsAnswerOver P (reducts name h) t = IsReductsAnswer P name t
 IsAnswerOver P (tagged name h) t = IsTaggedAnswer P name t

@@ -1,20 +1,25 @@
 -- What is answered to a form that asks something.
-use Rattle.std.specs.Prelude.{◌≡◌, ℕ, true, false, List, Some, None, Result, Ok, Err}
+use Rattle.std.specs.Prelude.{◌≡◌, ℕ, true, false, List, Option, Some, None, Result, Ok, Err, option_map}
 use Rattle.rdx_sexp.specs.Sexp.{Sexp}
 use Rattle.rdx_lang.specs.Checked.{pattern_in}
 use Rattle.rdx_lang.specs.Patterns.{Pattern}
-use Rattle.rdx_lang.specs.Templates.{Host}
-use Rattle.rdx_lang.specs.TemplateView.{host_of}
+use Rattle.rdx_lang.specs.Programs.{Premise}
+use Rattle.rdx_lang.specs.ProgramView.{premise_of}
+use Rattle.rdx_lang.specs.Templates.{Host, Template}
+use Rattle.rdx_lang.specs.TemplateView.{host_of, template_of}
+use Rattle.rdx_defs.specs.declared.judgements.premises.ReadPremise.{ReadPremise}
 use Rattle.rdx_grammar.specs.Parts.{is_symbol}
 use Rattle.rdx_grammar.specs.Unbuilt.{has_word_to_come}
 use Rattle.rdx_grammar.specs.declared.shape.fault.DefFault.{DefFault}
+use Rattle.rdx_query.specs.HoldsForms.{HoldsParts, holds_parts, holds_refusal, holds_query}
 use Rattle.rdx_query.specs.Known.{Known}
 use Rattle.rdx_query.specs.MatchForms.{QueryParts, query_parts, query_refusal, match_query}
-use Rattle.rdx_query.specs.Queries.{Query}
+use Rattle.rdx_query.specs.Queries.{Query, holds}
 use Rattle.rdx_query.specs.StepForms.{StepParts, step_parts, steps_refusal, steps_query}
 use Rattle.rdx_query.specs.Inside.Earlier.{IsFaultAt}
-use Rattle.rdx_query.specs.Inside.PartViews.{parts_of, steps_of}
+use Rattle.rdx_query.specs.Inside.PartViews.{holds_of, parts_of, steps_of}
 use Rattle.rdx_query.specs.declared.match_forms.Asked.{Asked}
+use Rattle.rdx_query.specs.declared.parts.HoldsParts as code_holds
 use Rattle.rdx_query.specs.declared.parts.QueryParts as code_query
 use Rattle.rdx_query.specs.declared.parts.StepParts as code_steps
 use Rattle.rdx_query.specs.declared.step_forms.Stepping.{Stepping}
@@ -64,3 +69,25 @@ pub record IsStepping (K : Known) (d : Sexp) (name : List ℕ) (h : Host) : Type
 abbrev pub StepsAskedBy : Known → Sexp → Result Stepping DefFault → Type 0
 StepsAskedBy K d (Ok a) = IsStepping K d a.relation (host_of a.host)
 StepsAskedBy K d (Err e) = IsFaultAt (steps_refusal K d (step_parts d)) e
+
+-- ---- premises
+
+-- the form d that asks whether a premise is met has these parts, and is built
+pub record IsHoldsFit (d : Sexp) (q : HoldsParts) : Type 0 where
+  pub parts : holds_parts d ≡ Some q
+  pub built : has_word_to_come d ≡ false
+
+-- the answer of the check of its shape
+abbrev pub HoldsFitsBy : Sexp → Result code_holds.HoldsParts DefFault → Type 0
+HoldsFitsBy d (Ok q) = IsHoldsFit d (holds_of q)
+HoldsFitsBy d (Err e) = (K : Known) → IsFaultAt (holds_refusal K d (holds_parts d)) e
+
+-- the form is accepted, and asks for this premise, and for this template behind it, where there is one
+pub record IsHolding (K : Known) (d : Sexp) (q : Premise) (t : Option Template) : Type 0 where
+  pub passes : holds_refusal K d (holds_parts d) ≡ None
+  pub means : holds_query K d ≡ Some (holds q t)
+
+-- the answer to the form
+abbrev pub HoldsAskedBy : Known → Sexp → Result ReadPremise DefFault → Type 0
+HoldsAskedBy K d (Ok q) = IsHolding K d (premise_of q.premise) (option_map template_of q.result)
+HoldsAskedBy K d (Err e) = IsFaultAt (holds_refusal K d (holds_parts d)) e

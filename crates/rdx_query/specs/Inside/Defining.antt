@@ -5,9 +5,10 @@ use Rattle.rdx_lang.specs.Checked.{language_in}
 use Rattle.rdx_lang.specs.Edges.{IsFree, IsFirstRecursive}
 use Rattle.rdx_lang.specs.Patterns.{Language}
 use Rattle.rdx_lang.specs.Programs as model
-use Rattle.rdx_lang.specs.ProgramView.{metafunction_of, relation_of}
+use Rattle.rdx_lang.specs.ProgramView.{judgement_of, metafunction_of, relation_of}
 use Rattle.rdx_lang.specs.declared.checked.CheckedLang.{CheckedLang}
 use Rattle.rdx_lang.specs.declared.pattern.Ref.{Ref}
+use Rattle.rdx_lang.specs.declared.program.Judgement.{Judgement}
 use Rattle.rdx_lang.specs.declared.program.Metafunction.{Metafunction}
 use Rattle.rdx_lang.specs.declared.program.Relation.{Relation}
 use Rattle.rdx_defs.specs.RelationForms.{relation_form}
@@ -21,7 +22,7 @@ use Rattle.rdx_grammar.specs.Refusal.{Refusal, refusal_of, first_refusal}
 use Rattle.rdx_grammar.specs.Refused.{recursion_at}
 use Rattle.rdx_grammar.specs.declared.shape.fault.DefFault.{DefFault}
 use Rattle.rdx_grammar.specs.declared.shape.fault.DefFault.TheVariants.{Refused, NoMemory}
-use Rattle.rdx_query.specs.Definitions.{language, metafunction, relation}
+use Rattle.rdx_query.specs.Definitions.{language, metafunction, judgement, relation}
 use Rattle.rdx_query.specs.File.{Defines, IsRefusedForm}
 use Rattle.rdx_query.specs.Known.{Known}
 use Rattle.rdx_query.specs.LanguageForms.{language_refusal, language_escape, named_base, unknown_at, name_taken_at}
@@ -70,6 +71,11 @@ DefinesBy K d (Err e) = IsFormFault K d e
 abbrev pub FunctionsBy : Known → Sexp → Result Metafunction DefFault → Type 0
 FunctionsBy K d (Ok f) = Defines K d (metafunction (metafunction_of f))
 FunctionsBy K d (Err e) = IsFormFault K d e
+
+-- the answer to a form that defines a judgement
+abbrev pub JudgementsBy : Known → Sexp → Result Judgement DefFault → Type 0
+JudgementsBy K d (Ok j) = Defines K d (judgement (judgement_of j))
+JudgementsBy K d (Err e) = IsFormFault K d e
 
 -- the answer to a form that defines a relation
 abbrev pub RelatesBy : Known → Sexp → Result Relation DefFault → Type 0

@@ -5,7 +5,7 @@ use Rattle.rdx_grammar.specs.declared.shape.fault.DefFault.{DefFault}
 use Rattle.rdx_grammar.specs.declared.shape.fault.DefFault.TheVariants.{Refused, NoMemory}
 use Rattle.rdx_grammar.specs.declared.shape.fault.DefKind.{DefKind}
 use Rattle.rdx_grammar.specs.declared.shape.fault.DefRefusal.{DefRefusal}
-use Rattle.rdx_grammar.specs.declared.shape.fault.DefKind.TheVariants.{Unbuilt, Shape, UnknownLanguage, Duplicate, BadName, BadPattern, EllipsisDepth, LeftRecursive, UnknownName, EllipsisVariable, RacketEscape}
+use Rattle.rdx_grammar.specs.declared.shape.fault.DefKind.TheVariants.{Unbuilt, Shape, UnknownLanguage, Duplicate, BadName, BadPattern, EllipsisDepth, LeftRecursive, UnknownName, EllipsisVariable, RacketEscape, Mode}
 
 -- the number of a check
 abbrev pub number : DefKind → ℕ
@@ -20,6 +20,7 @@ number LeftRecursive = 7
 number UnknownName = 8
 number EllipsisVariable = 9
 number RacketEscape = 10
+number Mode = 11
 
 -- of two refusals the one by the check with the lesser number; the first, where both are by one
 abbrev pub earlier_of : Refusal → Refusal → Refusal

@@ -1,19 +1,20 @@
 -- What the kinds of the code stand for.
 use Rattle.rdx_query.specs.FormKinds as model
 use Rattle.rdx_query.specs.declared.kind.DefinitionKind.{DefinitionKind}
-use Rattle.rdx_query.specs.declared.kind.DefinitionKind.TheVariants.{Language, Extension, Metafunction, Relation}
+use Rattle.rdx_query.specs.declared.kind.DefinitionKind.TheVariants.{Language, Extension, Metafunction, Judgement, Relation}
 use Rattle.rdx_query.specs.declared.kind.FormKind.{FormKind}
 use Rattle.rdx_query.specs.declared.kind.FormKind.TheVariants.{Defines, Asks, Passes, ToCome}
 use Rattle.rdx_query.specs.declared.kind.PassedKind.{PassedKind}
 use Rattle.rdx_query.specs.declared.kind.PassedKind.TheVariants.{Wants, Offers}
 use Rattle.rdx_query.specs.declared.kind.QueryKind.{QueryKind}
-use Rattle.rdx_query.specs.declared.kind.QueryKind.TheVariants.{Match, Whether, Decompose, Value, Reducts, Tagged}
+use Rattle.rdx_query.specs.declared.kind.QueryKind.TheVariants.{Match, Whether, Decompose, Value, Holds, Reducts, Tagged}
 
 -- what a form defines
 abbrev pub definition_kind_of : DefinitionKind → model.DefinitionKind
 definition_kind_of Language = model.language
 definition_kind_of Extension = model.extension
 definition_kind_of Metafunction = model.metafunction
+definition_kind_of Judgement = model.judgement
 definition_kind_of Relation = model.relation
 
 -- what a form asks
@@ -22,6 +23,7 @@ query_kind_of Match = model.matches
 query_kind_of Whether = model.whether
 query_kind_of Decompose = model.splits
 query_kind_of Value = model.value
+query_kind_of Holds = model.holds
 query_kind_of Reducts = model.reducts
 query_kind_of Tagged = model.tagged
 

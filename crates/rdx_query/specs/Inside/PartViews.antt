@@ -1,12 +1,15 @@
 -- The parts that values of the code stand for.
-use Rattle.std.specs.Prelude.{Bool, true, false, List, [], ◌∷◌, Option, Some, None, if◌then◌else◌}
+use Rattle.std.specs.Prelude.{Bool, true, false, List, [], ◌∷◌, Option, Some, None, option_map, if◌then◌else◌}
 use Rattle.rdx_grammar.specs.Parts.{parts}
+use Rattle.rdx_defs.specs.Headed.{headed}
 use Rattle.rdx_defs.specs.RelationForms.{may_name}
 use Rattle.rdx_sexp.specs.Sexp.{Sexp}
+use Rattle.rdx_query.specs.HoldsForms as holding
 use Rattle.rdx_query.specs.MatchForms as matching
 use Rattle.rdx_query.specs.RelationForms as defining
 use Rattle.rdx_query.specs.StepForms as stepping
 use Rattle.rdx_query.specs.declared.parts.DefineParts.{DefineParts}
+use Rattle.rdx_query.specs.declared.parts.HoldsParts.{HoldsParts}
 use Rattle.rdx_query.specs.declared.parts.QueryParts.{QueryParts}
 use Rattle.rdx_query.specs.declared.parts.StepParts.{StepParts}
 
@@ -17,6 +20,14 @@ parts_of q = record { language = q.language.now; pattern = q.pattern.now; host =
 -- those of a form that asks for steps
 abbrev pub steps_of : StepParts → stepping.StepParts
 steps_of q = record { relation = q.relation.now; host = q.host.now }
+
+-- those of a form that asks whether a premise is met
+abbrev pub holds_of : HoldsParts → holding.HoldsParts
+holds_of q = record { premise = q.premise.now; result = option_map (λ d. d.now) q.result }
+
+-- the symbol that heads a premise
+abbrev pub judgement_head : Sexp → Option Sexp
+judgement_head d = option_map (λ h. h.head) (headed d)
 
 -- what the code knows of the parts of a form that defines a relation
 pub record Defining : Type 0 where
@@ -55,6 +66,6 @@ abbrev pub may_name_item : Option Sexp → Option Sexp
 may_name_item None = None
 may_name_item (Some l) = if may_name l then Some l else None
 
--- the second item, where it may name a language: in a form that defines a metafunction, or in a list that says what a relation is
+-- the second item, where it may name a language: in a form that defines a metafunction or a judgement, or in a list that says what a relation is
 abbrev pub language_item : Sexp → Option Sexp
 language_item d = may_name_item (second_item d)

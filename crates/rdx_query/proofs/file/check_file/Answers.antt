@@ -2,7 +2,7 @@ use Rattle.std.proofs.Common.{map, arith}
 use Rattle.std.proofs.lemmas.Result.{err_from_is_err_and}
 use Rattle.rdx_query.specs.Inside.KnownView.{known_of}
 use Rattle.rdx_query.specs.Views.{query_of}
-use Rattle.rdx_query.proofs.FileRead.{so_far-next, so_far-fault, so_far-end, form-readable}
+use Rattle.rdx_query.proofs.FileRead.{so_far-next, so_far-fault, so_far-end, file-named, form-readable}
 use Rattle.rdx_query.proofs.file.check_file.Goals as goal
 
 pub read_form-requires : goal.read_form-requires
@@ -22,3 +22,8 @@ loop-form-preserved c =
 pub returns-clause-accepted : goal.returns-clause-accepted
 returns-clause-accepted c =
     so_far-end c.args.forms.now c.loop-form.form-index (known_of c.loop-form.known) (map query_of c.loop-form.queries.items) (omega arith) c.loop-form.invariant
+
+pub returns-clause-named : goal.returns-clause-named
+returns-clause-named c =
+    file-named c.args.forms.now _ (map query_of c.loop-form.queries.items)
+    (so_far-end c.args.forms.now c.loop-form.form-index (known_of c.loop-form.known) (map query_of c.loop-form.queries.items) (omega arith) c.loop-form.invariant)

@@ -1,4 +1,4 @@
-use Rattle.rdx_query.proofs.Examples.{answers_in_order, whole_answer, inherited, one_split, filled_term, fault_answered, one_reduct_two_steps, own_hole, one_hole, no_own_hole, nested_sequences, own_hole_in_sequence, length_in_decimal, first_refused_form, earlier_languages_only, taken_name, host_expression, other_form, sum, wanted, other_module, known_before, few_items, left_recursion}
+use Rattle.rdx_query.proofs.Examples.{answers_in_order, whole_answer, inherited, one_split, filled_term, fault_answered, one_reduct_two_steps, premise_met, outputs_listed, own_hole, one_hole, no_own_hole, nested_sequences, own_hole_in_sequence, length_in_decimal, first_refused_form, earlier_languages_only, taken_name, host_expression, other_form, sum, wanted, other_module, known_before, few_items, left_recursion}
 use Rattle.rdx_query.proofs.laws.worked_examples.Goals as goal
 
 pub returns-clause-answers_in_order : goal.returns-clause-answers_in_order
@@ -12,6 +12,12 @@ returns-clause-inherited c = inherited
 
 pub returns-clause-one_split : goal.returns-clause-one_split
 returns-clause-one_split c = one_split
+
+pub returns-clause-premise_met : goal.returns-clause-premise_met
+returns-clause-premise_met c = premise_met
+
+pub returns-clause-outputs_listed : goal.returns-clause-outputs_listed
+returns-clause-outputs_listed c = outputs_listed
 
 pub returns-clause-own_hole : goal.returns-clause-own_hole
 returns-clause-own_hole c = own_hole

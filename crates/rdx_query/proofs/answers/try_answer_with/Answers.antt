@@ -21,27 +21,26 @@ use Rattle.rdx_query.specs.Inside.Appending.{Tries, IsAnswerOver}
 use Rattle.rdx_query.specs.Queries as model
 use Rattle.rdx_query.specs.Views.{query_of}
 use Rattle.rdx_query.proofs.Trying.{error_tried, answer_over, tried_over}
-use Rattle.rdx_query.proofs.answers.try_answer.Goals as goal
+use Rattle.rdx_query.proofs.answers.try_answer_with.Goals as goal
 
 pub returns-in_err-t-clause-answer : goal.returns-in_err-t-clause-answer
 returns-in_err-t-clause-answer g c =
     let P : programs.Program = program_of (program_in c.args.engine.now).now in
     let q : model.Query = query_of c.args.query.now in
-    let h : Host = host_of c.host.result.now in
+    let h : Host = host_of c.args.host.now in
     let empty : binding_of c.new-2.result ≡ no_names = c.new-2.ensures ∙ ap pairs_of c.new.ensures.items in
     error_tried tree_of (HostValue P h) (IsAnswer P q) c.args.out.now.items c.from_residual.result _ c.from_residual.ensures.1
-    (λ f v. answer_over P q (fault_line f) false (over_fault f (subst (λ (e : Host). HostValue P e (fault f)) c.host.ensures v) refl refl))
+    (λ f v. answer_over P q h (fault_line f) false c.requires.host (over_fault f v refl refl))
     (subst (λ (b : Binding). Says tree_of (HostMakes (calls_at P height) b h) (Err c.in_err-t.field-0.0)) empty c.in_err-t.ensures.answer)
 
 pub returns-clause-answer : goal.returns-clause-answer
 returns-clause-answer g c =
     let P : programs.Program = program_of (program_in c.args.engine.now).now in
     let q : model.Query = query_of c.args.query.now in
-    let h : Host = host_of c.host.result.now in
+    let h : Host = host_of c.args.host.now in
     let t : Tree = tree_of c.in_ok-t.t in
     let empty : binding_of c.new-2.result ≡ no_names = c.new-2.ensures ∙ ap pairs_of c.new.ensures.items in
-    tried_over P q t c.args.out.now.items c.try_answer_over.new.out.items c.try_answer_over.result
-    (subst (λ (e : Host). HostValue P e (value t)) c.host.ensures
-    (subst (λ (b : Binding). HostMakes (calls_at P height) b h (value t)) empty c.in_ok-t.ensures.answer))
+    tried_over P q h t c.args.out.now.items c.try_answer_over.new.out.items c.try_answer_over.result c.requires.host
+    (subst (λ (b : Binding). HostMakes (calls_at P height) b h (value t)) empty c.in_ok-t.ensures.answer)
     (subst (λ (p : Bor Program). Tries (IsAnswerOver (program_of p.now) q t) c.args.out.now.items c.try_answer_over.new.out.items c.try_answer_over.result)
     c.in_ok-t.ensures.same c.try_answer_over.ensures.answer)
