@@ -1,5 +1,5 @@
 -- Uses whose depths are counted up to the limit: what such a count tells about the uses themselves.
-use Rattle.std.proofs.Common.{◌≡◌, ℕ, suc, ◌+◌, min, Bool, true, false, List, [], ◌∷◌, ◌++◌, Option, Some, None, refl, sym, ◌∙◌, ap, append_assoc, arith}
+use Rattle.std.proofs.Common.{◌≡◌, ℕ, suc, ◌+◌, min, Bool, true, false, List, [], ◌∷◌, ◌++◌, Option, Some, None, map, refl, sym, ◌∙◌, ap, append_assoc, arith}
 use Rattle.std.proofs.Math.Bool.{and-false}
 use Rattle.std.proofs.lemmas.Bool.Decides.{nat_tests}
 use Rattle.std.proofs.lemmas.List.{map-append}
@@ -113,3 +113,8 @@ capped-fit us = by_test (list_all is_shallow us) refl
         → (all_agree (capped_uses us) && list_all is_shallow (capped_uses us)) ≡ (all_agree us && list_all is_shallow us)
     by_test true e = (λ i. all_agree (shallow-same us e i) && shallow-capped us i)
     by_test false e = no_second (all_agree (capped_uses us)) (shallow-capped us ∙ e) ∙ sym (no_second (all_agree us) e)
+
+-- as they are counted, uses have the names that they have
+pub names-capped : (us : List Use) → map (λ u. u.name) (capped_uses us) ≡ map (λ u. u.name) us
+names-capped [] = refl
+names-capped (u ∷ us) = ap (λ ns. u.name ∷ ns) (names-capped us)

@@ -104,12 +104,14 @@ each_looked_up (d ∷ ds) x p h a = by_test (is_same x d.0) refl (each_looked_up
     by_test false e g (here f) = absurd (differs f e)
     by_test false e g (there i) = g (record { all = a.all; defined = i; among = a.among })
 
+-- what is looked up in a language is an alternative
+pub looked_up-alternative : (L : Language) (x : Ref) (p : Pattern) → In p (alternatives_of L x) → IsAlternative L x p
+looked_up-alternative L x p i =
+    let a : Among L.nonterminals x p = looked_up L.nonterminals x p i in record { all = a.all; defined = a.defined; among = a.among }
+
 -- where no two definitions are of the same nonterminal, what is looked up are exactly the alternatives
 pub alternatives_of-all : (L : Language) (x : Ref) → are_distinct (defined L) ≡ true → (p : Pattern) → (In p (alternatives_of L x) ↔ IsAlternative L x p)
-alternatives_of-all L x h p = (to, from)
+alternatives_of-all L x h p = (looked_up-alternative L x p, from)
   where
-    to : In p (alternatives_of L x) → IsAlternative L x p
-    to i = let a : Among L.nonterminals x p = looked_up L.nonterminals x p i in record { all = a.all; defined = a.defined; among = a.among }
-
     from : IsAlternative L x p → In p (alternatives_of L x)
     from a = each_looked_up L.nonterminals x p h (record { all = a.all; defined = a.defined; among = a.among })

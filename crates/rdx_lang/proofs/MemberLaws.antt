@@ -1,5 +1,6 @@
 -- Members of lists of images, and of two lists together.
-use Rattle.std.proofs.Common.{◌≡◌, List, [], ◌∷◌, ◌++◌, map, refl, ap, ◌⊎◌, inl, inr}
+use Rattle.std.proofs.Common.{◌≡◌, List, [], ◌∷◌, ◌++◌, map, refl, ap, subst, ◌⊎◌, inl, inr}
+use Rattle.std.specs.Prelude.{flat_map}
 use Rattle.rdx_lang.specs.Members.{In, here, there}
 
 -- a member of a list of images is the image of a member
@@ -30,3 +31,17 @@ append-left (z ∷ xs) ys x (there h) = there (append-left xs ys x h)
 pub append-right : {A : Type 0} (xs ys : List A) (x : A) → In x ys → In x (xs ++ ys)
 append-right [] ys x h = h
 append-right (z ∷ xs) ys x h = there (append-right xs ys x h)
+
+-- a member of the lists that come of the members of a list, together, is one of one of them
+pub in-flat_map : {A B : Type 0} (f : A → List B) (xs : List A) (y : B) → In y (flat_map f xs) → (x : A) × In x xs × In y (f x)
+in-flat_map f [] y h = elim h [ ]
+in-flat_map f (x ∷ xs) y h = elim (in-append (f x) (flat_map f xs) y h) [
+  | inl i ↦ (x, here refl, i)
+  | inr i ↦ let k = in-flat_map f xs y i in (k.0, there k.1, k.2)
+]
+
+-- and a member of one of them is one of all together
+pub flat_map-in : {A B : Type 0} (f : A → List B) (xs : List A) (x : A) (y : B) → In x xs → In y (f x) → In y (flat_map f xs)
+flat_map-in f [] x y h i = elim h [ ]
+flat_map-in f (z ∷ xs) x y (here e) i = append-left (f z) (flat_map f xs) y (subst (λ w. In y (f w)) e i)
+flat_map-in f (z ∷ xs) x y (there h) i = append-right (f z) (flat_map f xs) y (flat_map-in f xs x y h i)

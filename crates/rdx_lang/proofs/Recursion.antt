@@ -9,6 +9,7 @@ use Rattle.rdx_lang.specs.Rules.{IsAlternative}
 use Rattle.rdx_lang.specs.References.{is_same}
 use Rattle.rdx_lang.specs.declared.pattern.Ref.{Ref}
 use Rattle.rdx_lang.proofs.Emptiness.{is_empty-exact, empty_is_decided}
+use Rattle.rdx_lang.proofs.LeftEdges.{reaches_on}
 use Rattle.rdx_lang.proofs.LookupLaws.{is_same-equal, equal-is_same}
 use Rattle.rdx_lang.proofs.MemberLaws.{in-append, append-left, append-right}
 
@@ -175,11 +176,6 @@ module _ (L : Language) (E : Ref → Bool) (e : TellsEmpty L E) where
   via-decided [] x y = member y (steps E L.nonterminals x)
   via-decided (z ∷ zs) x y = either (via-decided zs x y) (both (via-decided zs x z) (via-decided zs z y))
 
-  -- left edges after left edges
-  reaches_on : (p q r : Pattern) → Reaches L p q → Reaches L q r → Reaches L p r
-  reaches_on p q r (at_once d) k = further d k
-  reaches_on p q r (further {q = s} d h) k = further d (reaches_on s q r h k)
-
   -- a pattern is a nonterminal to which it leads, or left edges lead to one
   leads-reach : (p : Pattern) (y : Ref) (q : Pattern) → Edge L q p → In y (leads E p) → Reaches L q (nt y)
   leads-reach wild y q d i = elim i [ ]
@@ -212,7 +208,7 @@ module _ (L : Language) (E : Ref → Bool) (e : TellsEmpty L E) where
   via-reaches : (zs : List Ref) (x y : Ref) → Via zs x y → Reaches L (nt x) (nt y)
   via-reaches [] x y h = step-reaches x y h
   via-reaches (z ∷ zs) x y (inl h) = via-reaches zs x y h
-  via-reaches (z ∷ zs) x y (inr h) = reaches_on (nt x) (nt z) (nt y) (via-reaches zs x z h.0) (via-reaches zs z y h.1)
+  via-reaches (z ∷ zs) x y (inr h) = reaches_on (via-reaches zs x z h.0) (via-reaches zs z y h.1)
 
   -- a path that ends at z goes by way of others
   via-to : (zs : List Ref) (z x : Ref) → Via (z ∷ zs) x z → Via zs x z

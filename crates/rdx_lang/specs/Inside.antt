@@ -3,3 +3,4 @@ pub mod Keys
 pub mod Collecting
 pub mod Alternatives
 pub mod Singles
+pub mod Texts

@@ -36,5 +36,11 @@ pub mod Laws
 pub mod Examples
 pub mod RepetitionExamples
 pub mod TemplateExamples
+pub mod Variants
+pub mod VariantLaws
+pub mod Closures
+pub mod Crosses
+pub mod CrossLaws
+pub mod CrossExamples
 pub mod Model
 pub mod Inside

@@ -3,11 +3,11 @@ use Rattle.std.specs.Prelude.{List, map, option_map}
 use Rattle.std.specs.Rc.{rc_str_bytes}
 use Rattle.rdx_lang.specs.Checked.{language_in, pattern_in}
 use Rattle.rdx_lang.specs.Programs as model
-use Rattle.rdx_lang.specs.Programs.{such_as, provided, holds}
+use Rattle.rdx_lang.specs.Programs.{such_as, provided, holds, fresh}
 use Rattle.rdx_lang.specs.TemplateView.{template_of, host_of}
 use Rattle.rdx_lang.specs.declared.program.Clause.{Clause}
 use Rattle.rdx_lang.specs.declared.program.Extra.{Extra}
-use Rattle.rdx_lang.specs.declared.program.Extra.TheVariants.{Where, Side, Holds}
+use Rattle.rdx_lang.specs.declared.program.Extra.TheVariants.{Where, Side, Holds, Fresh}
 use Rattle.rdx_lang.specs.declared.program.JRule.{JRule}
 use Rattle.rdx_lang.specs.declared.program.Judgement.{Judgement}
 use Rattle.rdx_lang.specs.declared.program.Metafunction.{Metafunction}
@@ -25,6 +25,7 @@ abbrev pub extra_of : Extra → model.Extra
 extra_of (Where p t) = such_as (pattern_in p) (template_of t)
 extra_of (Side h) = provided (host_of h)
 extra_of (Holds q) = holds (premise_of q)
+extra_of (Fresh x) = fresh x
 
 -- extras in their order
 abbrev pub extras_of : List Extra → List model.Extra

@@ -11,11 +11,12 @@ pub record Premise : Type 0 where
   pub outputs : Pattern
 
 -- what a binding has to meet: what the template makes matches the pattern; the host expression does not make false; or the judgement has outputs,
--- for what the inputs are, that match the pattern. The names of a pattern are bound from there on
+-- for what the inputs are, that match the pattern. The names of a pattern are bound from there on, and so is a name that stands for a fresh symbol
 pub data Extra : Type 0 where
   such_as : Pattern → Template → Extra
   provided : Host → Extra
   holds : Premise → Extra
+  fresh : List ℕ → Extra
 
 -- a clause of a metafunction: which lists of arguments it takes, what each binding has to meet, one after the other, and what makes the value
 pub record Clause : Type 0 where

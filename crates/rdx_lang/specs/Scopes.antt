@@ -2,10 +2,10 @@
 -- what stands before it, and the result sees all of them.
 use Rattle.std.specs.Prelude.{ℕ, Bool, not, ◌&&◌, List, [], ◌∷◌, ◌++◌, bytes_eq, nat_eq}
 use Rattle.std.specs.List.{list_any}
-use Rattle.rdx_lang.specs.Depths.{Use, uses}
+use Rattle.rdx_lang.specs.Depths.{Use, uses, name_use}
 use Rattle.rdx_lang.specs.Fitting.{Bound}
 use Rattle.rdx_lang.specs.Patterns.{Pattern}
-use Rattle.rdx_lang.specs.Programs.{Extra, such_as, provided, holds}
+use Rattle.rdx_lang.specs.Programs.{Extra, such_as, provided, holds, fresh}
 
 -- the use binds x, at depth d; a length name is bound, but at no depth
 abbrev pub binds : Use → List ℕ → ℕ → Bool
@@ -20,6 +20,7 @@ abbrev pub extra_uses : Extra → List Use
 extra_uses (such_as p t) = uses 0 p
 extra_uses (provided h) = []
 extra_uses (holds q) = uses 0 q.outputs
+extra_uses (fresh x) = name_use 0 x ∷ []
 
 -- those in extras, in their order
 abbrev pub extras_uses : List Extra → List Use

@@ -1,10 +1,10 @@
 -- Worked examples of templates: which fit where one name of depth 1 is bound. They are proved, as clauses of `laws::fitting_examples`.
-use Rattle.std.specs.Prelude.{◌≡◌, ℕ, Bool, true, false, [], ◌∷◌, List, codes, pos, bytes_eq}
-use Rattle.rdx_term.specs.Tree.{Tree, integer}
+use Rattle.std.specs.Prelude.{◌≡◌, Bool, true, false, [], ◌∷◌, List, codes, pos, bytes_eq}
+use Rattle.rdx_term.specs.Tree.{integer}
 use Rattle.rdx_lang.specs.Depths.{Use, name_use}
 use Rattle.rdx_lang.specs.Fitting.{Called, fits}
 use Rattle.rdx_lang.specs.Scopes.{bound_by}
-use Rattle.rdx_lang.specs.Templates.{Template, lit, var, call, host, seq, Items, nil, one, many, term, number, apply, none, more}
+use Rattle.rdx_lang.specs.Templates.{Template, lit, var, call, host, seq, nil, one, many, term, number, apply, none, more}
 use Rattle.rdx_lang.specs.declared.operation.HostOp.TheVariants.{Add}
 
 -- `any_1` is bound at depth 1, as by the pattern `(any_1 ...)`

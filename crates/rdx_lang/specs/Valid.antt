@@ -1,14 +1,18 @@
 -- When what a file defines is valid: each name that it uses is defined, once; its patterns are well formed; its templates fit.
 use Rattle.std.specs.Prelude.{ℕ, Bool, true, false, not, ◌&&◌, List, [], ◌∷◌, ◌++◌, Option, Some, None, is_some, map, option_map, length, bytes_eq}
-use Rattle.std.specs.List.{list_all}
+use Rattle.std.specs.List.{list_all, list_any}
 use Rattle.rdx_lang.specs.Depths.{Use, uses}
 use Rattle.rdx_lang.specs.Fitting.{fits, fits_in}
 use Rattle.rdx_lang.specs.Modes.{Callable, fits_mode, rule_fits_mode, is_list_of}
 use Rattle.rdx_lang.specs.Patterns.{Pattern, Language}
-use Rattle.rdx_lang.specs.Programs.{Extra, such_as, provided, holds, Clause, Metafunction, Mode, JudgementRule, Judgement, Rule, Relation, Program, language_named, metafunction_named, judgement_named}
+use Rattle.rdx_lang.specs.Programs.{Extra, such_as, provided, holds, fresh, Clause, Metafunction, Mode, JudgementRule, Judgement, Rule, Relation, Program, language_named, metafunction_named, judgement_named}
 use Rattle.rdx_lang.specs.Scopes.{bound_by, extra_uses, case_uses}
 use Rattle.rdx_lang.specs.Templates.{Template}
 use Rattle.rdx_lang.specs.WellFormed.{is_well_formed_in}
+
+-- one of these uses has this name; a length name counts
+abbrev pub is_used : List Use → List ℕ → Bool
+is_used us x = list_any (λ u. bytes_eq u.name x) us
 
 -- beside what may be called, an extra before which these names are used is valid in the language
 abbrev pub is_valid_extra : Callable → Language → List Use → Extra → Bool
@@ -16,6 +20,7 @@ is_valid_extra C L us (such_as p t) = is_well_formed_in L p && fits C.functions 
 is_valid_extra C L us (provided h) = fits_in C.functions (bound_by us) 0 h
 is_valid_extra C L us (holds q) =
     fits_mode (C.modes q.judgement) q && (list_all (fits C.functions (bound_by us) 0) q.inputs && is_well_formed_in L q.outputs)
+is_valid_extra C L us (fresh x) = not (is_used us x)
 
 -- extras are, one after the other
 abbrev pub are_valid_extras : Callable → Language → List Use → List Extra → Bool

@@ -63,6 +63,16 @@ impl CheckedLang {
     {
         alternatives(&self.language, name)
     }
+
+    /// The language and its ranks, each by itself.
+    pub fn into_parts(self) -> (Language, Ranks)
+        ensures language { language_of result.0 ≡ language_in self }
+        ensures ranks { result.1.of.items ≡ ranks_in self }
+        ensures well_formed { IsWellFormed (language_of result.0) }
+        ensures ranked { AreRanks (language_of result.0) result.1.of.items }
+    {
+        (self.language, self.ranks)
+    }
 }
 
 /// A pattern that is well formed in a language.
@@ -96,6 +106,15 @@ impl CheckedPat {
         } else {
             Ok(None)
         }
+    }
+
+    /// The same pattern once more; its names and terms are shared.
+    pub fn share(&self, alloc: Global) -> Result<CheckedPat, NoMemory>
+        ensures { IfOk result (λ c. pattern_in c ≡ pattern_in self.now) }
+    {
+        Ok(CheckedPat {
+            pat: self.pat.share(alloc)?,
+        })
     }
 
     /// The pattern itself.

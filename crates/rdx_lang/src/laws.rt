@@ -6,6 +6,9 @@ ghost use Rattle.rdx_lang.specs.Examples.{TwoEqual, TwoDifferent, TwoMarks, Name
 ghost use Rattle.rdx_lang.specs.Examples.{InEachPlace, AtEitherHole, HiddenSplitsNothing, OneItemSplits, NeverAtBoth, ContextInContext, NameOfATerm, EqualContexts, ContextsWithMarks, EmptyThroughAnother, EmptyLeadsOn, ContextTakesOff};
 ghost use Rattle.rdx_lang.specs.RepetitionExamples.{EachDivision, NoTurn, EqualLengths, EqualSequences, SequenceOfSequences, OneTurnSplits};
 ghost use Rattle.rdx_lang.specs.TemplateExamples.{UnderEllipsis, UnderNone, OuterUndriven, BothDriven, NothingDrives, NotBound, CallDriven, NoMetafunction, HostDriven, HostUnderNone};
+ghost use Rattle.rdx_lang.specs.VariantLaws.{FirstIsFree, SecondNumber, MarkBetween, NotTaken};
+ghost use Rattle.rdx_lang.specs.CrossExamples.{CrossOfSums, OtherHasNoHole, RepetitionIsSplit, NestedAreSplit, NoPlaces, AddedInOrder, WithoutIsBefore, CrossesMatter};
+ghost use Rattle.rdx_lang.specs.CrossLaws.{CrossesWellFormed, CrossesFree, PatternsStay, PlainNamesStay, CrossesOnce, CrossesThere, PatternsGetTheirs, CompletedWellFormed, CompletedHasIts, RecursiveIsPlain, FirstIsPlain, WithoutHasNone};
 ghost use Rattle.rdx_lang.specs.Laws.{OneListing, OneSplitsListing, SomeListing, SomeSplitsListing, OneJoin, JoinAgrees, JoinExists, NamesAscend, BindsAMap, BindsItsNames, SplitBindsAMap, SplitBindsItsNames, SplitFills, SplitHasPath, WholeIsEmpty, EmptySplitsAll, EmptyIsDecided, FreeOrRecursive, RanksFall, EdgesFall, RankedIsFree};
 
 /// The order of values is total, and values that it doesn't tell apart are equal.
@@ -141,4 +144,47 @@ pub fn fitting_examples()
     ensures no_metafunction { NoMetafunction }
     ensures host_driven { HostDriven }
     ensures host_under_none { HostUnderNone }
+{}
+
+/// The name that is made up is the first variant that is none of the names, and each variant before
+/// it is one of them, since variants differ from one another. With worked examples.
+pub fn made_names()
+    ensures first { FirstIsFree }
+    ensures second_number { SecondNumber }
+    ensures mark_between { MarkBetween }
+    ensures not_taken { NotTaken }
+{}
+
+/// A well-formed language without left recursion stays so with any cross nonterminals, and its
+/// patterns stay well formed; those that are there are not added again.
+pub fn crosses_stay()
+    ensures well_formed { CrossesWellFormed }
+    ensures free { CrossesFree }
+    ensures patterns { PatternsStay }
+    ensures names { PlainNamesStay }
+    ensures once { CrossesOnce }
+    ensures there { CrossesThere }
+{}
+
+/// What speaks of cross nonterminals is well formed once the language has those that it needs.
+/// Left recursion is then seen in the nonterminals that are no cross nonterminals.
+pub fn crosses_complete()
+    ensures patterns { PatternsGetTheirs }
+    ensures well_formed { CompletedWellFormed }
+    ensures its { CompletedHasIts }
+    ensures recursive { RecursiveIsPlain }
+    ensures first { FirstIsPlain }
+    ensures without { WithoutHasNone }
+{}
+
+/// Worked examples of cross nonterminals.
+pub fn cross_examples()
+    ensures cross_of_sums { CrossOfSums }
+    ensures other_has_no_hole { OtherHasNoHole }
+    ensures repetition_is_split { RepetitionIsSplit }
+    ensures nested_are_split { NestedAreSplit }
+    ensures no_places { NoPlaces }
+    ensures added_in_order { AddedInOrder }
+    ensures without_is_before { WithoutIsBefore }
+    ensures crosses_matter { CrossesMatter }
 {}

@@ -24,6 +24,7 @@
 #![tactic(auto)]
 
 mod binding;
+mod bound_names;
 mod checked;
 mod depths;
 mod key;
@@ -41,6 +42,7 @@ mod sharing;
 mod split;
 mod template;
 mod uses;
+mod variants;
 mod well_formed;
 
 pub use binding::{Binding, Value};
@@ -55,3 +57,4 @@ pub use program::{
 };
 pub use split::Split;
 pub use template::{HostExpr, TItem, Template};
+pub use variants::{first_variant, variant};

@@ -25,6 +25,8 @@ pub enum Extra {
     /// The judgement has outputs for what the inputs make that match the pattern, whose names are
     /// bound from there on.
     Holds(Premise),
+    /// `fresh`: the name is bound to a symbol that stands nowhere else.
+    Fresh(Name),
 }
 
 /// A clause of a metafunction.

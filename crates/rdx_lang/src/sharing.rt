@@ -6,6 +6,9 @@ use crate::{Item, Pat};
 use rdx_term::{Name, NoMemory};
 use std::alloc::Global;
 
+mod programs;
+mod templates;
+
 // The same names.
 fn share_names(alloc: Global, names: &[Name]) -> Result<Vec<Name>, NoMemory>
     ensures { IfOk result (λ shared. shared.items ≡ names.now) }

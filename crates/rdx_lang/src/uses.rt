@@ -13,12 +13,12 @@ use std::alloc::Global;
 // The depths that a name may have are below this.
 const DEPTH_LIMIT: usize = 4_294_967_296;
 
-// One place at which a name is bound. Depths are counted up to the limit.
+/// One place at which a name is bound. Depths are counted up to the limit.
 #[derive(Clone, Copy)]
-struct Use<'a> {
-    name: &'a Name,
-    depth: usize,
-    is_length: bool,
+pub(crate) struct Use<'a> {
+    pub(crate) name: &'a Name,
+    pub(crate) depth: usize,
+    pub(crate) is_length: bool,
 }
 
 // One repetition more, counted up to the limit.
@@ -52,9 +52,13 @@ fn add_length_use<'a>(
     Ok(())
 }
 
-// Adds the uses in a pattern around which so many repetitions stand.
+/// Adds the uses in a pattern around which so many repetitions stand.
 #[cycle(uses)]
-fn add_uses<'a>(pat: &'a Pat, depth: usize, out: &mut Vec<Use<'a>>) -> Result<(), NoMemory>
+pub(crate) fn add_uses<'a>(
+    pat: &'a Pat,
+    depth: usize,
+    out: &mut Vec<Use<'a>>,
+) -> Result<(), NoMemory>
     requires { depth ≤ model.depth_limit }
     ensures { OnOk result (uses_in out.new.items
         ≡ uses_in out.old.items ++ capped_uses (model.uses depth (pattern_of pat.now))) }
