@@ -112,6 +112,24 @@ found-nothing (d ∷ ds) x e = by_test (is_same x d.0) (found-nothing ds x) e
     by_test true f g = absurd cc
     by_test false f g = f g
 
+-- of definitions that are looked up too
+pub nothing-among : (ds : List Definition) (x : Ref) (o : Option (Bor (List Pat)))
+    → option_map (λ ps. patterns_of ps.now) o ≡ found_among ds x → o ≡ None → [] ≡ alternatives_among ds x
+nothing-among ds x o f n = found-nothing ds x (sym f ∙ ap (option_map (λ ps. patterns_of ps.now)) n)
+
+-- something is found where the nonterminal is defined
+pub found-defined : (ds : List Definition) (x : Ref) (o : Option (Bor (List Pat)))
+    → option_map (λ ps. patterns_of ps.now) o ≡ found_among ds x → is_some o ≡ is_among x (heads ds)
+found-defined ds x o f = by_option o ∙ ap is_some f ∙ by_test (is_among x (heads ds))
+  where
+    by_option : (p : Option (Bor (List Pat))) → is_some p ≡ is_some (option_map (λ ps. patterns_of ps.now) p)
+    by_option None = refl
+    by_option (Some ps) = refl
+
+    by_test : (b : Bool) → is_some (if b then Some (alternatives_among ds x) else None) ≡ b
+    by_test true = refl
+    by_test false = refl
+
 -- nor in the language that has these definitions
 pub nothing-of : (L : Language) (ds : List Definition) (x : Ref) (o : Option (Bor (List Pat))) → ds ≡ L.nonterminals
     → option_map (λ ps. patterns_of ps.now) o ≡ found_among ds x → o ≡ None → [] ≡ alternatives_of L x

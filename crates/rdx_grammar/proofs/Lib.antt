@@ -37,3 +37,5 @@ pub mod Occurs
 pub mod Seen
 pub mod OneReading
 pub mod Examples
+pub mod CrossedItems
+pub mod SeveralEnds

@@ -7,3 +7,5 @@ pub mod AreNames
 pub mod BoundView
 pub mod CheckedForms
 pub mod Adding
+pub mod Slots
+pub mod CrossesTo

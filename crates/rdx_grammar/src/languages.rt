@@ -5,7 +5,7 @@ mod checks;
 mod definitions;
 mod extension;
 mod form_parts;
-mod lookup;
+pub(crate) mod lookup;
 mod nonterminals;
 mod parts;
 mod reader;

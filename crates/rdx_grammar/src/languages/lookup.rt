@@ -76,6 +76,9 @@ impl<'a> Definitions<'a> {
     ghost use Rattle.std.specs.Prelude.{IfOk, map, option_map};
     ghost use Rattle.rdx_lang.specs.PatternView.{definition_of};
     ghost use Rattle.rdx_lang.specs.declared.pattern.Ref.TheVariants as refs;
+    ghost use Rattle.rdx_lang.specs.Lookup.{alternatives_among};
+    ghost use Rattle.rdx_lang.specs.References.{is_among};
+    ghost use Rattle.rdx_grammar.specs.Extension.{heads};
     ghost use Rattle.rdx_grammar.specs.Inside.Found.{found_among};
 
     /// These definitions.
@@ -113,5 +116,24 @@ impl<'a> Definitions<'a> {
             ≡ found_among (map definition_of self.now) (refs.Nt name.now) }
     {
         self.by_key.get(&name_key(name)).copied()
+    }
+
+    /// Whether the nonterminal is defined.
+    pub(crate) fn has(&self, nonterminal: &Ref) -> bool
+        ensures { result ≡ is_among nonterminal.now (heads (map definition_of self.now)) }
+    {
+        self.find(nonterminal).is_some()
+    }
+
+    /// The alternatives of the nonterminal of this name, in their order; none where it isn't
+    /// defined.
+    pub(crate) fn alternatives(&self, name: &str) -> &'a [Pat]
+        ensures { patterns_of result.now
+            ≡ alternatives_among (map definition_of self.now) (refs.Nt name.now) }
+    {
+        match self.find_named(name) {
+            Some(alternatives) => alternatives,
+            None => &[],
+        }
     }
 }

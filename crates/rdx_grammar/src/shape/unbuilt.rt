@@ -12,7 +12,7 @@ fn is_form_word(text: &str) -> bool
 {
     matches!(
         text,
-        "context-closure" | "compatible-closure" | "cross" | "with" | "fresh"
+        "context-closure" | "compatible-closure" | "cross" | "with"
     )
 }
 
