@@ -1,5 +1,6 @@
 pub mod Gathered
 pub mod HandedOn
+pub mod GatheredLoops
 pub mod SaidOn
 pub mod SomeOutputs
 pub mod WithinLimits
@@ -15,6 +16,10 @@ pub mod ExtraAfterExtra
 pub mod GoingOn
 pub mod Calling
 pub mod LeastValues
+pub mod TextSets
+pub mod FirstVariants
+pub mod Symbols
 pub mod Examples
 pub mod CallExamples
 pub mod JudgementExamples
+pub mod FreshExamples

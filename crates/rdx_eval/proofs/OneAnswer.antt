@@ -10,14 +10,15 @@ use Rattle.rdx_lang.specs.Members.{In}
 use Rattle.rdx_lang.specs.Model.TotalOrders.{binding_cmp-total}
 use Rattle.rdx_lang.specs.Order.{binding_cmp}
 use Rattle.rdx_lang.specs.Patterns.{Pattern, Language}
-use Rattle.rdx_lang.specs.Programs.{Extra, such_as, provided, holds, Clause, Judgement, JudgementRule, Metafunction, Premise, Program, judgement_named, language_named, metafunction_named}
+use Rattle.rdx_lang.specs.Programs.{Extra, such_as, provided, holds, fresh, Clause, Judgement, JudgementRule, Metafunction, Premise, Program, judgement_named, language_named, metafunction_named}
 use Rattle.rdx_lang.specs.Rules.{Match}
 use Rattle.rdx_lang.specs.Templates.{Template, lit, var, fill, call, host, seq, Items, nil, one, many, Host, term, number, boolean, apply, both, either, Hosts, none, more}
 use Rattle.rdx_lang.proofs.JoinLaws.{one_join}
 use Rattle.rdx_lang.proofs.OrderLaws.{one_listing}
 use Rattle.rdx_eval.specs.Answers.{Answer, value, fault, Fault, undefined, spent, not_context, Then, stops, goes, Both, Gather, Single, Lists, lists}
 use Rattle.rdx_eval.specs.Calls.{Calls}
-use Rattle.rdx_eval.specs.Extending.{Joins, joins_none, joins_more, joins_skip, Matched, matched, MatchedEach, By, ByEach, ByPremise, Extend, Meets, Survivors}
+use Rattle.rdx_eval.specs.Extending.{Joins, joins_none, joins_more, joins_skip, Joined, joined, Matched, matched, MatchedEach, By, ByEach, ByPremise, Extend, Meets, Survivors}
+use Rattle.rdx_eval.specs.Fresh.{Avoided, avoiding, behind, freshly}
 use Rattle.rdx_eval.specs.Heights.{calls_at}
 use Rattle.rdx_eval.specs.Instantiation.{Inst, InstItems, InstHost, InstHosts, FirstFalse, FirstTrue, Either, EachTurn, agree, numbers, is_false, HostMakes, Makes, MakeList}
 use Rattle.rdx_eval.specs.Judgements.{OutputLists, RuleOutputs, RulesOver, OutputsBy}
@@ -121,6 +122,10 @@ once-matched L p b t r s (matched {ds = ds} {cs = cs} l j) (matched {ds = es} {c
     let e : es ≡ ds = one_listing binding_cmp (Match L p t) es ds binding_cmp-total m l in
     ap value (once-joins b ds cs fs j (subst (λ (z : List Binding). Joins b z fs) e k))
 
+-- and one with another binding
+once-joined : (b d : Binding) → Once (Joined b d)
+once-joined b d r s (joined {cs = cs} j) (joined {cs = es} k) = ap value (once-joins b (d ∷ []) cs es j k)
+
 -- ---- templates
 
 -- this term, or what a relation gives
@@ -206,25 +211,27 @@ module _ (L : Language) (C : Calls) (calls : (f : List ℕ) (a : Tree) → Once 
 -- ---- extras
 
 module _ (L : Language) (C : Calls) (calls : (f : List ℕ) (a : Tree) → Once (C.value_of f a))
-    (outputs : (j : List ℕ) (a : Tree) → Once (C.outputs_of j a)) (w : Tree) where
+    (outputs : (j : List ℕ) (a : Tree) → Once (C.outputs_of j a)) where
   -- what an extra makes of a binding
-  once-by : (e : Extra) (b : Binding) → Once (By L C w e b)
-  once-by (holds q) b = once-by-premise L C calls outputs q b
-  once-by (such_as p t) b = once-then (Makes C b t) (Matched L p b) (once-inst C calls b [] t) (once-matched L p b)
-  once-by (provided h) b = once-then (HostMakes C b h) _ (once-host C calls b [] h) (λ t. once-gives _)
+  once-by : (a : Avoided) (e : Extra) (b : Binding) → Once (By L C a e b)
+  once-by a (such_as p t) b = once-then (Makes C b t) (Matched L p b) (once-inst C calls b [] t) (once-matched L p b)
+  once-by a (provided h) b = once-then (HostMakes C b h) _ (once-host C calls b [] h) (λ t. once-gives _)
+  once-by a (holds q) b = once-by-premise L C calls outputs q b
+  once-by a (fresh x) b = once-joined b (freshly a b x)
 
   -- what extras make of bindings
-  pub once-extend : (es : List Extra) (bs : List Binding) → Once (Extend L C w es bs)
-  once-extend [] bs = once-gives (value bs)
-  once-extend (e ∷ es) bs =
-      once-then (ByEach L C w e bs) (Extend L C w es)
-      (once-then (Gather (By L C w e) bs) _ (once-gather (By L C w e) (once-by e) bs) (λ cs. once-lists binding_cmp (λ c. In c cs) binding_cmp-total))
-      (once-extend es)
+  pub once-extend : (a : Avoided) (es : List Extra) (bs : List Binding) → Once (Extend L C a es bs)
+  once-extend a [] bs = once-gives (value bs)
+  once-extend a (e ∷ es) bs =
+      once-then (ByEach L C a e bs) (Extend L C (behind a e) es)
+      (once-then (Gather (By L C a e) bs) _ (once-gather (By L C a e) (once-by a e) bs) (λ cs. once-lists binding_cmp (λ c. In c cs) binding_cmp-total))
+      (once-extend (behind a e) es)
 
   -- the bindings that a pattern has and that meet them
-  pub once-survivors : (p : Pattern) (es : List Extra) → Once (Survivors L C w p es)
-  once-survivors p es =
-      once-then (Lists binding_cmp (Match L p w)) (Extend L C w es) (once-lists binding_cmp (Match L p w) binding_cmp-total) (once-extend es)
+  pub once-survivors : (w : Tree) (p : Pattern) (es : List Extra) → Once (Survivors L C w p es)
+  once-survivors w p es =
+      once-then (Lists binding_cmp (Match L p w)) (Extend L C (avoiding w) es) (once-lists binding_cmp (Match L p w) binding_cmp-total)
+      (once-extend (avoiding w) es)
 
 -- ---- calls
 

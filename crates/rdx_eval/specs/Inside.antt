@@ -4,3 +4,5 @@ pub mod Judgements
 pub mod Sequences
 pub mod Scopes
 pub mod Stops
+pub mod Taken
+pub mod Extras

@@ -9,6 +9,7 @@ use Rattle.rdx_lang.specs.Programs.{Extra, Premise, Program}
 use Rattle.rdx_lang.specs.Templates.{Template}
 use Rattle.rdx_eval.specs.Answers.{Answer, value, fault, Fault, undefined, ambiguous, spent, not_context, too_deep, too_large, lengths_differ, outside, overflow, divide_by_zero}
 use Rattle.rdx_eval.specs.Extending.{Extend, Meets}
+use Rattle.rdx_eval.specs.Fresh.{Avoided}
 use Rattle.rdx_eval.specs.Heights.{calls_at}
 use Rattle.rdx_eval.specs.Instantiation.{Makes}
 
@@ -51,15 +52,16 @@ OneTerm = (P : Program) (n : ℕ) (b : Binding) (t : Template) → Once (Makes (
 abbrev pub SomeTerm : Type 0
 SomeTerm = (P : Program) (n : ℕ) (b : Binding) (t : Template) → AreFree P → HasAnswer (Makes (calls_at P n) b t)
 
--- extras have one answer at most
+-- extras have one answer at most, whatever fresh names avoid
 abbrev pub OneExtension : Type 0
-OneExtension = (L : Language) (P : Program) (n : ℕ) (w : Tree) (es : List Extra) (bs : List Binding) → Once (Extend L (calls_at P n) w es bs)
+OneExtension =
+    (L : Language) (P : Program) (n : ℕ) (a : Avoided) (es : List Extra) (bs : List Binding) → Once (Extend L (calls_at P n) a es bs)
 
 -- in languages that are free of left recursion they have one
 abbrev pub SomeExtension : Type 0
 SomeExtension =
-    (L : Language) (P : Program) (n : ℕ) (w : Tree) (es : List Extra) (bs : List Binding) → IsFree L → AreFree P
-    → HasAnswer (Extend L (calls_at P n) w es bs)
+    (L : Language) (P : Program) (n : ℕ) (a : Avoided) (es : List Extra) (bs : List Binding) → IsFree L → AreFree P
+    → HasAnswer (Extend L (calls_at P n) a es bs)
 
 -- a premise by itself has one answer at most
 abbrev pub OneMeeting : Type 0

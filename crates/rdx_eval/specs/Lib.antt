@@ -3,6 +3,7 @@ pub mod Making
 pub mod Calls
 pub mod Turns
 pub mod Instantiation
+pub mod Fresh
 pub mod Extending
 pub mod Metafunctions
 pub mod Judgements
@@ -13,4 +14,5 @@ pub mod Laws
 pub mod Examples
 pub mod CallExamples
 pub mod JudgementExamples
+pub mod FreshExamples
 pub mod Inside

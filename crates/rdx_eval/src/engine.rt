@@ -227,6 +227,7 @@ impl<'a, M: Matcher + Drop> Engine<'a, M> {
             language,
             extras,
             found,
+            whole,
         )?)
     }
 }

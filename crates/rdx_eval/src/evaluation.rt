@@ -3,15 +3,17 @@
 // each takes of the machine's stack, what it holds is kept small: none is put into another, and what
 // calls none of them stands by itself.
 ghost use Rattle.std.specs.Prelude.{◌≤◌, length, map, true};
-ghost use Rattle.rdx_term.specs.Tree.{Tree, truth};
+ghost use Rattle.rdx_term.specs.Tree.{truth};
 ghost use Rattle.rdx_term.specs.View.{tree_of};
 ghost use Rattle.rdx_lang.specs.Checked.{language_in, pattern_in};
 ghost use Rattle.rdx_lang.specs.ProgramView.{clauses_of, extra_of, extras_of, judgement_rules_of, premise_of};
 ghost use Rattle.rdx_lang.specs.Shown.{binding_of, bindings_of};
 ghost use Rattle.rdx_lang.specs.Templates.{fill, call as calling, apply as applied};
 ghost use Rattle.rdx_lang.specs.TemplateView.{template_of, host_of};
-ghost use Rattle.rdx_eval.specs.Answers.{Then};
-ghost use Rattle.rdx_eval.specs.Extending.{By, ByEach, ByPremise, Extend, Survivors};
+ghost use Rattle.rdx_eval.specs.Answers.{Gather, Then};
+ghost use Rattle.rdx_eval.specs.Extending.{ByEach, ByPremise, Extend, Survivors};
+ghost use Rattle.rdx_eval.specs.Fresh.{avoiding};
+ghost use Rattle.rdx_eval.specs.Inside.Extras.{WhereOne, SideOne, behind_all};
 ghost use Rattle.rdx_eval.specs.Inside.Parts.{items_in, hosts_in, InstList, Repeats};
 ghost use Rattle.rdx_eval.specs.Inside.Scopes.{calls_in, calls_here, bound_here, turns_here};
 ghost use Rattle.rdx_eval.specs.Inside.Stops.{Tells};
@@ -22,6 +24,7 @@ ghost use Rattle.rdx_eval.specs.Metafunctions.{Clauses, Results};
 ghost use Rattle.rdx_eval.specs.Views.{terms_in, bindings_in};
 
 use crate::extending::{found_by, listed_bindings, matched, matched_each, unless_false};
+use crate::fresh::freshened_each;
 use crate::host::{Host, is_false, operate};
 use crate::lookup::{judgement_named, language_named, metafunction_named};
 use crate::making::{filled, listed};
@@ -490,11 +493,10 @@ fn survivors<M: Matcher, H: Host>(
 {
     let room = room.inside()?;
     let found = found_by(matcher, language, pat, t)?;
-    extend(setting, matcher, room, height, language, extras, found)
+    extend(setting, matcher, room, height, language, extras, found, t)
 }
 
-/// What the extras make of the bindings, one extra after the other. The clause holds whatever the
-/// whole term is, since no extra makes a fresh name.
+/// What the extras make of the bindings, one extra after the other, beside the whole term.
 #[cycle(evaluation)]
 #[inline(never)]
 pub(crate) fn extend<M: Matcher, H: Host>(
@@ -505,19 +507,24 @@ pub(crate) fn extend<M: Matcher, H: Host>(
     language: &CheckedLang,
     extras: &[Extra],
     found: Vec<Binding>,
+    whole: &Term,
 ) -> Result<Vec<Binding>, Stop>
-    ensures { (w : Tree) → Tells bindings_in (Extend (language_in language.now)
-        (calls_in setting.now height) w (extras_of extras.now) (bindings_in found)) result }
+    ensures { Tells bindings_in (Extend (language_in language.now) (calls_in setting.now height)
+        (avoiding (tree_of whole.now)) (extras_of extras.now) (bindings_in found)) result }
 {
     let room = room.inside()?;
     let mut bs = found;
-    for extra in extras {
-        bs = by_each(setting, matcher, room, height, language, extra, &bs)?;
+    for i in 0..extras.len() {
+        let earlier = &extras[..i];
+        let extra = &extras[i];
+        bs = by_each(
+            setting, matcher, room, height, language, whole, earlier, extra, &bs,
+        )?;
     }
     Ok(bs)
 }
 
-// What an extra makes of all bindings, ascending and each once.
+// What an extra that stands behind the earlier ones makes of all bindings, ascending and each once.
 #[cycle(evaluation)]
 #[inline(never)]
 fn by_each<M: Matcher, H: Host>(
@@ -526,56 +533,114 @@ fn by_each<M: Matcher, H: Host>(
     room: Room,
     height: usize,
     language: &CheckedLang,
+    whole: &Term,
+    earlier: &[Extra],
     extra: &Extra,
     bs: &[Binding],
 ) -> Result<Vec<Binding>, Stop>
-    ensures { (w : Tree) → Tells bindings_in (ByEach (language_in language.now)
-        (calls_in setting.now height) w (extra_of extra.now) (bindings_of bs.now)) result }
+    ensures { Tells bindings_in (ByEach (language_in language.now) (calls_in setting.now height)
+        (behind_all (avoiding (tree_of whole.now)) (extras_of earlier.now)) (extra_of extra.now)
+        (bindings_of bs.now)) result }
 {
     let room = room.inside()?;
-    let mut found = Vec::new(setting.alloc);
-    for b in bs {
-        let mut more = by(setting, matcher, room, height, language, extra, b)?;
-        found.append(&mut more)?;
-    }
+    let found = match extra {
+        Extra::Where(pat, template) => {
+            where_each(setting, matcher, room, height, language, pat, template, bs)?
+        }
+        Extra::Side(h) => side_each(setting, matcher, room, height, h, bs)?,
+        Extra::Holds(premise) => {
+            premise_each(setting, matcher, room, height, language, premise, bs)?
+        }
+        Extra::Fresh(name) => freshened_each(setting.alloc, whole, earlier, name, bs)?,
+    };
     Ok(listed_bindings(setting.alloc, found)?)
 }
 
-// What an extra makes of one binding.
+// The joins of each binding with those by which the pattern matches what the template makes of it.
 #[cycle(evaluation)]
 #[inline(never)]
-fn by<'x, M: Matcher, H: Host>(
+fn where_each<'x, M: Matcher, H: Host>(
     setting: &'x Setting<'x, H>,
     matcher: &mut M,
     room: Room,
     height: usize,
     language: &CheckedLang,
-    extra: &Extra,
-    b: &'x Binding,
+    pat: &CheckedPat,
+    template: &Template,
+    bs: &'x [Binding],
 ) -> Result<Vec<Binding>, Stop>
-    ensures { (w : Tree) → Tells bindings_in (By (language_in language.now)
-        (calls_in setting.now height) w (extra_of extra.now) (binding_of b.now)) result }
+    ensures { Tells bindings_in (Gather (WhereOne (language_in language.now)
+        (calls_in setting.now height) (pattern_in pat.now) (template_of template.now))
+        (bindings_of bs.now)) result }
 {
     let room = room.inside()?;
-    let scope = Scope {
-        setting,
-        height,
-        b,
-        turns: &[],
-    };
-    match extra {
-        Extra::Where(pat, template) => {
-            let t = instantiate(&scope, matcher, room, template)?;
-            Ok(matched(setting.alloc, language, matcher, pat, b, &t)?)
-        }
-        Extra::Side(h) => {
-            let t = evaluate(&scope, matcher, room, h)?;
-            Ok(unless_false(setting.alloc, &t, b)?)
-        }
-        Extra::Holds(premise) => {
-            by_premise(setting, matcher, room, height, language, premise, b)
-        }
+    let mut found = Vec::new(setting.alloc);
+    for binding in bs {
+        let scope = Scope {
+            setting,
+            height,
+            b: binding,
+            turns: &[],
+        };
+        let t = instantiate(&scope, matcher, room, template)?;
+        let mut more = matched(setting.alloc, language, matcher, pat, binding, &t)?;
+        found.append(&mut more)?;
     }
+    Ok(found)
+}
+
+// The bindings of which the host expression does not make false.
+#[cycle(evaluation)]
+#[inline(never)]
+fn side_each<'x, M: Matcher, H: Host>(
+    setting: &'x Setting<'x, H>,
+    matcher: &mut M,
+    room: Room,
+    height: usize,
+    h: &HostExpr,
+    bs: &'x [Binding],
+) -> Result<Vec<Binding>, Stop>
+    ensures { Tells bindings_in (Gather (SideOne (calls_in setting.now height) (host_of h.now))
+        (bindings_of bs.now)) result }
+{
+    let room = room.inside()?;
+    let mut found = Vec::new(setting.alloc);
+    for binding in bs {
+        let scope = Scope {
+            setting,
+            height,
+            b: binding,
+            turns: &[],
+        };
+        let t = evaluate(&scope, matcher, room, h)?;
+        let mut more = unless_false(setting.alloc, &t, binding)?;
+        found.append(&mut more)?;
+    }
+    Ok(found)
+}
+
+// What the premise makes of each binding.
+#[cycle(evaluation)]
+#[inline(never)]
+fn premise_each<'x, M: Matcher, H: Host>(
+    setting: &'x Setting<'x, H>,
+    matcher: &mut M,
+    room: Room,
+    height: usize,
+    language: &CheckedLang,
+    premise: &Premise,
+    bs: &'x [Binding],
+) -> Result<Vec<Binding>, Stop>
+    ensures { Tells bindings_in (Gather (ByPremise (language_in language.now)
+        (calls_in setting.now height) (premise_of premise.now)) (bindings_of bs.now)) result }
+{
+    let room = room.inside()?;
+    let mut found = Vec::new(setting.alloc);
+    for b in bs {
+        let mut more = by_premise(setting, matcher, room, height, language, premise, b)?;
+        found.append(&mut more)?;
+    }
+    Ok(found)
 }
 
 /// What a premise makes of one binding.

@@ -39,8 +39,12 @@ pub(crate) fn listed_bindings(alloc: Global, found: Vec<Binding>) -> Result<Vec<
     listing(alloc, found)
 }
 
-// The joins of a binding with others, in order.
-fn joins(alloc: Global, b: &Binding, others: &[Binding]) -> Result<Vec<Binding>, NoMemory>
+/// The joins of a binding with others, in order.
+pub(crate) fn joins(
+    alloc: Global,
+    b: &Binding,
+    others: &[Binding],
+) -> Result<Vec<Binding>, NoMemory>
     ensures { IfOk result (λ found.
         Joins (binding_of b.now) (bindings_of others.now) (bindings_in found)) }
 {

@@ -2,6 +2,7 @@
 ghost use Rattle.rdx_eval.specs.Laws.{OneValue, SomeValue, OneOutputs, SomeOutputs, ValuesStay, OutputsStay, OneTerm, SomeTerm, OneExtension, SomeExtension, OneMeeting, SomeMeeting};
 ghost use Rattle.rdx_eval.specs.CallExamples.{RemainderOfNegative, CutTowardZero, WrongKind, ByZero, AndStops, AndGivesTheLast, NothingToFail, OrStops, NothingHolds, FalseTakesAway, ZeroIsTrue, SpentAtNone, NotThere};
 ghost use Rattle.rdx_eval.specs.JudgementExamples.{SpentJudgement, NoJudgement, NoRule, AllRules, NotMet, LaterFault};
+ghost use Rattle.rdx_eval.specs.FreshExamples.{ItselfWhereFree, PassesTheTaken, StringsAreFree, TwoDiffer, OthersAreFree, MarksNumbers};
 ghost use Rattle.rdx_eval.specs.Examples.{OneTurn, TwoLengths, OtherWayRound, NoTurn, SideBySide, InnermostTurns, TurnsInTurns, Unbound, NoContext, ContextFirst, WhereBinds, WhereMeets};
 
 /// A call has one value, or one fault, where the program's languages are free of left recursion.
@@ -88,4 +89,14 @@ pub fn worked_judgements()
     ensures all_rules { AllRules }
     ensures not_met { NotMet }
     ensures later_fault { LaterFault }
+{}
+
+/// Worked examples: which symbols fresh names stand for.
+pub fn worked_fresh_names()
+    ensures itself_where_free { ItselfWhereFree }
+    ensures passes_the_taken { PassesTheTaken }
+    ensures strings_are_free { StringsAreFree }
+    ensures two_differ { TwoDiffer }
+    ensures others_are_free { OthersAreFree }
+    ensures marks_numbers { MarksNumbers }
 {}

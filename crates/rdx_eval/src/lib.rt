@@ -12,6 +12,7 @@ mod engine;
 mod evaluation;
 mod extending;
 mod fault;
+mod fresh;
 mod host;
 pub mod laws;
 mod lookup;

@@ -1,13 +1,14 @@
-use Rattle.std.proofs.Common.{ℕ, ◌-◌, ◌++◌, ◌∷◌, [], drop, map}
-use Rattle.rdx_term.specs.Tree.{Tree}
+use Rattle.std.proofs.Common.{ℕ, ◌-◌, ◌++◌, ◌∷◌, [], drop, take, map}
 use Rattle.rdx_term.specs.View.{tree_of}
-use Rattle.rdx_lang.specs.Checked.{language_in}
-use Rattle.rdx_lang.specs.ProgramView.{clauses_of, extra_of, extras_of, judgement_rules_of}
+use Rattle.rdx_lang.specs.Checked.{language_in, pattern_in}
+use Rattle.rdx_lang.specs.ProgramView.{clauses_of, extras_of, judgement_rules_of, premise_of}
 use Rattle.rdx_lang.specs.Shown.{bindings_of}
 use Rattle.rdx_lang.specs.Templates.{Host, Template}
 use Rattle.rdx_lang.specs.TemplateView.{part_of, host_of, template_of}
 use Rattle.rdx_eval.specs.Answers.{Single}
-use Rattle.rdx_eval.specs.Extending.{By}
+use Rattle.rdx_eval.specs.Extending.{ByPremise}
+use Rattle.rdx_eval.specs.Fresh.{avoiding}
+use Rattle.rdx_eval.specs.Inside.Extras.{WhereOne, SideOne}
 use Rattle.rdx_eval.specs.Inside.Parts.{InstPart, hosts_in}
 use Rattle.rdx_eval.specs.Inside.Scopes.{calls_in, calls_here, bound_here, turns_here}
 use Rattle.rdx_eval.specs.Instantiation.{Inst, InstHost, Makes, MakeList, numbers}
@@ -76,8 +77,14 @@ decreases-extend g l = l.room.left
 abbrev pub decreases-by_each : goal.decreases-by_each
 decreases-by_each g l = l.room.left
 
-abbrev pub decreases-by : goal.decreases-by
-decreases-by g l = l.room.left
+abbrev pub decreases-where_each : goal.decreases-where_each
+decreases-where_each g l = l.room.left
+
+abbrev pub decreases-side_each : goal.decreases-side_each
+decreases-side_each g l = l.room.left
+
+abbrev pub decreases-premise_each : goal.decreases-premise_each
+decreases-premise_each g l = l.room.left
 
 abbrev pub decreases-by_premise : goal.decreases-by_premise
 decreases-by_premise g l = l.room.left
@@ -128,14 +135,21 @@ invariant-output_lists-loop-binding g l =
     Gathers (λ (b : Binding). Single (MakeList (calls_in l.setting l.height) b (map template_of l.templates)))
     (bindings_of l.bs) (bindings_of (drop l.binding-index l.bs)) (terms_in l.found)
 
-abbrev pub invariant-extend-loop-extra : goal.invariant-extend-loop-extra
-invariant-extend-loop-extra g l =
-    (w : Tree)
-    → Extends (language_in l.language) (calls_in l.setting l.height) w (extras_of l.extras) (bindings_in l.fn.found)
-    (extras_of (drop l.extra-index l.extras)) (bindings_in l.bs)
+abbrev pub invariant-extend-loop-i : goal.invariant-extend-loop-i
+invariant-extend-loop-i g l =
+    Extends (language_in l.language) (calls_in l.setting l.height) (avoiding (tree_of l.whole)) (extras_of l.extras) (bindings_in l.fn.found)
+    (extras_of (take l.i l.extras)) (extras_of (drop l.i l.extras)) (bindings_in l.bs)
 
-abbrev pub invariant-by_each-loop-b : goal.invariant-by_each-loop-b
-invariant-by_each-loop-b g l =
-    (w : Tree)
-    → Gathers (By (language_in l.language) (calls_in l.setting l.height) w (extra_of l.extra))
+abbrev pub invariant-where_each-loop-binding : goal.invariant-where_each-loop-binding
+invariant-where_each-loop-binding g l =
+    Gathers (WhereOne (language_in l.language) (calls_in l.setting l.height) (pattern_in l.pat) (template_of l.template))
+    (bindings_of l.bs) (bindings_of (drop l.binding-index l.bs)) (bindings_in l.found)
+
+abbrev pub invariant-side_each-loop-binding : goal.invariant-side_each-loop-binding
+invariant-side_each-loop-binding g l =
+    Gathers (SideOne (calls_in l.setting l.height) (host_of l.h)) (bindings_of l.bs) (bindings_of (drop l.binding-index l.bs)) (bindings_in l.found)
+
+abbrev pub invariant-premise_each-loop-b : goal.invariant-premise_each-loop-b
+invariant-premise_each-loop-b g l =
+    Gathers (ByPremise (language_in l.language) (calls_in l.setting l.height) (premise_of l.premise))
     (bindings_of l.bs) (bindings_of (drop l.b-index l.bs)) (bindings_in l.found)

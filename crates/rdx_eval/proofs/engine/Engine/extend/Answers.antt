@@ -28,4 +28,4 @@ returns-in_err-extend-clause-answer g c =
     (subst (λ (q : Bor code_program.Program). Tells bindings_in
     (ExtendOver (Some (language_in c.in-Some.language.now)) (calls_at (program_of q.now) height) w (extras_of c.args.extras.now) (bindings_in c.args.found))
     (Err c.in_err-extend.field-0.0))
-    c.setting-setting.ensures (c.in_err-extend.ensures w)))
+    c.setting-setting.ensures c.in_err-extend.ensures))

@@ -1,0 +1,245 @@
+-- What extras and premises make of bindings.
+use Rattle.std.proofs.Common.{arith, ◌≡◌, ℕ, ◌+◌, List, [], ◌∷◌, ◌++◌, drop, take, map, ap, sym, subst}
+use Rattle.std.proofs.lemmas.Grind.{common_steps}
+use Rattle.std.specs.Prelude.{Vec}
+use Rattle.std.specs.declared.alloc.Global.{Global}
+use Rattle.rdx_term.specs.Tree.{Tree}
+use Rattle.rdx_term.specs.View.{tree_of}
+use Rattle.rdx_term.specs.declared.term.Term as code_term
+use Rattle.rdx_lang.specs.Bindings.{Binding}
+use Rattle.rdx_lang.specs.Checked.{language_in, pattern_in}
+use Rattle.rdx_lang.specs.Patterns.{Language}
+use Rattle.rdx_lang.specs.ProgramView.{extra_of, extras_of, premise_of}
+use Rattle.rdx_lang.specs.Programs.{Extra, Premise, such_as, provided, holds}
+use Rattle.rdx_lang.specs.Shown.{binding_of, bindings_of}
+use Rattle.rdx_lang.specs.Templates.{Host}
+use Rattle.rdx_lang.specs.TemplateView.{template_of, host_of}
+use Rattle.rdx_lang.specs.declared.binding.Binding as code_binding
+use Rattle.rdx_lang.specs.declared.template.Template as code_template
+use Rattle.rdx_lang.proofs.Rest.{rest_at}
+use Rattle.rdx_bind.proofs.Prefixes.{taken_next}
+use Rattle.rdx_eval.specs.Answers.{Answer, value, fault, stops, goes, Gather, lists}
+use Rattle.rdx_eval.specs.Calls.{Calls}
+use Rattle.rdx_eval.specs.Extending.{By, ByEach, ByPremise, Extend, MatchedEach, Survivors}
+use Rattle.rdx_eval.specs.Fresh.{Avoided, avoiding}
+use Rattle.rdx_eval.specs.Inside.Extras.{WhereOne, SideOne, behind_all}
+use Rattle.rdx_eval.specs.Inside.Scopes.{calls_in}
+use Rattle.rdx_eval.specs.Instantiation.{HostMakes, Makes, MakeList}
+use Rattle.rdx_eval.specs.Views.{terms_in, bindings_in}
+use Rattle.rdx_eval.proofs.ExtraAfterExtra.{extends-next, extends-fault}
+use Rattle.rdx_eval.proofs.GatheredLoops.{gather-next, gather-end, gather-error}
+use Rattle.rdx_eval.proofs.HandedOn.{handed_on, error_handed_on}
+use Rattle.rdx_eval.proofs.evaluation.+evaluation.Goals as goal
+use Rattle.rdx_eval.proofs.evaluation.+evaluation.Goals.{by_each-in-Where+in_ok-found-in-Where, by_each-in-Side+in_ok-found-in-Side, by_each-in-Holds+in_ok-found-in-Holds, by_each-in-Fresh+in_ok-found-in-Fresh}
+
+-- ---- extras
+
+pub survivors-returns : goal.survivors-returns
+survivors-returns g t c =
+    let C : Calls = calls_in c.args.setting.now c.args.height in
+    let L : Language = language_in c.args.language.now in
+    let w : Tree = tree_of c.args.t.now in
+    let es = extras_of c.args.extras.now in
+    handed_on bindings_in (Extend L C (avoiding w) es (bindings_in c.in_ok-found.found)) (Survivors L C w (pattern_in c.args.pat.now) es) c.extend.result
+    (λ q h. goes (lists c.in_ok-found.ensures) h) c.extend.ensures
+
+pub extend-returns-in_err-bs : goal.extend-returns-in_err-bs
+extend-returns-in_err-bs g t c =
+    let C : Calls = calls_in c.args.setting.now c.args.height in
+    let L : Language = language_in c.args.language.now in
+    let a : Avoided = avoiding (tree_of c.args.whole.now) in
+    let xs = c.args.extras.now in
+    let i : ℕ = c.loop-i.i in
+    let x = c.index-extras-i.result in
+    let done : List Extra = extras_of (take i xs) in
+    let e : extras_of (drop i xs) ≡ extra_of x ∷ extras_of (drop (i + 1) xs) = rest_at extra_of xs i x c.loop-i-test.true c.index-extras-i.is in
+    error_handed_on bindings_in bindings_in (ByEach L C (behind_all a done) (extra_of x) (bindings_of c.deref.result.now))
+    (Extend L C a (extras_of xs) (bindings_in c.args.found)) c.from_residual-in_err-bs.result _ c.from_residual-in_err-bs.ensures.1
+    (λ f h. extends-fault L C a (extras_of xs) (bindings_in c.args.found) done _ (bindings_in c.loop-i.bs) (extra_of x) _ e f
+    (subst (λ (bs : List code_binding.Binding). ByEach L C (behind_all a done) (extra_of x) (bindings_of bs) (fault f)) c.deref.ensures.value h)
+    c.loop-i.invariant)
+    c.in_err-bs.ensures
+
+pub extend-loop-i-preserved : goal.extend-loop-i-preserved
+extend-loop-i-preserved g t c =
+    let C : Calls = calls_in c.args.setting.now c.args.height in
+    let L : Language = language_in c.args.language.now in
+    let a : Avoided = avoiding (tree_of c.args.whole.now) in
+    let xs = c.args.extras.now in
+    let i : ℕ = c.loop-i.i in
+    let x = c.index-extras-i.result in
+    let done : List Extra = extras_of (take i xs) in
+    let cs : List Binding = bindings_in c.in_ok-bs.bs in
+    let e : extras_of (drop i xs) ≡ extra_of x ∷ extras_of (drop (i + 1) xs) = rest_at extra_of xs i x c.loop-i-test.true c.index-extras-i.is in
+    let d : extras_of (take (i + 1) xs) ≡ done ++ extra_of x ∷ [] = taken_next extra_of xs i x c.loop-i-test.true c.index-extras-i.is in
+    let h : ByEach L C (behind_all a done) (extra_of x) (bindings_in c.loop-i.bs) (value cs) =
+    subst (λ (bs : List code_binding.Binding). ByEach L C (behind_all a done) (extra_of x) (bindings_of bs) (value cs)) c.deref.ensures.value
+    c.in_ok-bs.ensures in
+    extends-next L C a (extras_of xs) (bindings_in c.args.found) done _ (bindings_in c.loop-i.bs) (extra_of x) _ e (extras_of (take (i + 1) xs)) d cs h
+    c.loop-i.invariant
+
+-- what is gathered of one form of extras is what is gathered of the extra that has it
+gathered_by : (R : Extra → List code_binding.Binding → Type 0) {e d : Extra} {found ds : Vec code_binding.Binding Global} → e ≡ d → found ≡ ds
+    → R d ds.items → R e found.items
+gathered_by R {e} {d} {found} {ds} p q h =
+    subst (λ (x : Extra). R x found.items) (sym p) (subst (λ (vs : Vec code_binding.Binding Global). R d vs.items) (sym q) h)
+
+pub by_each-returns-in_err-found-in-Where : goal.by_each-returns-in_err-found-in-Where
+by_each-returns-in_err-found-in-Where g t c =
+    let C : Calls = calls_in c.args.setting.now c.args.height in
+    let L : Language = language_in c.args.language.now in
+    let a : Avoided = behind_all (avoiding (tree_of c.args.whole.now)) (extras_of c.args.earlier.now) in
+    let bs : List Binding = bindings_of c.args.bs.now in
+    let e : extra_of c.args.extra.now ≡ such_as (pattern_in c.in-Where.pat) (template_of c.in-Where.template) = ap extra_of c.in-Where.is in
+    error_handed_on bindings_in bindings_in (Gather (WhereOne L C (pattern_in c.in-Where.pat) (template_of c.in-Where.template)) bs)
+    (ByEach L C a (extra_of c.args.extra.now) bs) c.from_residual-in_err-found-in-Where.result _ c.from_residual-in_err-found-in-Where.ensures.1
+    (λ f h. stops (subst (λ (x : Extra). Gather (By L C a x) bs (fault f)) (sym e) h)) c.in_err-found-in-Where.ensures
+
+pub by_each-returns-in_err-found-in-Side : goal.by_each-returns-in_err-found-in-Side
+by_each-returns-in_err-found-in-Side g t c =
+    let C : Calls = calls_in c.args.setting.now c.args.height in
+    let L : Language = language_in c.args.language.now in
+    let a : Avoided = behind_all (avoiding (tree_of c.args.whole.now)) (extras_of c.args.earlier.now) in
+    let bs : List Binding = bindings_of c.args.bs.now in
+    let e : extra_of c.args.extra.now ≡ provided (host_of c.in-Side.h) = ap extra_of c.in-Side.is in
+    error_handed_on bindings_in bindings_in (Gather (SideOne C (host_of c.in-Side.h)) bs)
+    (ByEach L C a (extra_of c.args.extra.now) bs) c.from_residual-in_err-found-in-Side.result _ c.from_residual-in_err-found-in-Side.ensures.1
+    (λ f h. stops (subst (λ (x : Extra). Gather (By L C a x) bs (fault f)) (sym e) h)) c.in_err-found-in-Side.ensures
+
+pub by_each-returns-in_err-found-in-Holds : goal.by_each-returns-in_err-found-in-Holds
+by_each-returns-in_err-found-in-Holds g t c =
+    let C : Calls = calls_in c.args.setting.now c.args.height in
+    let L : Language = language_in c.args.language.now in
+    let a : Avoided = behind_all (avoiding (tree_of c.args.whole.now)) (extras_of c.args.earlier.now) in
+    let bs : List Binding = bindings_of c.args.bs.now in
+    let e : extra_of c.args.extra.now ≡ holds (premise_of c.in-Holds.premise) = ap extra_of c.in-Holds.is in
+    error_handed_on bindings_in bindings_in (Gather (ByPremise L C (premise_of c.in-Holds.premise)) bs)
+    (ByEach L C a (extra_of c.args.extra.now) bs) c.from_residual-in_err-found-in-Holds.result _ c.from_residual-in_err-found-in-Holds.ensures.1
+    (λ f h. stops (subst (λ (x : Extra). Gather (By L C a x) bs (fault f)) (sym e) h)) c.in_err-found-in-Holds.ensures
+
+pub by_each-returns : goal.by_each-returns
+by_each-returns g t c =
+    let C : Calls = calls_in c.args.setting.now c.args.height in
+    let L : Language = language_in c.args.language.now in
+    let a : Avoided = behind_all (avoiding (tree_of c.args.whole.now)) (extras_of c.args.earlier.now) in
+    let bs : List Binding = bindings_of c.args.bs.now in
+    let R : Extra → List code_binding.Binding → Type 0 = λ e ds. Gather (By L C a e) bs (value (bindings_of ds)) in
+    let h : R (extra_of c.args.extra.now) c.match-extra.found.items =
+    elim c.match-extra.branch [
+      | by_each-in-Where+in_ok-found-in-Where w ↦
+          gathered_by R (ap extra_of w.in-Where.is) w.found-is w.in_ok-found-in-Where.ensures
+      | by_each-in-Side+in_ok-found-in-Side w ↦
+          gathered_by R (ap extra_of w.in-Side.is) w.found-is w.in_ok-found-in-Side.ensures
+      | by_each-in-Holds+in_ok-found-in-Holds w ↦
+          gathered_by R (ap extra_of w.in-Holds.is) w.found-is w.in_ok-found-in-Holds.ensures
+      | by_each-in-Fresh+in_ok-found-in-Fresh w ↦
+          gathered_by R (ap extra_of w.in-Fresh.is) w.found-is w.in_ok-found-in-Fresh.ensures
+    ] in
+    goes h (lists c.in_ok-listed_bindings.ensures)
+
+pub where_each-returns-in_err-t : goal.where_each-returns-in_err-t
+where_each-returns-in_err-t g t c =
+    let C : Calls = calls_in c.args.setting.now c.args.height in
+    let R : Binding → Answer (List Binding) → Type 0 =
+    WhereOne (language_in c.args.language.now) C (pattern_in c.args.pat.now) (template_of c.args.template.now) in
+    let x = c.binding-item.result in
+    gather-error binding_of R c.args.bs.now c.loop-binding.binding-index (bindings_in c.loop-binding.found) c.loop-binding.invariant x
+    c.loop-binding-test.true c.binding-item.is tree_of bindings_in (Makes C (binding_of x) (template_of c.args.template.now))
+    c.from_residual-in_err-t.result _ c.from_residual-in_err-t.ensures.1 (λ f h. stops h) c.in_err-t.ensures
+
+pub where_each-loop-binding-preserved : goal.where_each-loop-binding-preserved
+where_each-loop-binding-preserved g t c =
+    let R : Binding → Answer (List Binding) → Type 0 =
+    WhereOne (language_in c.args.language.now) (calls_in c.args.setting.now c.args.height) (pattern_in c.args.pat.now) (template_of c.args.template.now) in
+    let d : bindings_in c.append.new.self ≡ bindings_in c.loop-binding.found ++ bindings_in c.in_ok-more.more = grind (arith, common_steps) in
+    gather-next binding_of R c.args.bs.now c.loop-binding.binding-index (bindings_in c.loop-binding.found) c.loop-binding.invariant
+    c.binding-item.result c.loop-binding-test.true c.binding-item.is (bindings_in c.in_ok-more.more) (bindings_in c.append.new.self) d
+    (goes c.in_ok-t.ensures c.in_ok-more.ensures)
+
+pub where_each-returns : goal.where_each-returns
+where_each-returns g t c =
+    gather-end binding_of
+    (WhereOne (language_in c.args.language.now) (calls_in c.args.setting.now c.args.height) (pattern_in c.args.pat.now) (template_of c.args.template.now))
+    c.args.bs.now c.loop-binding.binding-index (bindings_in c.loop-binding.found) c.loop-binding.invariant c.loop-binding-test.false
+
+pub side_each-returns-in_err-t : goal.side_each-returns-in_err-t
+side_each-returns-in_err-t g t c =
+    let C : Calls = calls_in c.args.setting.now c.args.height in
+    let h : Host = host_of c.args.h.now in
+    let x = c.binding-item.result in
+    gather-error binding_of (SideOne C h) c.args.bs.now c.loop-binding.binding-index (bindings_in c.loop-binding.found) c.loop-binding.invariant x
+    c.loop-binding-test.true c.binding-item.is tree_of bindings_in (HostMakes C (binding_of x) h)
+    c.from_residual-in_err-t.result _ c.from_residual-in_err-t.ensures.1 (λ f k. stops k) c.in_err-t.ensures
+
+pub side_each-loop-binding-preserved : goal.side_each-loop-binding-preserved
+side_each-loop-binding-preserved g t c =
+    let R : Binding → Answer (List Binding) → Type 0 = SideOne (calls_in c.args.setting.now c.args.height) (host_of c.args.h.now) in
+    let d : bindings_in c.append.new.self ≡ bindings_in c.loop-binding.found ++ bindings_in c.in_ok-more.more = grind (arith, common_steps) in
+    gather-next binding_of R c.args.bs.now c.loop-binding.binding-index (bindings_in c.loop-binding.found) c.loop-binding.invariant
+    c.binding-item.result c.loop-binding-test.true c.binding-item.is (bindings_in c.in_ok-more.more) (bindings_in c.append.new.self) d
+    (goes c.in_ok-t.ensures (ap value c.in_ok-more.ensures))
+
+pub side_each-returns : goal.side_each-returns
+side_each-returns g t c =
+    gather-end binding_of (SideOne (calls_in c.args.setting.now c.args.height) (host_of c.args.h.now)) c.args.bs.now c.loop-binding.binding-index
+    (bindings_in c.loop-binding.found) c.loop-binding.invariant c.loop-binding-test.false
+
+pub premise_each-returns-in_err-more : goal.premise_each-returns-in_err-more
+premise_each-returns-in_err-more g t c =
+    let R : Binding → Answer (List Binding) → Type 0 =
+    ByPremise (language_in c.args.language.now) (calls_in c.args.setting.now c.args.height) (premise_of c.args.premise.now) in
+    let x = c.b-item.result in
+    gather-error binding_of R c.args.bs.now c.loop-b.b-index (bindings_in c.loop-b.found) c.loop-b.invariant x c.loop-b-test.true c.b-item.is
+    bindings_in bindings_in (R (binding_of x)) c.from_residual-in_err-more.result _ c.from_residual-in_err-more.ensures.1 (λ f h. h) c.in_err-more.ensures
+
+pub premise_each-loop-b-preserved : goal.premise_each-loop-b-preserved
+premise_each-loop-b-preserved g t c =
+    let R : Binding → Answer (List Binding) → Type 0 =
+    ByPremise (language_in c.args.language.now) (calls_in c.args.setting.now c.args.height) (premise_of c.args.premise.now) in
+    let d : bindings_in c.append.new.self ≡ bindings_in c.loop-b.found ++ bindings_in c.in_ok-more.more = grind (arith, common_steps) in
+    gather-next binding_of R c.args.bs.now c.loop-b.b-index (bindings_in c.loop-b.found) c.loop-b.invariant c.b-item.result c.loop-b-test.true
+    c.b-item.is (bindings_in c.in_ok-more.more) (bindings_in c.append.new.self) d c.in_ok-more.ensures
+
+pub premise_each-returns : goal.premise_each-returns
+premise_each-returns g t c =
+    gather-end binding_of
+    (ByPremise (language_in c.args.language.now) (calls_in c.args.setting.now c.args.height) (premise_of c.args.premise.now))
+    c.args.bs.now c.loop-b.b-index (bindings_in c.loop-b.found) c.loop-b.invariant c.loop-b-test.false
+
+-- ---- premises
+
+pub by_premise-returns-in_err-ins : goal.by_premise-returns-in_err-ins
+by_premise-returns-in_err-ins g t c =
+    let C : Calls = calls_in c.args.setting.now c.args.height in
+    let L : Language = language_in c.args.language.now in
+    let q : Premise = premise_of c.args.premise.now in
+    let b : Binding = binding_of c.args.b.now in
+    error_handed_on tree_of bindings_in (MakeList C b (map template_of c.deref.result.now)) (ByPremise L C q b)
+    c.from_residual-in_err-ins.result _ c.from_residual-in_err-ins.ensures.1
+    (λ f h. stops (stops (subst (λ (ts : List code_template.Template). MakeList C b (map template_of ts) (fault f)) c.deref.ensures.value h)))
+    c.in_err-ins.ensures
+
+pub by_premise-returns-in_err-found : goal.by_premise-returns-in_err-found
+by_premise-returns-in_err-found g t c =
+    let C : Calls = calls_in c.args.setting.now c.args.height in
+    let L : Language = language_in c.args.language.now in
+    let q : Premise = premise_of c.args.premise.now in
+    let b : Binding = binding_of c.args.b.now in
+    let u : Tree = tree_of c.in_ok-ins.ins in
+    let m : MakeList C b q.inputs (value u) =
+    subst (λ (ts : List code_template.Template). MakeList C b (map template_of ts) (value u)) c.deref.ensures.value c.in_ok-ins.ensures in
+    error_handed_on terms_in bindings_in (C.outputs_of q.judgement u) (ByPremise L C q b)
+    c.from_residual-in_err-found.result _ c.from_residual-in_err-found.ensures.1 (λ f h. stops (goes m h)) c.in_err-found.ensures
+
+pub by_premise-returns : goal.by_premise-returns
+by_premise-returns g t c =
+    let C : Calls = calls_in c.args.setting.now c.args.height in
+    let L : Language = language_in c.args.language.now in
+    let q : Premise = premise_of c.args.premise.now in
+    let b : Binding = binding_of c.args.b.now in
+    let u : Tree = tree_of c.in_ok-ins.ins in
+    let bs : List Binding = bindings_in c.in_ok-matched_each.field-0 in
+    let m : MakeList C b q.inputs (value u) =
+    subst (λ (ts : List code_template.Template). MakeList C b (map template_of ts) (value u)) c.deref.ensures.value c.in_ok-ins.ensures in
+    goes (goes m c.in_ok-found.ensures)
+    (subst (λ (ts : List code_term.Term). MatchedEach L q.outputs b (map tree_of ts) (value bs)) c.deref-2.ensures.value c.in_ok-matched_each.ensures)
