@@ -3,3 +3,5 @@ pub mod NumberedRules
 pub mod OneAnswer
 pub mod SomeAnswer
 pub mod Examples
+pub mod ContextNames
+pub mod ClosureExamples

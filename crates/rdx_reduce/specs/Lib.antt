@@ -3,4 +3,5 @@ pub mod Relations
 pub mod StepView
 pub mod Laws
 pub mod Examples
+pub mod ClosureExamples
 pub mod Model

@@ -1,4 +1,5 @@
 //! Laws of steps: functions that do nothing, whose contracts are the laws.
+ghost use Rattle.rdx_reduce.specs.ClosureExamples.{NameStays, NameIsTaken, ClosureOfClosure};
 ghost use Rattle.rdx_reduce.specs.Examples.{OneStep, StepByEach, OnceForTwo, FaultAlone};
 ghost use Rattle.rdx_reduce.specs.Laws.{OneStepping, SomeStepping};
 
@@ -15,4 +16,11 @@ pub fn worked_examples()
     ensures step_by_each { StepByEach }
     ensures once_for_two { OnceForTwo }
     ensures fault_alone { FaultAlone }
+{}
+
+/// Worked examples: what closures make of relations of one rule.
+pub fn worked_closures()
+    ensures name_stays { NameStays }
+    ensures name_is_taken { NameIsTaken }
+    ensures closure_of_closure { ClosureOfClosure }
 {}

@@ -14,6 +14,7 @@ use Rattle.rdx_eval.specs.Answers.{goes, lists}
 use Rattle.rdx_eval.specs.Calls.{Calls}
 use Rattle.rdx_eval.specs.Heights.{calls_at, height}
 use Rattle.rdx_eval.specs.Extending.{Extend, ExtendOver, Survivors}
+use Rattle.rdx_eval.specs.Fresh.{avoiding}
 use Rattle.rdx_eval.specs.Views.{Says, bindings_in, program_in}
 use Rattle.rdx_eval.proofs.SaidOn.{said_on}
 use Rattle.rdx_reduce.proofs.stepping.survivors.Goals as goal
@@ -32,8 +33,8 @@ returns-clause-answer g c =
     let over : Says bindings_in (ExtendOver (language_named (program_of (program_in c.args.engine.now).now) c.args.name.now) C t (extras_of c.deref.result.now) bs) c.extend.result =
     subst (λ (p : Bor Program). Says bindings_in (ExtendOver (language_named (program_of p.now) c.args.name.now) (calls_at (program_of p.now) height) t (extras_of c.deref.result.now) bs) c.extend.result)
     c.matches.ensures.same c.extend.ensures.answer in
-    let extended : Says bindings_in (Extend L C t (extras_of c.deref.result.now) bs) c.extend.result =
+    let extended : Says bindings_in (Extend L C (avoiding t) (extras_of c.deref.result.now) bs) c.extend.result =
     subst (λ (o : Option Language). Says bindings_in (ExtendOver o C t (extras_of c.deref.result.now) bs) c.extend.result) c.requires over in
-    said_on bindings_in (Extend L C t (extras_of c.args.rule.now.extras.items) bs) (Survivors L C t (pattern_in c.args.rule.now.pattern) (extras_of c.args.rule.now.extras.items)) c.extend.result
+    said_on bindings_in (Extend L C (avoiding t) (extras_of c.args.rule.now.extras.items) bs) (Survivors L C t (pattern_in c.args.rule.now.pattern) (extras_of c.args.rule.now.extras.items)) c.extend.result
     (λ a h. goes (lists c.in_ok-found.ensures.listing) h)
-    (subst (λ (es : List Extra). Says bindings_in (Extend L C t (extras_of es) bs) c.extend.result) c.deref.ensures.value extended)
+    (subst (λ (es : List Extra). Says bindings_in (Extend L C (avoiding t) (extras_of es) bs) c.extend.result) c.deref.ensures.value extended)
