@@ -9,7 +9,7 @@ use Rattle.rdx_grammar.specs.Parts.{text_of}
 use Rattle.rdx_grammar.specs.PatternChecks as patterns
 use Rattle.rdx_defs.specs.Arguments.{Arguments, is_misfit}
 use Rattle.rdx_defs.specs.Bound.{Bound}
-use Rattle.rdx_defs.specs.ExtraForms.{ExtraForm, such_that, provided, confirmed, holding, name, no_extra, ExtraPlace, of_case, of_rule, form_at}
+use Rattle.rdx_defs.specs.ExtraForms.{ExtraForm, such_that, provided, confirmed, holding, freshly, name, no_extra, ExtraPlace, of_case, of_clause, of_rule, form_at}
 use Rattle.rdx_defs.specs.Headed.{Headed, headed}
 use Rattle.rdx_defs.specs.Inside.BareStands as bare_stands
 use Rattle.rdx_defs.specs.Inside.BareStands.{lone_pattern}
@@ -23,8 +23,8 @@ use Rattle.rdx_defs.specs.MetafunctionStands.{clause_stands, clauses_stand, cont
 use Rattle.rdx_defs.specs.RelationForms.{CaseForm, case_form, RelationForm, is_keyword}
 use Rattle.rdx_defs.specs.RelationStands.{case_stands, cases_stand, domain_stands, relation_stands}
 use Rattle.rdx_defs.specs.Scope.{Scope, mode_of}
-use Rattle.rdx_defs.specs.StandChecks.{shape_fault, shape_faults, repeated_name, names_with, repeated_names, bad_name, bad_names, unknown_name, unknown_names, mode_fault, mode_faults}
-use Rattle.rdx_defs.specs.Stands.{Stand, misshaped, function, judgement, asked, arrow, pattern, template, condition, plain, misfit, named, names_bound, bound_in, flagged_stand, plain_argument, arguments_by, arguments_stand, misfits, premise_arguments, held_stands, bound_by_premise, bound_by_extra, extra_stands, is_named, extras_stand}
+use Rattle.rdx_defs.specs.StandChecks.{shape_fault, shape_faults, bad_name, bad_names, unknown_name, unknown_names, mode_fault, mode_faults}
+use Rattle.rdx_defs.specs.Stands.{Stand, misshaped, function, judgement, asked, arrow, pattern, template, condition, plain, misfit, fresh, named, names_bound, bound_in, flagged_stand, plain_argument, arguments_by, arguments_stand, misfits, premise_arguments, held_stands, bound_by_premise, bound_freshly, fresh_stands, bound_by_extra, extra_stands, is_named, extras_stand}
 use Rattle.rdx_defs.proofs.LoneStands.{branch_stands, contract-lone}
 
 -- ---- without what is bound
@@ -41,6 +41,7 @@ bare (template bs t) = template [] t
 bare (condition bs h) = condition [] h
 bare (plain os) = plain os
 bare (misfit d n) = misfit d n
+bare (fresh bs d) = fresh [] d
 bare (named again d) = named again d
 
 -- of two lists
@@ -142,12 +143,18 @@ module _ (S : Scope) (ns : List (List ℕ)) where
       (both (misfits b d q.head) (arguments_stand ns bs (names_bound bs) a) (misfits b d q.head) (bare_stands.arguments_stand a)
       (bare-misfits b d q.head) (bare-arguments bs (names_bound bs) a))
 
+  -- in names to be made
+  bare-fresh : (bs : List patterns.Bound) (ds : List Sexp) → map bare (fresh_stands bs ds) ≡ bare_stands.fresh_stands ds
+  bare-fresh bs [] = refl
+  bare-fresh bs (d ∷ ds) = ap (λ (ss : List Stand). fresh [] d ∷ ss) (bare-fresh (bs ++ bound_freshly d ∷ []) ds)
+
   -- in an extra
   bare-extra : (bs : List patterns.Bound) (again : Bool) (d : Sexp) (e : ExtraForm) → map bare (extra_stands S ns bs again d e) ≡ bare_stands.extra_stands S again d e
   bare-extra bs again d (such_that p t) = refl
   bare-extra bs again d (provided h) = refl
   bare-extra bs again d (confirmed t) = refl
   bare-extra bs again d (holding e) = bare-held bs e (headed e)
+  bare-extra bs again d (freshly ds) = bare-fresh bs ds
   bare-extra bs again d name = refl
   bare-extra bs again d no_extra = refl
 
@@ -188,7 +195,7 @@ module _ (S : Scope) (ns : List (List ℕ)) where
   bare-clause x d (Some c) = by_test (bytes_eq (text_of c.function) x)
     where
       by_test : (b : Bool) → map bare (if b then branch_stands S ns true (clause_branch c) else misshaped d ∷ []) ≡ bare_stands.clause_stands S d (if b then Some c else None)
-      by_test true = ap (λ (ss : List Stand). pattern [] (taken_occurrences (clause_branch c).takes) ∷ template [] c.result ∷ ss) (bare-extras of_case _ true c.extras)
+      by_test true = ap (λ (ss : List Stand). pattern [] (taken_occurrences (clause_branch c).takes) ∷ template [] c.result ∷ ss) (bare-extras of_clause _ true c.extras)
       by_test false = refl
 
   -- in clauses
@@ -284,25 +291,11 @@ shape-bare (template bs t) = refl
 shape-bare (condition bs h) = refl
 shape-bare (plain os) = refl
 shape-bare (misfit d n) = refl
+shape-bare (fresh bs d) = refl
 shape-bare (named again d) = refl
 
 pub shapes-bare : (ss : List Stand) → shape_faults (map bare ss) ≡ shape_faults ss
 shapes-bare ss = flat-bare shape_fault shape-bare ss
-
--- names that come again
-pub repeated-bare : (seen : List (List ℕ)) (ss : List Stand) → repeated_names seen (map bare ss) ≡ repeated_names seen ss
-repeated-bare seen [] = refl
-repeated-bare seen (misshaped d ∷ ss) = repeated-bare seen ss
-repeated-bare seen (function d ∷ ss) = repeated-bare seen ss
-repeated-bare seen (judgement d ∷ ss) = repeated-bare seen ss
-repeated-bare seen (asked d ∷ ss) = repeated-bare seen ss
-repeated-bare seen (arrow d ∷ ss) = repeated-bare seen ss
-repeated-bare seen (pattern bs os ∷ ss) = repeated-bare seen ss
-repeated-bare seen (template bs t ∷ ss) = repeated-bare seen ss
-repeated-bare seen (condition bs h ∷ ss) = repeated-bare seen ss
-repeated-bare seen (plain os ∷ ss) = repeated-bare seen ss
-repeated-bare seen (misfit d n ∷ ss) = repeated-bare seen ss
-repeated-bare seen (named again d ∷ ss) = ap (λ (ds : List Sexp). repeated_name seen (named again d) ++ ds) (repeated-bare (names_with seen (named again d)) ss)
 
 -- names that may not be
 bad_name-bare : (s : Stand) → bad_name (bare s) ≡ bad_name s
@@ -316,6 +309,7 @@ bad_name-bare (template bs t) = refl
 bad_name-bare (condition bs h) = refl
 bad_name-bare (plain os) = refl
 bad_name-bare (misfit d n) = refl
+bad_name-bare (fresh bs d) = refl
 bad_name-bare (named again d) = refl
 
 pub bad_names-bare : (ss : List Stand) → bad_names (map bare ss) ≡ bad_names ss
@@ -333,6 +327,7 @@ unknown_name-bare S (template bs t) = refl
 unknown_name-bare S (condition bs h) = refl
 unknown_name-bare S (plain os) = refl
 unknown_name-bare S (misfit d n) = refl
+unknown_name-bare S (fresh bs d) = refl
 unknown_name-bare S (named again d) = refl
 
 pub unknown_names-bare : (S : Scope) (ss : List Stand) → unknown_names S (map bare ss) ≡ unknown_names S ss
@@ -350,6 +345,7 @@ mode_fault-bare (template bs t) = refl
 mode_fault-bare (condition bs h) = refl
 mode_fault-bare (plain os) = refl
 mode_fault-bare (misfit d n) = refl
+mode_fault-bare (fresh bs d) = refl
 mode_fault-bare (named again d) = refl
 
 pub mode_faults-bare : (ss : List Stand) → mode_faults (map bare ss) ≡ mode_faults ss

@@ -1,22 +1,26 @@
 -- What the patterns of a readable form bind are names, where none of them may not be bound.
-use Rattle.std.proofs.Common.{◌≡◌, ◌++◌, ◌∙◌, ◌+◌, ℕ, Bool, true, false, List, [], ◌∷◌, map, refl, sym, subst, arith, if◌then◌else◌}
+use Rattle.std.proofs.Common.{◌≡◌, ◌++◌, ◌∙◌, ◌+◌, ℕ, Bool, true, false, List, [], ◌∷◌, map, IsTrue, refl, sym, subst, arith, if◌then◌else◌}
 use Rattle.std.proofs.lemmas.Grind.{flat_map-append}
 use Rattle.std.specs.Prelude.{Option, Some, None, flat_map, codes}
-use Rattle.rdx_sexp.specs.Sexp.{Sexp, sexps}
+use Rattle.rdx_sexp.specs.Sexp.{Sexp, leaf, list, integer, truth, text, symbol, keyword, sexps}
+use Rattle.rdx_term.specs.Spelling.{is_name}
 use Rattle.rdx_lang.specs.Programs.{Mode}
 use Rattle.rdx_grammar.specs.Occurrences.{Occurrence, occurrences}
-use Rattle.rdx_grammar.specs.Parts.{text_of}
+use Rattle.rdx_grammar.specs.Names.{is_bad_name}
+use Rattle.rdx_grammar.specs.Parts.{text_of, is_symbol}
+use Rattle.rdx_grammar.specs.Readable.{IsReadable}
 use Rattle.rdx_grammar.specs.PatternChecks.{Bound, bad_binder, bad_binders}
 use Rattle.rdx_grammar.specs.declared.patterns.position.Position.TheVariants.{Query}
-use Rattle.rdx_grammar.proofs.Firsts.{none_both}
+use Rattle.rdx_grammar.proofs.Firsts.{none_both, none_first}
+use Rattle.rdx_grammar.proofs.NamedForms.{name-spelled, language-not_hole}
 use Rattle.rdx_grammar.proofs.PassedPatterns.{AreWritten, AreBoundNames, pattern-written, items-written, bound-are-names}
 use Rattle.rdx_defs.specs.Arguments.{Arguments, is_misfit, data_at, data_by, patterns_in}
-use Rattle.rdx_defs.specs.ExtraForms.{ExtraForm, such_that, provided, confirmed, holding, name, no_extra, ExtraPlace, of_case, of_rule, form_at}
+use Rattle.rdx_defs.specs.ExtraForms.{ExtraForm, such_that, provided, confirmed, holding, freshly, name, no_extra, ExtraPlace, of_rule, form_at}
 use Rattle.rdx_defs.specs.Headed.{Headed, headed}
 use Rattle.rdx_defs.specs.Inside.BareStands as bare
 use Rattle.rdx_defs.specs.Inside.BareStands.{lone_pattern}
 use Rattle.rdx_defs.specs.Inside.Branches.{Takes, one, several, each, Branch, taken_occurrences, case_branch, in_case, case_branches, domain_patterns, relation_outline, clause_branch, in_clause, own_clause, clause_branches, contract_patterns, metafunction_outline, RuleBranch, rule_branch, in_rule, rule_branches, given_patterns, option_patterns, options_patterns, judgement_outline, question_outline}
-use Rattle.rdx_defs.specs.Inside.PartsHave.{AreReadable, IsReadableTaken, ArgumentsHave, PremiseHas, ExtraHas, ExtrasHave, BranchHas, BranchesHave, RuleHas, RulesHave, AloneHave, OutlineHas, BindNames, CanBind, readable, can_bind}
+use Rattle.rdx_defs.specs.Inside.PartsHave.{AreReadable, AreReadableSymbols, AreNames, IsReadableTaken, ArgumentsHave, PremiseHas, ExtraHas, ExtrasHave, BranchHas, BranchesHave, RuleHas, RulesHave, AloneHave, OutlineHas, BindNames, CanBind, readable, can_bind}
 use Rattle.rdx_defs.specs.JudgementForms.{RuleForm, rule_form, own_rule, OptionForm, JudgementForm, judgement_in, mode_form, own_mode, key_text, is_fit_option}
 use Rattle.rdx_defs.specs.JudgementStands.{rule_arguments, name_stands, missing_mode, mode_stands, contract_stands, given_stands, option_stands, options_stand}
 use Rattle.rdx_defs.specs.MetafunctionForms.{ClauseForm, clause_form, ContractForm, MetafunctionForm}
@@ -30,6 +34,15 @@ use Rattle.rdx_defs.specs.Stands.{Stand, misshaped, function, template, premise_
 bind-names : (bs : List Bound) → AreBoundNames 4294967296 bs → BindNames bs
 bind-names [] h = tt
 bind-names (b ∷ bs) h = (h.0, bind-names bs h.1)
+
+-- a symbol that may be bound is a name
+pub symbol-name : (d : Sexp) → is_symbol d ≡ true → IsReadable d → is_bad_name (text_of d) ≡ false → IsTrue (is_name (text_of d))
+symbol-name (leaf (integer n) s) h r e = absurd cc
+symbol-name (leaf (truth b) s) h r e = absurd cc
+symbol-name (leaf (text x) s) h r e = absurd cc
+symbol-name (leaf (symbol x) s) h r e = name-spelled x r.spelled (language-not_hole x e)
+symbol-name (leaf (keyword k) s) h r e = absurd cc
+symbol-name (list ds s) h r e = absurd cc
 
 -- ---- what is written
 
@@ -100,12 +113,20 @@ module _ (S : Scope) (ns : List (List ℕ)) where
       let k = both (misfits (is_misfit (mode_of S (text_of q.head)) q.arguments) d q.head) (bare.arguments_stand a) e in
       (tt, arguments-bind a k.1 h.1)
 
+  -- names to be made
+  fresh-named : (ds : List Sexp) → bad_names (bare.fresh_stands ds) ≡ [] → AreReadableSymbols ds → AreNames ds
+  fresh-named [] e h = tt
+  fresh-named (d ∷ ds) e h =
+      let k = none_first (is_bad_name (text_of d)) d (bad_names (bare.fresh_stands ds)) e in
+      (symbol-name d h.0.0 h.0.1 k.0, fresh-named ds k.1 h.1)
+
   -- an extra
   extra-binds : (again : Bool) (d : Sexp) (e : ExtraForm) → bad_names (bare.extra_stands S again d e) ≡ [] → ExtraHas S readable e → ExtraHas S (can_bind ns) e
   extra-binds again d (such_that p t) e h = (can-bind (one p) h.0 (none_both (bad_binders (occurrences 0 p)) [] e).0, h.1)
   extra-binds again d (provided t) e h = h
   extra-binds again d (confirmed t) e h = h
   extra-binds again d (holding c) e h = premise-binds c (headed c) e h
+  extra-binds again d (freshly ds) e h = fresh-named ds e h
   extra-binds again d name e h = tt
   extra-binds again d no_extra e h = tt
 
@@ -121,8 +142,8 @@ module _ (S : Scope) (ns : List (List ℕ)) where
   -- a branch
   branch-binds : (again : Bool) (b : Branch) → bad_names (bare.branch_stands S again b) ≡ [] → BranchHas S readable b → BranchHas S (can_bind ns) b
   branch-binds again b e h =
-      let k = none_both (bad_binders (taken_occurrences b.takes)) (bad_names (bare.extras_stand of_case S again b.extras)) e in
-      record { takes = can-bind b.takes h.takes k.0; result = h.result; extras = extras-bind of_case again b.extras k.1 h.extras }
+      let k = none_both (bad_binders (taken_occurrences b.takes)) (bad_names (bare.extras_stand b.place S again b.extras)) e in
+      record { takes = can-bind b.takes h.takes k.0; result = h.result; extras = extras-bind b.place again b.extras k.1 h.extras }
 
   -- a case before others
   case-binds : (d : Sexp) (o : Option CaseForm) (bs : List Branch) → bad_names (bare.case_stands S d o) ≡ []

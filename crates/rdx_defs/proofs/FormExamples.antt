@@ -3,13 +3,17 @@ use Rattle.std.proofs.Common.{refl}
 use Rattle.std.specs.Str.{chars}
 use Rattle.rdx_defs.specs.JudgementExamples.{AheadMeans, BehindMeans, SeesNoOutput, ConfirmsTerm, ConclusionRefused, NoModeRefused, UnknownRefused}
 use Rattle.rdx_defs.specs.MetafunctionExamples.{ClosesContract, CallsAnother, OtherNameRefused, NamedClauseRefused}
-use Rattle.rdx_defs.specs.RelationExamples.{BindsBehind, NameRefused, ArrowRefused, ExtraRefused, ResultRefused, ClashRefused}
+use Rattle.rdx_defs.specs.RelationExamples.{BindsBehind, MakesFresh, NameRefused, ArrowRefused, ExtraRefused, ResultRefused, ClashRefused, FreshRefused}
 
 -- ---- relations
 
 pub binds_behind : BindsBehind
 unfolding chars
 binds_behind s = record { passes = refl; parts = _; is_form = refl; is_read = refl }
+
+pub makes_fresh : MakesFresh
+unfolding chars
+makes_fresh s = record { passes = refl; parts = _; is_form = refl; is_read = refl }
 
 pub name_refused : NameRefused
 unfolding chars
@@ -30,6 +34,10 @@ result_refused = refl
 pub clash_refused : ClashRefused
 unfolding chars
 clash_refused = refl
+
+pub fresh_refused : FreshRefused
+unfolding chars
+fresh_refused = refl
 
 -- ---- metafunctions
 

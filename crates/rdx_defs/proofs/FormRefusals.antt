@@ -10,6 +10,7 @@ use Rattle.rdx_defs.specs.Inside.BareStands as bare_stands
 use Rattle.rdx_defs.specs.Inside.Branches.{Outline, relation_outline, metafunction_outline, judgement_outline, question_outline}
 use Rattle.rdx_defs.specs.Inside.ByNames.{outline_faults}
 use Rattle.rdx_defs.specs.Inside.FormRefusals.{early_refusal, late_refusal, form_refusal}
+use Rattle.rdx_defs.specs.Inside.NamesAgain.{names_again}
 use Rattle.rdx_defs.specs.JudgementForms.{JudgementForm, judgement_form}
 use Rattle.rdx_defs.specs.JudgementRefusal.{judgement_refusal, lone_premise_stands, premise_refusal}
 use Rattle.rdx_defs.specs.JudgementStands.{judgement_stands}
@@ -20,12 +21,14 @@ use Rattle.rdx_defs.specs.RelationForms.{RelationForm, relation_form}
 use Rattle.rdx_defs.specs.RelationRefusal.{relation_refusal}
 use Rattle.rdx_defs.specs.RelationStands.{relation_stands}
 use Rattle.rdx_defs.specs.Scope.{Scope}
-use Rattle.rdx_defs.specs.StandChecks.{shape_faults, shape_at, repeated_at, repeated_name_at, bad_names, bad_name_at, bad_places, bad_place_at, depth_faults, depth_fault_at, unknown_names, unknown_name_at, undriven_places, undriven_at, escape_at, mode_faults, misfit_at, mode_fault_at}
+use Rattle.rdx_defs.specs.StandChecks.{shape_faults, shape_at, repeated_names, repeated_at, repeated_name_at, bad_names, bad_name_at, bad_places, bad_place_at, depth_faults, depth_fault_at, unknown_names, unknown_name_at, undriven_places, undriven_at, escape_at, mode_faults, misfit_at, mode_fault_at}
 use Rattle.rdx_defs.specs.StandRefusal.{stands_refusal}
 use Rattle.rdx_defs.specs.Stands.{Stand}
 use Rattle.rdx_defs.specs.declared.stands.faults.Check.{Check}
 use Rattle.rdx_defs.specs.declared.stands.faults.Check.TheVariants.{Places, Depths, Driving, Escapes}
-use Rattle.rdx_defs.proofs.BareChecks.{bare, bare-relation, bare-function, bare-judgement, bare-question, shapes-bare, repeated-bare, bad_names-bare, unknown_names-bare, mode_faults-bare}
+use Rattle.rdx_defs.proofs.BareChecks.{bare, bare-relation, bare-function, bare-judgement, bare-question, shapes-bare, bad_names-bare, unknown_names-bare, mode_faults-bare}
+use Rattle.rdx_defs.proofs.RepeatedNames.{again-bare, bound_places, places-none}
+use Rattle.rdx_defs.proofs.TrackedNames.{relation-again, function-again, judgement-again, question-again}
 use Rattle.rdx_defs.proofs.NamesBound.{faults, relation-faults, function-faults, judgement-faults, question-faults}
 
 -- the first of these is that of three, or else of the others
@@ -47,17 +50,18 @@ late_checks S ns ss =
 
 -- ---- what stands in a form, and its outline
 
-module _ (S : Scope) (ns : List (List ℕ)) (ss rs : List Stand) (o : Outline) (same : map bare ss ≡ rs) (alike : (k : Check) → faults k S ns ss ≡ outline_faults k S ns o) where
+module _ (S : Scope) (ns : List (List ℕ)) (ss rs : List Stand) (o : Outline) (same : map bare ss ≡ rs)
+    (again : repeated_names [] ss ≡ names_again ns [] [] ss) (alike : (k : Check) → faults k S ns ss ≡ outline_faults k S ns o) where
   -- the early checks are the same without what is bound
-  early : early_refusal ss ≡ early_refusal rs
+  early : first_refusal (shape_at ss ∷ repeated_name_at ss ∷ bad_name_at ss ∷ []) ≡ early_refusal ns rs
   early =
       (λ i.
       first_refusal
       (option_map (unnamed Shape) (first (sym (shapes-bare ss) i))
-      ∷ option_map repeated_at (first (sym (repeated-bare [] ss) i))
+      ∷ option_map repeated_at (first ((again ∙ sym (again-bare ns [] [] ss)) i))
       ∷ option_map (named BadName) (first (sym (bad_names-bare ss) i))
       ∷ []))
-      ∙ ap early_refusal same
+      ∙ ap (early_refusal ns) same
 
   -- and the late ones by the outline
   late : first_refusal (late_checks S ns ss) ≡ late_refusal S ns rs o
@@ -88,7 +92,7 @@ relation-refused S ns d r u e =
     let ss = relation_stands S ns d (Some r) in
     (λ i. first_refusal (u i ∷ stands_refusal S ns (relation_stands S ns d (e i)) ∷ []))
     ∙ alone (stands_refusal S ns ss)
-    ∙ form-refused S ns ss (bare_stands.relation_stands S r) (relation_outline r) (bare-relation S ns d r) (λ k. relation-faults k S ns d r)
+    ∙ form-refused S ns ss (bare_stands.relation_stands S r) (relation_outline r) (bare-relation S ns d r) (relation-again S ns d r) (λ k. relation-faults k S ns d r)
 
 -- without the parts of a relation
 pub no-relation : (S : Scope) (ns : List (List ℕ)) (d : Sexp) → relation_form d ≡ None → relation_refusal S ns d ≡ or_else (unbuilt_at d) (Some (unnamed Shape d))
@@ -112,7 +116,7 @@ metafunction-refused S ns d m u e =
     let ss = function_stands S ns m f in
     (λ i. first_refusal (u i ∷ stands_refusal S ns (metafunction_stands S ns d (e i)) ∷ []))
     ∙ alone (stands_refusal S ns ss)
-    ∙ form-refused S ns ss (bare_stands.function_stands S m f) (metafunction_outline m f) (bare-function S ns m f) (λ k. function-faults k S ns m f (no-contract m))
+    ∙ form-refused S ns ss (bare_stands.function_stands S m f) (metafunction_outline m f) (bare-function S ns m f) (function-again S ns m f) (λ k. function-faults k S ns m f (no-contract m))
 
 -- without the parts of a metafunction
 pub no-metafunction : (S : Scope) (ns : List (List ℕ)) (d : Sexp) → metafunction_form d ≡ None → metafunction_refusal S ns d ≡ or_else (unbuilt_at d) (Some (unnamed Shape d))
@@ -127,7 +131,7 @@ judgement-refused S ns d f u e =
     let ss = judgement_stands S ns d (Some f) in
     (λ i. first_refusal (u i ∷ stands_refusal S ns (judgement_stands S ns d (e i)) ∷ []))
     ∙ alone (stands_refusal S ns ss)
-    ∙ form-refused S ns ss (bare_stands.judgement_stands S d f) (judgement_outline f) (bare-judgement S ns d f) (λ k. judgement-faults k S ns d f)
+    ∙ form-refused S ns ss (bare_stands.judgement_stands S d f) (judgement_outline f) (bare-judgement S ns d f) (judgement-again S ns d f) (λ k. judgement-faults k S ns d f)
 
 -- without the parts of a judgement
 pub no-judgement : (S : Scope) (ns : List (List ℕ)) (d : Sexp) → judgement_form d ≡ None → judgement_refusal S ns d ≡ or_else (unbuilt_at d) (Some (unnamed Shape d))
@@ -137,16 +141,16 @@ no-judgement S ns d e i = first_refusal (unbuilt_at d ∷ stands_refusal S ns (j
 pub question-refused : (S : Scope) (ns : List (List ℕ)) (d : Sexp) (t : Option Sexp)
     → premise_refusal S ns d t ≡ form_refusal S ns (bare_stands.question_stands S d t) (question_outline d t)
 question-refused S ns d t =
-    form-refused S ns (lone_premise_stands S ns d t) (bare_stands.question_stands S d t) (question_outline d t) (bare-question S ns d t)
+    form-refused S ns (lone_premise_stands S ns d t) (bare_stands.question_stands S d t) (question_outline d t) (bare-question S ns d t) (question-again S ns d t)
     (λ k. question-faults k S ns d t)
 
 -- ---- what is not refused
 
 -- where the early checks refuse nothing, no name is bound or defined that may not be
-pub early-names : (ss : List Stand) → early_refusal ss ≡ None → bad_names ss ≡ []
-early-names ss e =
+pub early-names : (ns : List (List ℕ)) (ss : List Stand) → early_refusal ns ss ≡ None → bad_names ss ≡ []
+early-names ns ss e =
     let shape = shape_at ss in
-    let again = repeated_name_at ss in
+    let again = option_map repeated_at (first (names_again ns [] [] ss)) in
     let bad = bad_name_at ss in
     let a = none_of shape (again ∷ bad ∷ []) e in
     let b = none_of again (bad ∷ []) a.1 in
@@ -155,6 +159,7 @@ early-names ss e =
 -- what no check refuses
 pub record ArePassed (S : Scope) (ns : List (List ℕ)) (ss : List Stand) : Type 0 where
   pub shapes : shape_faults ss ≡ []
+  pub made : bound_places ss ≡ []
   pub names : bad_names ss ≡ []
   pub places : bad_places S ns ss ≡ []
   pub depths : depth_faults S ns ss ≡ []
@@ -176,6 +181,7 @@ stands-passed S ns ss e =
     let l = none_of (mode_fault_at ss) [] k.1 in
     record {
       shapes = nothing (unnamed Shape) (shape_faults ss) a.0;
+      made = places-none [] ss (nothing repeated_at (repeated_names [] ss) b.0);
       names = nothing (named BadName) (bad_names ss) c.0;
       places = nothing (unnamed BadPattern) (bad_places S ns ss) d.0;
       depths = nothing (named EllipsisDepth) (depth_faults S ns ss) f.0;

@@ -14,12 +14,13 @@ pub mod OneReading
 pub mod Examples
 pub mod PartsAt
 pub mod ArgumentReadings
-pub mod RepeatedNames
 pub mod LoneStands
 pub mod NamesBound
 pub mod FirstClash
 pub mod Labels
 pub mod BareChecks
+pub mod RepeatedNames
+pub mod TrackedNames
 pub mod ReadableParts
 pub mod ArgumentLists
 pub mod BoundParts

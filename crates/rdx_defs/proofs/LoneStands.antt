@@ -6,7 +6,6 @@ use Rattle.rdx_sexp.specs.Sexp.{Sexp, Sexps, sexps, nil, cons}
 use Rattle.rdx_grammar.specs.Heads.{Roles, patterns as items_of_list, next, rest}
 use Rattle.rdx_grammar.specs.Occurrences.{occurrences}
 use Rattle.rdx_grammar.specs.Reading.{is_pattern}
-use Rattle.rdx_defs.specs.ExtraForms.{of_case}
 use Rattle.rdx_defs.specs.Inside.BareStands.{lone_pattern}
 use Rattle.rdx_defs.specs.Inside.Branches.{Branch, taken_occurrences, bound_by_taken, bound_by_branch, domain_patterns, pattern_when, patterns_among, contract_patterns}
 use Rattle.rdx_defs.specs.MetafunctionForms.{ContractForm}
@@ -19,7 +18,7 @@ use Rattle.rdx_defs.specs.Stands.{Stand, pattern, template, names_bound, extras_
 abbrev pub branch_stands : Scope → List (List ℕ) → Bool → Branch → List Stand
 branch_stands S ns again b =
     pattern [] (taken_occurrences b.takes) ∷ template (names_bound (bound_by_branch S ns b)) b.result
-    ∷ extras_stand of_case S ns (bound_by_taken ns b.takes) again b.extras
+    ∷ extras_stand b.place S ns (bound_by_taken ns b.takes) again b.extras
 
 -- ---- patterns that stand by themselves
 

@@ -12,13 +12,13 @@ use Rattle.rdx_grammar.specs.PatternChecks as patterns
 use Rattle.rdx_grammar.specs.PatternChecks.{when, differ, clashes}
 use Rattle.rdx_defs.specs.Arguments.{Arguments, is_misfit, patterns_in}
 use Rattle.rdx_defs.specs.Bound.{Bound}
-use Rattle.rdx_defs.specs.ExtraForms.{ExtraForm, such_that, provided, confirmed, holding, name, no_extra, ExtraPlace, of_case, of_rule, form_at}
+use Rattle.rdx_defs.specs.ExtraForms.{ExtraForm, such_that, provided, confirmed, holding, freshly, name, no_extra, ExtraPlace, of_rule, form_at}
 use Rattle.rdx_defs.specs.ExtraReading.{extra_reading, extras_reading}
 use Rattle.rdx_defs.specs.Headed.{Headed, headed}
 use Rattle.rdx_defs.specs.Inside.BareStands.{lone_pattern}
 use Rattle.rdx_defs.specs.Inside.Branches.{Branch, taken_occurrences, bound_by_taken, bound_by_branch, case_branch, in_case, case_branches, domain_patterns, relation_outline, clause_branch, own_clause, in_clause, clause_branches, contract_patterns, metafunction_outline, RuleBranch, rule_branch, in_rule, rule_branches, given_patterns, option_patterns, options_patterns, judgement_outline, question_outline}
 use Rattle.rdx_defs.specs.Inside.ByNames as by_names
-use Rattle.rdx_defs.specs.Inside.ByNames.{patterns_names, premise_names, extra_names, extras_names, branch_names, input_names, rule_names, are_apart, clashes_with, pattern_faults, template_faults, host_faults, flagged_faults, faults_by, arguments_faults, premise_faults, extra_faults, extras_faults, branch_faults, branches_faults, lone_faults, alone_faults, conclusion_faults, premises_faults, rules_faults, result_faults, question_faults, outline_faults}
+use Rattle.rdx_defs.specs.Inside.ByNames.{patterns_names, premise_names, fresh_names, extra_names, extras_names, branch_names, input_names, rule_names, are_apart, clashes_with, pattern_faults, template_faults, host_faults, flagged_faults, faults_by, arguments_faults, premise_faults, extra_faults, extras_faults, branch_faults, branches_faults, lone_faults, alone_faults, conclusion_faults, premises_faults, rules_faults, result_faults, question_faults, outline_faults}
 use Rattle.rdx_defs.specs.JudgementForms.{RuleForm, rule_form, own_rule, OptionForm, JudgementForm, judgement_in, mode_form, own_mode, is_flag, key_text, is_fit_option}
 use Rattle.rdx_defs.specs.JudgementRefusal.{result_stands, lone_premise_stands}
 use Rattle.rdx_defs.specs.JudgementStands as judgements
@@ -29,7 +29,7 @@ use Rattle.rdx_defs.specs.RelationForms.{CaseForm, case_form, RelationForm, is_k
 use Rattle.rdx_defs.specs.RelationStands.{case_stands, cases_stand, domain_stands, relation_stands}
 use Rattle.rdx_defs.specs.Scope.{Scope, mode_of}
 use Rattle.rdx_defs.specs.StandChecks.{bad_place, depth_fault, undriven_place, escape_place}
-use Rattle.rdx_defs.specs.Stands.{Stand, misshaped, function, judgement, asked, arrow, pattern, template, condition, misfit, named, bound_among, bound_in, names_bound, bound_by_patterns, flagged_stand, plain_argument, arguments_by, arguments_stand, misfits, premise_arguments, held_stands, bound_by_premise, bound_by_extra, bound_by_extras, extra_stands, is_named, extras_stand}
+use Rattle.rdx_defs.specs.Stands.{Stand, misshaped, function, judgement, asked, arrow, pattern, template, condition, misfit, fresh, named, bound_among, bound_in, names_bound, bound_by_patterns, flagged_stand, plain_argument, arguments_by, arguments_stand, misfits, premise_arguments, held_stands, bound_by_premise, bound_freshly, fresh_stands, bound_by_extra, bound_by_extras, extra_stands, is_named, extras_stand}
 use Rattle.rdx_defs.specs.declared.stands.faults.Check.{Check}
 use Rattle.rdx_defs.specs.declared.stands.faults.Check.TheVariants.{Places, Depths, Driving, Escapes}
 use Rattle.rdx_defs.proofs.LoneStands.{branch_stands, contract-lone, domain-lone}
@@ -50,7 +50,7 @@ any-append test (x ∷ xs) ys = ap (λ b. test x || b) (any-append test xs ys) �
     or_assoc false b c = refl
 
 -- two tests in the other order
-or_flip : (a b : Bool) → (a || b) ≡ (b || (a || false))
+pub or_flip : (a b : Bool) → (a || b) ≡ (b || (a || false))
 or_flip true true = refl
 or_flip true false = refl
 or_flip false true = refl
@@ -95,6 +95,11 @@ patterns-names ns [] = refl
 patterns-names ns (d ∷ ds) =
     ap (λ (es : Bound). names_bound (bound_in ns d) ++ es) (patterns-names ns ds) ∙ sym (map-append named_at (bound_in ns d) (bound_by_patterns ns ds))
 
+-- those to be made
+fresh-names : (ds : List Sexp) → fresh_names ds ≡ names_bound (map bound_freshly ds)
+fresh-names [] = refl
+fresh-names (d ∷ ds) = ap (λ (es : Bound). (text_of d, 0) ∷ es) (fresh-names ds)
+
 module _ (S : Scope) (ns : List (List ℕ)) where
   -- of a premise
   pub premise-names : (o : Option Headed) → premise_names S ns o ≡ names_bound (bound_by_premise S ns o)
@@ -107,6 +112,7 @@ module _ (S : Scope) (ns : List (List ℕ)) where
   extra-names (provided h) = refl
   extra-names (confirmed t) = refl
   extra-names (holding d) = premise-names (headed d)
+  extra-names (freshly ds) = fresh-names ds
   extra-names name = refl
   extra-names no_extra = refl
 
@@ -120,8 +126,8 @@ module _ (S : Scope) (ns : List (List ℕ)) where
   -- of a branch
   pub branch-names : (b : Branch) → branch_names S ns b ≡ names_bound (bound_by_branch S ns b)
   branch-names b =
-      ap (λ (es : Bound). by_names.taken_names ns b.takes ++ es) (extras-names of_case b.extras)
-      ∙ sym (map-append named_at (bound_by_taken ns b.takes) (bound_by_extras of_case S ns b.extras))
+      ap (λ (es : Bound). by_names.taken_names ns b.takes ++ es) (extras-names b.place b.extras)
+      ∙ sym (map-append named_at (bound_by_taken ns b.takes) (bound_by_extras b.place S ns b.extras))
 
   -- of the inputs of a rule
   pub input-names : (m : Option Mode) (r : RuleForm) → input_names ns (rule_branch m r) ≡ names_bound (bound_by_inputs ns m r)
@@ -145,6 +151,7 @@ module _ (S : Scope) (ns : List (List ℕ)) where
   extra-reads bs (provided h) = refl
   extra-reads bs (confirmed t) = refl
   extra-reads bs (holding d) = refl
+  extra-reads bs (freshly ds) = refl
   extra-reads bs name = refl
   extra-reads bs no_extra = refl
 
@@ -258,6 +265,13 @@ module _ (k : Check) (S : Scope) (ns : List (List ℕ)) where
       ∙ faults-both ss (arguments_stand ns bs es a) [] (arguments_faults k S ns es es a)
       (misfits-none (is_misfit (mode_of S (text_of q.head)) q.arguments) d q.head) (arguments-faults bs es a)
 
+  -- in names to be made
+  fresh-none : (bs : List patterns.Bound) (ds : List Sexp) → faults k S ns (fresh_stands bs ds) ≡ []
+  fresh-none bs [] = refl
+  fresh-none bs (d ∷ ds) =
+      let cs = bs ++ bound_freshly d ∷ [] in
+      skipped (fresh bs d) (fresh_stands cs ds) (passed (fresh bs d) refl refl refl refl) ∙ fresh-none cs ds
+
   -- in an extra
   extra-faults : (bs : List patterns.Bound) (again : Bool) (d : Sexp) (e : ExtraForm)
       → faults k S ns (extra_stands S ns bs again d e) ≡ extra_faults k S ns (names_bound bs) e
@@ -267,6 +281,7 @@ module _ (k : Check) (S : Scope) (ns : List (List ℕ)) where
   extra-faults bs again d (provided h) = only (condition (names_bound bs) h) (host_faults k S (names_bound bs) h) (host-fault (names_bound bs) h)
   extra-faults bs again d (confirmed t) = only (template (names_bound bs) t) (template_faults k S (names_bound bs) t) (template-fault (names_bound bs) t)
   extra-faults bs again d (holding e) = held-faults bs e (headed e)
+  extra-faults bs again d (freshly ds) = fresh-none bs ds
   extra-faults bs again d name = named-none again d
   extra-faults bs again d no_extra = misshaped-none d
 
@@ -288,7 +303,7 @@ module _ (k : Check) (S : Scope) (ns : List (List ℕ)) where
   branch-faults again b i =
       pattern-fault [] (taken_occurrences b.takes) i
       ++ ((template-fault (names_bound (bound_by_branch S ns b)) b.result ∙ ap (λ (es : Bound). template_faults k S es b.result) (sym (branch-names S ns b))) i
-      ++ extras-faults of_case (bound_by_taken ns b.takes) again b.extras i)
+      ++ extras-faults b.place (bound_by_taken ns b.takes) again b.extras i)
 
   -- two lists of branches
   branches-append : (bs cs : List Branch) → branches_faults k S ns (bs ++ cs) ≡ branches_faults k S ns bs ++ branches_faults k S ns cs

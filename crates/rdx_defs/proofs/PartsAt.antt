@@ -10,10 +10,10 @@ use Rattle.rdx_grammar.specs.PatternChecks.{Bound, bound_by, all_bound}
 use Rattle.rdx_grammar.specs.Readable.{IsReadable}
 use Rattle.rdx_grammar.specs.declared.patterns.position.Position.TheVariants.{Query}
 use Rattle.rdx_defs.specs.Arguments.{Arguments, patterns_in}
-use Rattle.rdx_defs.specs.ExtraForms.{ExtraForm, such_that, provided, confirmed, holding, name, no_extra, ExtraPlace, of_case, of_rule, form_at}
+use Rattle.rdx_defs.specs.ExtraForms.{ExtraForm, such_that, provided, confirmed, holding, freshly, name, no_extra, ExtraPlace, of_rule, form_at}
 use Rattle.rdx_defs.specs.Headed.{Headed, headed}
 use Rattle.rdx_defs.specs.Inside.Branches.{Takes, one, each, Branch, RuleBranch, Question}
-use Rattle.rdx_defs.specs.Inside.PartsHave.{AreReadable, Wanted, ArgumentsHave, PremiseHas, ExtraHas, ExtrasHave, BranchHas, BranchesHave, RuleHas, RulesHave, QuestionHas, QuestionsHave, AloneHave, BindNames}
+use Rattle.rdx_defs.specs.Inside.PartsHave.{AreReadable, Wanted, ArgumentsHave, PremiseHas, ExtraHas, ExtrasHave, BranchHas, BranchesHave, RuleHas, RulesHave, QuestionHas, QuestionsHave, AloneHave, BindNames, AreNames}
 use Rattle.rdx_defs.specs.Scope.{Scope}
 use Rattle.rdx_defs.specs.Stands.{premise_arguments}
 
@@ -83,9 +83,16 @@ binds-at ns v (y ∷ xs) (suc i) x h e b =
 pub binds-some : (o : Option (ℕ × Sexp)) (x : ℕ × Sexp) → o ≡ Some x → BindNames (bounds_of o) → (x.0 < 4294967296) × IsTrue (is_name (text_of x.1))
 binds-some o x e h = (subst (λ p. BindNames (bounds_of p)) e h).0
 
+-- one of several names
+pub named-at : (ds : List Sexp) (i : ℕ) (d : Sexp) → i < length ds → d ≡ get_or ds i d → AreNames ds → IsTrue (is_name (text_of d))
+named-at [] i d h e r = absurd (omega arith)
+named-at (c ∷ ds) zero d h e r = subst (λ z. IsTrue (is_name (text_of z))) (sym e) r.0
+named-at (c ∷ ds) (suc i) d h e r = named-at ds i d (omega arith) e r.1
+
 -- ---- what has more has less
 
-module _ (S : Scope) (P R : Wanted) (f : (w : Takes) → P.taken w → R.taken w) (g : (q : Headed) → P.asked q → R.asked q) where
+module _ (S : Scope) (P R : Wanted) (f : (w : Takes) → P.taken w → R.taken w) (g : (q : Headed) → P.asked q → R.asked q)
+    (m : (ds : List Sexp) → P.made ds → R.made ds) where
   -- arguments
   pub arguments-weaker : (a : Arguments) → ArgumentsHave S P a → ArgumentsHave S R a
   arguments-weaker a h = record { patterns = f (each (patterns_in a)) h.patterns; readable = h.readable }
@@ -101,6 +108,7 @@ module _ (S : Scope) (P R : Wanted) (f : (w : Takes) → P.taken w → R.taken w
   extra-weaker (provided t) h = h
   extra-weaker (confirmed t) h = h
   extra-weaker (holding d) h = premise-weaker (headed d) h
+  extra-weaker (freshly ds) h = m ds h
   extra-weaker name h = tt
   extra-weaker no_extra h = tt
 
@@ -111,7 +119,7 @@ module _ (S : Scope) (P R : Wanted) (f : (w : Takes) → P.taken w → R.taken w
 
   -- a branch
   pub branch-weaker : (b : Branch) → BranchHas S P b → BranchHas S R b
-  branch-weaker b h = record { takes = f b.takes h.takes; result = h.result; extras = extras-weaker of_case b.extras h.extras }
+  branch-weaker b h = record { takes = f b.takes h.takes; result = h.result; extras = extras-weaker b.place b.extras h.extras }
 
   -- a rule
   pub rule-weaker : (r : RuleBranch) → RuleHas S P r → RuleHas S R r

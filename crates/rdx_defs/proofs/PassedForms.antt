@@ -41,9 +41,9 @@ use Rattle.rdx_defs.proofs.ValidJudgements.{IsValidJudgement, judgement-good, Is
 
 -- where the early checks refuse nothing, what patterns bind are names
 pub relation-early : (S : Scope) (ns : List (List ℕ)) (d : Sexp) (r : RelationForm) (ss : List Stand) → IsReadable d → relation_form d ≡ Some r
-    → ss ≡ bare_stands.relation_stands S r → early_refusal ss ≡ None → OutlineHas S (can_bind ns) (relation_outline r)
+    → ss ≡ bare_stands.relation_stands S r → early_refusal ns ss ≡ None → OutlineHas S (can_bind ns) (relation_outline r)
 relation-early S ns d r ss h f q e =
-    relation-binds S ns r (early-names (bare_stands.relation_stands S r) (ap early_refusal (sym q) ∙ e)) (relation_outline-readable S r (relation-readable d r h f))
+    relation-binds S ns r (early-names ns (bare_stands.relation_stands S r) (ap (early_refusal ns) (sym q) ∙ e)) (relation_outline-readable S r (relation-readable d r h f))
 
 -- where no check refuses, its patterns are well formed, and it is valid
 pub relation-valid : (S : Scope) (L : Language) (d : Sexp) (r : RelationForm) (x : List ℕ) → IsReadable d → relation_form d ≡ Some r → relation_refusal S (names_of L) d ≡ None
@@ -58,9 +58,9 @@ relation-valid S L d r x h f e =
 
 -- where the early checks refuse nothing
 pub metafunction-early : (S : Scope) (ns : List (List ℕ)) (d : Sexp) (m : MetafunctionForm) (ss : List Stand) → IsReadable d → metafunction_form d ≡ Some m
-    → ss ≡ bare_stands.function_stands S m (function_in m) → early_refusal ss ≡ None → OutlineHas S (can_bind ns) (metafunction_outline m (function_in m))
+    → ss ≡ bare_stands.function_stands S m (function_in m) → early_refusal ns ss ≡ None → OutlineHas S (can_bind ns) (metafunction_outline m (function_in m))
 metafunction-early S ns d m ss h f q e =
-    metafunction-binds S ns m (function_in m) (no-contract m) (early-names (bare_stands.function_stands S m (function_in m)) (ap early_refusal (sym q) ∙ e))
+    metafunction-binds S ns m (function_in m) (no-contract m) (early-names ns (bare_stands.function_stands S m (function_in m)) (ap (early_refusal ns) (sym q) ∙ e))
     (metafunction_outline-readable S m (function_in m) (metafunction-readable d m h f))
 
 -- where no check refuses, it has a name
@@ -108,9 +108,9 @@ metafunction-valid S L d m f h g n e =
 
 -- where the early checks refuse nothing
 pub judgement-early : (S : Scope) (ns : List (List ℕ)) (d : Sexp) (f : JudgementForm) (ss : List Stand) → IsReadable d → judgement_form d ≡ Some f
-    → ss ≡ bare_stands.judgement_stands S d f → early_refusal ss ≡ None → OutlineHas S (can_bind ns) (judgement_outline f)
+    → ss ≡ bare_stands.judgement_stands S d f → early_refusal ns ss ≡ None → OutlineHas S (can_bind ns) (judgement_outline f)
 judgement-early S ns d f ss h g q e =
-    judgement-binds S ns d f (early-names (bare_stands.judgement_stands S d f) (ap early_refusal (sym q) ∙ e)) (judgement_outline-readable S f (judgement-readable d f h g))
+    judgement-binds S ns d f (early-names ns (bare_stands.judgement_stands S d f) (ap (early_refusal ns) (sym q) ∙ e)) (judgement_outline-readable S f (judgement-readable d f h g))
 
 -- where no check refuses
 pub judgement-valid : (S : Scope) (L : Language) (d : Sexp) (f : JudgementForm) → IsReadable d → judgement_form d ≡ Some f → judgement_refusal S (names_of L) d ≡ None
@@ -126,9 +126,9 @@ judgement-valid S L d f h g e =
 
 -- where the early checks refuse nothing
 pub question-early : (S : Scope) (ns : List (List ℕ)) (d : Sexp) (t : Option Sexp) (ss : List Stand) → IsReadable d → IsReadableIn t
-    → ss ≡ bare_stands.question_stands S d t → early_refusal ss ≡ None → OutlineHas S (can_bind ns) (question_outline d t)
+    → ss ≡ bare_stands.question_stands S d t → early_refusal ns ss ≡ None → OutlineHas S (can_bind ns) (question_outline d t)
 question-early S ns d t ss h r q e =
-    question-binds S ns d t (early-names (bare_stands.question_stands S d t) (ap early_refusal (sym q) ∙ e)) (question_outline-readable S d t h r)
+    question-binds S ns d t (early-names ns (bare_stands.question_stands S d t) (ap (early_refusal ns) (sym q) ∙ e)) (question_outline-readable S d t h r)
 
 -- where no check refuses
 pub question-valid : (S : Scope) (L : Language) (d : Sexp) (t : Option Sexp) → IsReadable d → IsReadableIn t → premise_refusal S (names_of L) d t ≡ None

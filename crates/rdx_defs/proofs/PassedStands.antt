@@ -3,14 +3,14 @@ use Rattle.std.proofs.Common.{◌≡◌, ◌++◌, ◌∙◌, ℕ, Bool, true, f
 use Rattle.std.proofs.lemmas.Bool.{eqb-true}
 use Rattle.std.proofs.lemmas.Grind.{flat_map-append}
 use Rattle.std.specs.Cmp.Lexicographic.{bytes_decides}
-use Rattle.std.specs.List.{list_all}
+use Rattle.std.specs.List.{list_any, list_all}
 use Rattle.std.specs.Prelude.{◌&&◌, ◌||◌, Option, Some, None, option_map, is_some, length, flat_map, bytes_eq, nat_eq}
 use Rattle.rdx_sexp.specs.Sexp.{Sexp}
 use Rattle.rdx_lang.specs.Depths.{Use}
 use Rattle.rdx_lang.specs.Fitting.{fits, fits_in}
 use Rattle.rdx_lang.specs.Programs.{Mode}
 use Rattle.rdx_lang.specs.Scopes.{bound_by}
-use Rattle.rdx_grammar.specs.Names.{begins_with_dots}
+use Rattle.rdx_grammar.specs.Names.{begins_with_dots, is_bad_name}
 use Rattle.rdx_grammar.specs.Occurrences.{Occurrence, occurrences}
 use Rattle.rdx_grammar.specs.Parts.{text_of}
 use Rattle.rdx_grammar.specs.PatternChecks as patterns
@@ -23,8 +23,8 @@ use Rattle.rdx_defs.specs.Arguments.{Arguments, fitting, is_misfit, data_at, dat
 use Rattle.rdx_defs.specs.Bound.{is_bound}
 use Rattle.rdx_defs.specs.ExtraReading.{templates_reading}
 use Rattle.rdx_defs.specs.Scope.{Scope, has_metafunction, mode_of}
-use Rattle.rdx_defs.specs.StandChecks.{shape_fault, shape_faults, bad_name, bad_names, bad_place, bad_places, depth_fault, depth_faults, unknown_name, unknown_names, undriven_place, undriven_places, mode_fault, mode_faults}
-use Rattle.rdx_defs.specs.Stands.{Stand, asked, arrow, pattern, template, condition, bound_among, names_bound, bound_in, flagged_stand, arguments_by, arguments_stand, misfits}
+use Rattle.rdx_defs.specs.StandChecks.{is_bound_as, shape_fault, shape_faults, bad_name, bad_names, bad_place, bad_places, depth_fault, depth_faults, unknown_name, unknown_names, undriven_place, undriven_places, mode_fault, mode_faults}
+use Rattle.rdx_defs.specs.Stands.{Stand, asked, arrow, pattern, template, condition, fresh, bound_among, names_bound, bound_in, flagged_stand, arguments_by, arguments_stand, misfits}
 use Rattle.rdx_defs.specs.TemplateChecks.{bad_parts, shallow_parts, undriven_parts}
 use Rattle.rdx_defs.specs.TemplateOccurrences.{TemplatePart, template_parts, host_parts}
 use Rattle.rdx_defs.specs.TemplateReading.{template_reading, host_reading}
@@ -33,7 +33,7 @@ use Rattle.rdx_defs.proofs.AgreeingUses.{clashes-both}
 use Rattle.rdx_defs.proofs.Depths.{depth-bound}
 use Rattle.rdx_defs.proofs.Fitting.{template_fits, host_fits}
 use Rattle.rdx_defs.proofs.FormRefusals.{ArePassed}
-use Rattle.rdx_defs.proofs.RepeatedNames.{not_false}
+use Rattle.rdx_defs.proofs.RepeatedNames.{not_false, bound_place, bound_places}
 
 -- ---- names that are bound
 
@@ -106,14 +106,15 @@ module _ (S : Scope) (ns : List (List ℕ)) where
   pub passed-both : (ss rs : List Stand) → ArePassed S ns (ss ++ rs) → ArePassed S ns ss × ArePassed S ns rs
   passed-both ss rs h =
       let z = none_both (shape_faults ss) (shape_faults rs) (sym (flat_map-append shape_fault ss rs) ∙ h.shapes) in
+      let f = none_both (bound_places ss) (bound_places rs) (sym (flat_map-append bound_place ss rs) ∙ h.made) in
       let a = none_both (bad_names ss) (bad_names rs) (sym (flat_map-append bad_name ss rs) ∙ h.names) in
       let b = none_both (bad_places S ns ss) (bad_places S ns rs) (sym (flat_map-append (bad_place S ns) ss rs) ∙ h.places) in
       let c = none_both (depth_faults S ns ss) (depth_faults S ns rs) (sym (flat_map-append (depth_fault S ns) ss rs) ∙ h.depths) in
       let k = none_both (unknown_names S ss) (unknown_names S rs) (sym (flat_map-append (unknown_name S) ss rs) ∙ h.known) in
       let d = none_both (undriven_places S ss) (undriven_places S rs) (sym (flat_map-append (undriven_place S) ss rs) ∙ h.driving) in
       let m = none_both (mode_faults ss) (mode_faults rs) (sym (flat_map-append mode_fault ss rs) ∙ h.modes) in (
-        record { shapes = z.0; names = a.0; places = b.0; depths = c.0; known = k.0; driving = d.0; modes = m.0 },
-        record { shapes = z.1; names = a.1; places = b.1; depths = c.1; known = k.1; driving = d.1; modes = m.1 },
+        record { shapes = z.0; made = f.0; names = a.0; places = b.0; depths = c.0; known = k.0; driving = d.0; modes = m.0 },
+        record { shapes = z.1; made = f.1; names = a.1; places = b.1; depths = c.1; known = k.1; driving = d.1; modes = m.1 },
       )
 
   -- a pattern that passes, before others
@@ -124,7 +125,7 @@ module _ (S : Scope) (ns : List (List ℕ)) where
       let b = none_both (bad_occurrences ns os) (bad_places S ns ss) h.places in
       let c = none_both (clashes bs (bound_among ns os)) (depth_faults S ns ss) h.depths in (
         record { names = a.0; places = b.0; depths = c.0 },
-        record { shapes = z.1; names = a.1; places = b.1; depths = c.1; known = h.known; driving = h.driving; modes = h.modes },
+        record { shapes = z.1; made = h.made; names = a.1; places = b.1; depths = c.1; known = h.known; driving = h.driving; modes = h.modes },
       )
 
   -- a template does
@@ -137,7 +138,7 @@ module _ (S : Scope) (ns : List (List ℕ)) where
       let c = none_both (shallow_parts (names_bound bs) ps) (depth_faults S ns ss) h.depths in
       let d = none_both (undriven_parts S (names_bound bs) ps) (undriven_places S ss) h.driving in (
         record { places = b.0; depths = c.0; driving = d.0 },
-        record { shapes = z.1; names = h.names; places = b.1; depths = c.1; known = h.known; driving = d.1; modes = h.modes },
+        record { shapes = z.1; made = h.made; names = h.names; places = b.1; depths = c.1; known = h.known; driving = d.1; modes = h.modes },
       )
 
   -- a host expression by itself
@@ -186,14 +187,24 @@ module _ (S : Scope) (ns : List (List ℕ)) where
   asked-first j ss h =
       let k = none_first (not (is_some (mode_of S (text_of j)))) j (unknown_names S ss) h.known in (
         not_false (is_some (mode_of S (text_of j))) k.0,
-        record { shapes = h.shapes; names = h.names; places = h.places; depths = h.depths; known = k.1; driving = h.driving; modes = h.modes },
+        record { shapes = h.shapes; made = h.made; names = h.names; places = h.places; depths = h.depths; known = k.1; driving = h.driving; modes = h.modes },
+      )
+
+  -- a name to be made, before others: it is not bound before, and may be bound
+  pub fresh-first : (bs : List patterns.Bound) (d : Sexp) (ss : List Stand) → ArePassed S ns (fresh bs d ∷ ss)
+      → ((list_any (is_bound_as d) bs ≡ false) × (is_bad_name (text_of d) ≡ false)) × ArePassed S ns ss
+  fresh-first bs d ss h =
+      let f = none_first (list_any (is_bound_as d) bs) d (bound_places ss) h.made in
+      let a = none_first (is_bad_name (text_of d)) d (bad_names ss) h.names in (
+        (f.0, a.0),
+        record { shapes = h.shapes; made = f.1; names = a.1; places = h.places; depths = h.depths; known = h.known; driving = h.driving; modes = h.modes },
       )
 
   -- the arrow of a case
   pub arrow-first : (a : Sexp) (ss : List Stand) → ArePassed S ns (arrow a ∷ ss) → ArePassed S ns ss
   arrow-first a ss h =
       let k = none_both (unknown_name S (arrow a)) (unknown_names S ss) h.known in
-      record { shapes = h.shapes; names = h.names; places = h.places; depths = h.depths; known = k.1; driving = h.driving; modes = h.modes }
+      record { shapes = h.shapes; made = h.made; names = h.names; places = h.places; depths = h.depths; known = k.1; driving = h.driving; modes = h.modes }
 
   -- ---- templates and host expressions that pass fit the uses
 

@@ -2,6 +2,7 @@
 use Rattle.std.proofs.Common.{◌≡◌, ◌++◌, ◌<◌, ◌+◌, ℕ, suc, Bool, true, false, List, [], ◌∷◌, IsTrue, refl, sym, ap, subst, arith, if◌then◌else◌}
 use Rattle.std.proofs.Math.Nat.{le-max_left, le-max_right}
 use Rattle.std.proofs.lemmas.List.{append_assoc}
+use Rattle.std.specs.List.{list_all}
 use Rattle.std.specs.Prelude.{◌&&◌, Option, Some, None, option_map, codes, bytes_eq}
 use Rattle.rdx_sexp.specs.Sexp.{Sexp, Sexps, leaf, list, nil, cons, sexps, integer, truth, text, symbol, keyword}
 use Rattle.rdx_sexp.specs.Size.{sexp_depth, sexps_depth, AreSpelled}
@@ -15,10 +16,10 @@ use Rattle.rdx_grammar.specs.Reading.{is_pattern}
 use Rattle.rdx_grammar.proofs.Booleans.{and_true, not_true, or_false}
 use Rattle.rdx_grammar.proofs.NamedForms.{name-spelled}
 use Rattle.rdx_defs.specs.Arguments.{Arguments, data_at, data_by}
-use Rattle.rdx_defs.specs.ExtraForms.{ExtraForm, such_that, provided, confirmed, holding, name, no_extra, ExtraPlace, of_case, of_rule, extra_among, extra_form, is_extra_head, extra_behind, premise_among, form_at}
+use Rattle.rdx_defs.specs.ExtraForms.{ExtraForm, such_that, provided, confirmed, holding, freshly, name, no_extra, ExtraPlace, of_case, of_clause, of_rule, condition_behind, fresh_names, extra_among, extra_form, is_extra_head, extra_behind, premise_among, form_at}
 use Rattle.rdx_defs.specs.Headed.{Headed, headed_among, headed}
 use Rattle.rdx_defs.specs.Inside.Branches.{Branch, case_branch, in_case, case_branches, domain_patterns, relation_outline, clause_branch, in_clause, own_clause, clause_branches, pattern_when, patterns_among, contract_patterns, metafunction_outline, RuleBranch, rule_branch, in_rule, rule_branches, given_patterns, option_patterns, options_patterns, judgement_outline, question_outline}
-use Rattle.rdx_defs.specs.Inside.PartsHave.{AreReadable, AreReadableItems, IsReadableTaken, IsReadableIn, ArgumentsHave, PremiseHas, ExtraHas, ExtrasHave, BranchHas, BranchesHave, RuleHas, RulesHave, AloneHave, OutlineHas, readable}
+use Rattle.rdx_defs.specs.Inside.PartsHave.{AreReadable, AreReadableSymbols, AreReadableItems, IsReadableTaken, IsReadableIn, ArgumentsHave, PremiseHas, ExtraHas, ExtrasHave, BranchHas, BranchesHave, RuleHas, RulesHave, AloneHave, OutlineHas, readable}
 use Rattle.rdx_defs.specs.JudgementForms.{RuleForm, is_line, cut_at_line, is_label, concluded, rule_behind, cut_name, rule_ahead, rule_cut, rule_among, rule_form, OptionForm, JudgementForm, is_any_keyword, with_option, cut_options, judgement_among, judgement_form, given_by, headed_by, mode_form, contract_form, judgement_in, own_mode, is_named_so, key_text, is_fit_option, own_rule}
 use Rattle.rdx_defs.specs.MetafunctionForms.{ClauseForm, clause_behind, clause_among, clause_form, ContractForm, cut_at_arrow, MetafunctionForm, with_clauses, contracted, metafunction_over, metafunction_among, metafunction_form, function_or, clauses_function, function_by, function_in}
 use Rattle.rdx_defs.specs.RelationForms.{CaseForm, case_among, case_form, RelationForm, is_keyword, relation_over, may_name, relation_among, relation_form}
@@ -66,6 +67,13 @@ behind-readable d ds l h =
 append-readable : (ds es : List Sexp) → AreReadable ds → AreReadable es → AreReadable (ds ++ es)
 append-readable [] es h k = k
 append-readable (d ∷ ds) es h k = (h.0, append-readable ds es h.1 k)
+
+-- symbols among them
+symbols-readable : (ds : List Sexp) → list_all is_symbol ds ≡ true → AreReadable ds → AreReadableSymbols ds
+symbols-readable [] e h = tt
+symbols-readable (d ∷ ds) e h =
+    let k = and_true (is_symbol d) (list_all is_symbol ds) e in
+    ((k.0, h.0), symbols-readable ds k.1 h.1)
 
 -- ---- cuts
 
@@ -156,25 +164,38 @@ module _ (S : Scope) where
   extra-when true e f h k = h
   extra-when false e f h k = k
 
-  -- among parts
-  extra_among-readable : (o : Option (List Sexp)) → AreReadableIn o → ExtraHas S readable (extra_among o)
-  extra_among-readable None h = tt
-  extra_among-readable (Some []) h = tt
-  extra_among-readable (Some (w ∷ [])) h = tt
-  extra_among-readable (Some (w ∷ x ∷ [])) h =
-      extra-when (is_word (codes "side-condition") w) (provided x) (if is_word (codes "judgment-holds") w then holding x else no_extra) h.1.0
-      (extra-when (is_word (codes "judgment-holds") w) (holding x) no_extra (premise-readable x h.1.0) tt)
-  extra_among-readable (Some (w ∷ p ∷ t ∷ [])) h = extra-when (is_word (codes "where") w) (such_that p t) no_extra (h.1.0, h.1.1.0) tt
-  extra_among-readable (Some (w ∷ p ∷ t ∷ x ∷ xs)) h = tt
+  -- behind the head of an extra of a clause
+  condition_behind-readable : (w : Sexp) (ds : List Sexp) → AreReadable ds → ExtraHas S readable (condition_behind w ds)
+  condition_behind-readable w [] h = tt
+  condition_behind-readable w (x ∷ []) h =
+      extra-when (is_word (codes "side-condition") w) (provided x) (if is_word (codes "judgment-holds") w then holding x else no_extra) h.0
+      (extra-when (is_word (codes "judgment-holds") w) (holding x) no_extra (premise-readable x h.0) tt)
+  condition_behind-readable w (p ∷ t ∷ []) h = extra-when (is_word (codes "where") w) (such_that p t) no_extra (h.0, h.1.0) tt
+  condition_behind-readable w (p ∷ t ∷ x ∷ xs) h = tt
+
+  -- names to be made
+  fresh_names-readable : (ds : List Sexp) → AreReadable ds → ExtraHas S readable (fresh_names ds)
+  fresh_names-readable ds h = by_test (list_all is_symbol ds) refl
+    where
+      by_test : (b : Bool) → list_all is_symbol ds ≡ b → ExtraHas S readable (if b then freshly ds else no_extra)
+      by_test true e = symbols-readable ds e h
+      by_test false e = tt
+
+  -- among parts, of a case or a clause
+  extra_among-readable : (case : Bool) (o : Option (List Sexp)) → AreReadableIn o → ExtraHas S readable (extra_among case o)
+  extra_among-readable case None h = tt
+  extra_among-readable case (Some []) h = tt
+  extra_among-readable case (Some (w ∷ ds)) h =
+      extra-when (case && is_word (codes "fresh") w) (fresh_names ds) (condition_behind w ds) (fresh_names-readable ds h.1) (condition_behind-readable w ds h.1)
 
   -- a datum as one
-  extra-readable : (d : Sexp) → IsReadable d → ExtraHas S readable (extra_form d)
-  extra-readable (leaf (integer n) s) r = tt
-  extra-readable (leaf (truth b) s) r = tt
-  extra-readable (leaf (text x) s) r = tt
-  extra-readable (leaf (symbol x) s) r = tt
-  extra-readable (leaf (keyword k) s) r = tt
-  extra-readable (list ds s) r = extra_among-readable (parts (list ds s)) (parts-readable (list ds s) r)
+  extra-readable : (case : Bool) (d : Sexp) → IsReadable d → ExtraHas S readable (extra_form case d)
+  extra-readable case (leaf (integer n) s) r = tt
+  extra-readable case (leaf (truth b) s) r = tt
+  extra-readable case (leaf (text x) s) r = tt
+  extra-readable case (leaf (symbol x) s) r = tt
+  extra-readable case (leaf (keyword k) s) r = tt
+  extra-readable case (list ds s) r = extra_among-readable case (parts (list ds s)) (parts-readable (list ds s) r)
 
   -- in rules, behind a head that gives a list another meaning
   behind_head-readable : (w : Sexp) (ds : List Sexp) → AreReadable ds → ExtraHas S readable (extra_behind w ds)
@@ -195,7 +216,8 @@ module _ (S : Scope) where
 
   -- a datum as an extra at such a place
   form-readable : (k : ExtraPlace) (d : Sexp) → IsReadable d → ExtraHas S readable (form_at k d)
-  form-readable of_case d r = extra-readable d r
+  form-readable of_case d r = extra-readable true d r
+  form-readable of_clause d r = extra-readable false d r
   form-readable of_rule d r = premise_among-readable d (parts d) r (parts-readable d r)
 
   -- several
@@ -258,7 +280,7 @@ module _ (S : Scope) where
   behind-head (list nil s) t es r k l = tt
   behind-head (list (cons f ps) s) t es r k l =
       clause-when (is_symbol f) (record { function = f; arguments = listed ps; result = t; extras = es })
-      (record { takes = behind-readable f ps r.nested r.spelled; result = k; extras = extras-readable of_case es l })
+      (record { takes = behind-readable f ps r.nested r.spelled; result = k; extras = extras-readable of_clause es l })
 
   -- among parts
   clause_among-readable : (o : Option (List Sexp)) → AreReadableIn o → ClauseIn (clause_among o)

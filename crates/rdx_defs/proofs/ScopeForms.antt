@@ -12,7 +12,7 @@ use Rattle.rdx_grammar.specs.Parts.{parts, text_of}
 use Rattle.rdx_grammar.specs.PatternChecks as patterns
 use Rattle.rdx_grammar.specs.Readable.{IsReadable}
 use Rattle.rdx_grammar.proofs.Booleans.{and_both}
-use Rattle.rdx_defs.specs.ExtraForms.{ExtraForm, such_that, provided, confirmed, holding, name, no_extra, of_rule, form_at, is_condition}
+use Rattle.rdx_defs.specs.ExtraForms.{ExtraForm, such_that, provided, confirmed, holding, freshly, name, no_extra, of_rule, form_at, is_condition}
 use Rattle.rdx_defs.specs.Headed.{Headed, headed}
 use Rattle.rdx_defs.specs.JudgementForms.{RuleForm, rule_form, own_rule, OptionForm, JudgementForm, judgement_form, mode_form, mode_given, judgement_in, own_mode, key_text, is_fit_option, are_fit_options}
 use Rattle.rdx_defs.specs.JudgementReading.{mode_or_none}
@@ -44,6 +44,7 @@ module _ (S : Scope) (ns : List (List ℕ)) where
   condition-shaped bs d (provided t) h = refl
   condition-shaped bs d (confirmed t) h = refl
   condition-shaped bs d (holding x) h = held-shaped bs x (headed x) h
+  condition-shaped bs d (freshly ds) h = refl
   condition-shaped bs d name h = absurd (let z = h.shapes in cc)
   condition-shaped bs d no_extra h = absurd (not_misshaped d h)
 
@@ -53,6 +54,7 @@ module _ (S : Scope) (ns : List (List ℕ)) where
   still-named (provided t) = refl
   still-named (confirmed t) = refl
   still-named (holding x) = refl
+  still-named (freshly ds) = refl
   still-named name = refl
   still-named no_extra = refl
 

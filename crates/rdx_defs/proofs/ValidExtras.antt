@@ -1,19 +1,21 @@
 -- What the patterns and the extras of a form stand for is valid, where no check refuses them.
-use Rattle.std.proofs.Common.{◌≡◌, ◌++◌, ◌∙◌, ◌+◌, ℕ, Bool, true, not, List, [], ◌∷◌, length, map, refl, sym, ap, ap₂, subst, arith}
-use Rattle.std.proofs.lemmas.List.{append-nil, length-map, map-append}
+use Rattle.std.proofs.Common.{◌≡◌, ◌++◌, ◌∙◌, ◌+◌, ℕ, Bool, true, false, not, List, [], ◌∷◌, length, map, refl, sym, ap, ap₂, subst, arith}
+use Rattle.std.proofs.lemmas.List.{append_assoc, append-nil, length-map, map-append}
 use Rattle.std.proofs.lemmas.Bool.{eq-eqb}
 use Rattle.std.specs.List.{list_any, list_all}
-use Rattle.std.specs.Prelude.{◌&&◌, IsSome, Option, Some, None, option_map, nat_eq}
+use Rattle.std.specs.Prelude.{◌&&◌, ◌||◌, IsSome, Option, Some, None, option_map, bytes_eq, codes, nat_eq}
 use Rattle.rdx_sexp.specs.Sexp.{Sexp, sexps}
-use Rattle.rdx_lang.specs.Depths.{Use, uses, has_fitting_names}
+use Rattle.rdx_lang.specs.Depths.{Use, name_use, uses, has_fitting_names}
 use Rattle.rdx_lang.specs.Fitting.{fits, fits_in}
 use Rattle.rdx_lang.specs.Modes.{input_count, output_count, are_single, fits_mode}
 use Rattle.rdx_lang.specs.Patterns.{Language, seq}
+use Rattle.rdx_lang.specs.Programs as model
 use Rattle.rdx_lang.specs.Programs.{Mode, holds}
 use Rattle.rdx_lang.specs.Scopes.{bound_by, extras_uses}
-use Rattle.rdx_lang.specs.Valid.{is_valid_extra, are_valid_extras}
+use Rattle.rdx_lang.specs.Valid.{is_used, is_valid_extra, are_valid_extras}
 use Rattle.rdx_lang.specs.WellFormed.{defined, has_known_nonterminals, have_known_nonterminals, is_well_formed_in}
 use Rattle.rdx_grammar.specs.Heads.{patterns as items_of_list}
+use Rattle.rdx_grammar.specs.Names.{is_bad_name, begins_with_dots}
 use Rattle.rdx_grammar.specs.Nonterminals.{names_of}
 use Rattle.rdx_grammar.specs.Occurrences.{occurrences}
 use Rattle.rdx_grammar.specs.Parts.{text_of}
@@ -21,6 +23,7 @@ use Rattle.rdx_grammar.specs.PatternChecks as patterns
 use Rattle.rdx_grammar.specs.PatternChecks.{when, differ, clashes}
 use Rattle.rdx_grammar.specs.Reading.{reading}
 use Rattle.rdx_grammar.specs.declared.patterns.position.Position.TheVariants.{Query}
+use Rattle.rdx_grammar.proofs.Among.{bytes_eq-sym}
 use Rattle.rdx_grammar.proofs.Booleans.{and_both, or_false}
 use Rattle.rdx_grammar.proofs.DepthsRead.{bound_use, reading-makes, items-make}
 use Rattle.rdx_grammar.proofs.Firsts.{none_first}
@@ -28,7 +31,7 @@ use Rattle.rdx_grammar.proofs.FittingNames.{fitting-reading, fitting-items}
 use Rattle.rdx_grammar.proofs.PassedPatterns.{are-passed}
 use Rattle.rdx_grammar.proofs.WellRead.{reading_known, items_known}
 use Rattle.rdx_defs.specs.Arguments.{is_misfit, data_at, data_by, patterns_in, templates_in}
-use Rattle.rdx_defs.specs.ExtraForms.{ExtraForm, such_that, provided, confirmed, holding, name, no_extra, ExtraPlace, form_at}
+use Rattle.rdx_defs.specs.ExtraForms.{ExtraForm, such_that, provided, confirmed, holding, freshly, name, no_extra, ExtraPlace, form_at}
 use Rattle.rdx_defs.specs.ExtraReading.{items_reading, list_reading, premise_reading, held_reading, extra_reading, extras_reading}
 use Rattle.rdx_defs.specs.Headed.{Headed, headed}
 use Rattle.rdx_defs.specs.Inside.BareStands.{lone_pattern}
@@ -36,12 +39,13 @@ use Rattle.rdx_defs.specs.Inside.Branches.{Takes, one, several, each, taken_occu
 use Rattle.rdx_defs.specs.Inside.PartsHave.{PremiseHas, ExtraHas, ExtrasHave, AloneHave, CanBind, IsPattern, can_bind, can_read}
 use Rattle.rdx_defs.specs.MetafunctionReading.{argument_items}
 use Rattle.rdx_defs.specs.Scope.{Scope, mode_of, callable, has_metafunction}
-use Rattle.rdx_defs.specs.Stands.{template, names_bound, premise_arguments, arguments_stand, misfits, premise_stands, held_stands, bound_by_premise, bound_by_extra, bound_by_extras, extra_stands, is_named, extras_stand}
+use Rattle.rdx_defs.specs.StandChecks.{is_bound_as}
+use Rattle.rdx_defs.specs.Stands.{template, names_bound, premise_arguments, arguments_stand, misfits, premise_stands, held_stands, bound_by_premise, bound_freshly, fresh_stands, bound_by_extra, bound_by_extras, extra_stands, is_named, extras_stand}
 use Rattle.rdx_defs.specs.TemplateReading.{template_reading, host_reading}
 use Rattle.rdx_defs.proofs.BoundParts.{taken-written}
 use Rattle.rdx_defs.proofs.FormRefusals.{ArePassed}
 use Rattle.rdx_defs.proofs.NamesBound.{any-append}
-use Rattle.rdx_defs.proofs.PassedStands.{mode-fits, IsPassedPattern, passed-both, pattern-first, template-first, host-passed, arguments-passed, misfits-false, asked-first, fits-uses, all-fit, host-uses}
+use Rattle.rdx_defs.proofs.PassedStands.{mode-fits, IsPassedPattern, passed-both, pattern-first, template-first, fresh-first, host-passed, arguments-passed, misfits-false, asked-first, fits-uses, all-fit, host-uses}
 use Rattle.rdx_defs.proofs.PatternLists.{single-items, inputs-counted, outputs-counted, twice-not, each-bound, each-uses, fitting-each, each-known}
 
 -- ---- symbols that clash with fewer before them
@@ -53,6 +57,20 @@ clashes-fewer xs ys (b ∷ bs) e =
     let h = none_first (list_any (differ b) (xs ++ ys)) b.symbol (clashes (b ∷ (xs ++ ys)) bs) e in
     let k = (or_false (list_any (differ b) xs) (list_any (differ b) ys) (sym (any-append (differ b) xs ys) ∙ h.0)).0 in
     λ i. when (k i) b.symbol ++ clashes-fewer (b ∷ xs) ys bs h.1 i
+
+-- ---- names to be made
+
+-- one is used where a symbol binds it
+used-bound : (d : Sexp) (bs : List patterns.Bound) → is_used (map bound_use bs) (text_of d) ≡ list_any (is_bound_as d) bs
+used-bound d [] = refl
+used-bound d (b ∷ bs) = λ i. bytes_eq-sym (text_of b.symbol) (text_of d) i || used-bound d bs i
+
+-- one that may be bound is no length name
+fresh-use : (d : Sexp) → is_bad_name (text_of d) ≡ false → name_use 0 (text_of d) ≡ bound_use (bound_freshly d)
+fresh-use d e =
+    let x = text_of d in
+    let f = or_false (bytes_eq x (codes "hole") || bytes_eq x (codes "_")) (begins_with_dots x) e in
+    λ i. record { name = x; depth = 0; is_length = sym f.1 i }
 
 module _ (S : Scope) (L : Language) where
   abbrev ns : List (List ℕ)
@@ -167,6 +185,34 @@ module _ (S : Scope) (L : Language) where
         ),
       )
 
+  -- so do they with names to be made in front, which are not bound before
+  abbrev AreGoodMade : ExtraPlace → List patterns.Bound → List Sexp → List Sexp → Type 0
+  AreGoodMade k bs made ds =
+      ((us : List Use) → us ≡ map bound_use bs
+      → are_valid_extras (callable S) L us (map (λ d. model.fresh (text_of d)) made ++ extras_reading k S ns (bs ++ map bound_freshly made) ds) ≡ true)
+      × (extras_uses (map (λ d. model.fresh (text_of d)) made ++ extras_reading k S ns (bs ++ map bound_freshly made) ds)
+      ≡ map bound_use (map bound_freshly made ++ bound_by_extras k S ns ds))
+
+  fresh-more : (k : ExtraPlace) (bs : List patterns.Bound) (made ds : List Sexp) → ArePassed S ns (fresh_stands bs made)
+      → AreGood k (bs ++ map bound_freshly made) ds → AreGoodMade k bs made ds
+  fresh-more k bs [] ds f g = ((λ us e. g.1.0 us (e ∙ ap (map bound_use) (sym (append-nil bs)))), g.1.1)
+  fresh-more k bs (d ∷ made) ds f g =
+      let x = text_of d in
+      let cs = bs ++ bound_freshly d ∷ [] in
+      let rest : List patterns.Bound → List model.Extra =
+      (λ es. map (λ d. model.fresh (text_of d)) made ++ extras_reading k S ns es ds) in
+      let p = fresh-first S ns bs d (fresh_stands cs made) f in
+      let same : cs ++ map bound_freshly made ≡ bs ++ map bound_freshly (d ∷ made) = append_assoc bs (bound_freshly d ∷ []) (map bound_freshly made) in
+      let r = fresh-more k cs made ds p.1 (subst (λ (es : List patterns.Bound). AreGood k es ds) (sym same) g) in
+      let u : name_use 0 x ≡ bound_use (bound_freshly d) = fresh-use d p.0.1 in (
+        (λ us e.
+            and_both (not (is_used us x)) (are_valid_extras (callable S) L (us ++ name_use 0 x ∷ []) (rest (bs ++ map bound_freshly (d ∷ made))))
+            (ap (λ (vs : List Use). not (is_used vs x)) e ∙ ap not (used-bound d bs ∙ p.0.0))
+            (ap (λ (es : List patterns.Bound). are_valid_extras (callable S) L (us ++ name_use 0 x ∷ []) (rest es)) (sym same)
+            ∙ r.0 (us ++ name_use 0 x ∷ []) ((λ i. e i ++ u i ∷ []) ∙ sym (map-append bound_use bs (bound_freshly d ∷ []))))),
+        (λ i. u i ∷ (ap (λ (es : List patterns.Bound). extras_uses (rest es)) (sym same) ∙ r.1) i),
+      )
+
   -- and with one extra in front
   abbrev AreGoodWith : ExtraPlace → List patterns.Bound → ExtraForm → List Sexp → Type 0
   AreGoodWith k bs e ds =
@@ -217,6 +263,7 @@ module _ (S : Scope) (L : Language) where
         ),
       )
   one-more k bs again d (holding c) ds h f g = premise-more k bs c (headed c) ds h f g
+  one-more k bs again d (freshly made) ds h f g = ((h, g.0), fresh-more k bs made ds f g)
   one-more k bs again d name ds h f g = ((tt, g.0), ((λ us e. g.1.0 us (e ∙ ap (map bound_use) (sym (append-nil bs)))), g.1.1))
   one-more k bs again d no_extra ds h f g = ((tt, g.0), ((λ us e. g.1.0 us (e ∙ ap (map bound_use) (sym (append-nil bs)))), g.1.1))
 

@@ -22,7 +22,6 @@ use Rattle.rdx_grammar.proofs.Booleans.{and_true, and_both}
 use Rattle.rdx_grammar.proofs.DepthsRead.{bound_use}
 use Rattle.rdx_grammar.proofs.Firsts.{none_both}
 use Rattle.rdx_grammar.proofs.WellRead.{items_known}
-use Rattle.rdx_defs.specs.ExtraForms.{of_case}
 use Rattle.rdx_defs.specs.ExtraReading.{extras_reading}
 use Rattle.rdx_defs.specs.Inside.Branches.{one, Branch, taken_occurrences, bound_by_taken, taken_reading, bound_by_branch, case_branch, in_case, case_branches, domain_patterns, relation_outline, clause_branch, own_clause, in_clause, clause_branches, pattern_when, patterns_among, contract_patterns, metafunction_outline}
 use Rattle.rdx_defs.specs.Inside.BranchReadings.{branch_rule, branch_rules, branch_clause, branch_clauses}
@@ -53,7 +52,7 @@ module _ (S : Scope) (L : Language) where
   -- what a branch stands for is valid
   abbrev IsValidBranch : Branch → Type 0
   IsValidBranch b =
-      is_valid_case (callable S) L (taken_reading ns b.takes) (extras_reading of_case S ns (bound_by_taken ns b.takes) b.extras)
+      is_valid_case (callable S) L (taken_reading ns b.takes) (extras_reading b.place S ns (bound_by_taken ns b.takes) b.extras)
       (template_reading S (names_bound (bound_by_branch S ns b)) b.result) ≡ true
 
   branch-good : (again : Bool) (b : Branch) → BranchHas S (can_bind ns) b → ArePassed S ns (branch_stands S ns again b) → BranchHas S (can_read S L ns) b × IsValidBranch b
@@ -62,15 +61,15 @@ module _ (S : Scope) (L : Language) where
       let C = callable S in
       let all = bound_by_branch S ns b in
       let p = taken_reading ns b.takes in
-      let es = extras_reading of_case S ns (bound_by_taken ns b.takes) b.extras in
+      let es = extras_reading b.place S ns (bound_by_taken ns b.takes) b.extras in
       let t = template_reading S (names_bound all) b.result in
-      let others = extras_stand of_case S ns (bound_by_taken ns b.takes) again b.extras in
+      let others = extras_stand b.place S ns (bound_by_taken ns b.takes) again b.extras in
       let a = pattern-first S ns [] (taken_occurrences b.takes) (template (names_bound all) b.result ∷ others) k in
       let c = template-first S ns all b.result others a.1 in
       let q = taken-passed S L [] b.takes h.takes a.0 in
-      let g = extras-good S L of_case (bound_by_taken ns b.takes) again b.extras h.extras c.1 in
+      let g = extras-good S L b.place (bound_by_taken ns b.takes) again b.extras h.extras c.1 in
       let u : case_uses p es ≡ map bound_use all =
-      ap₂ (λ (vs ws : List Use). vs ++ ws) q.1 g.1.1 ∙ sym (map-append bound_use (bound_by_taken ns b.takes) (bound_by_extras of_case S ns b.extras)) in (
+      ap₂ (λ (vs ws : List Use). vs ++ ws) q.1 g.1.1 ∙ sym (map-append bound_use (bound_by_taken ns b.takes) (bound_by_extras b.place S ns b.extras)) in (
         record { takes = q.0; result = h.result; extras = g.0 },
         and_both (is_well_formed_in L p) (are_valid_extras C L (uses 0 p) es && fits F (bound_by (case_uses p es)) 0 t) q.0.well_formed
             (and_both (are_valid_extras C L (uses 0 p) es) (fits F (bound_by (case_uses p es)) 0 t) (g.1.0 (uses 0 p) q.1) (fits-uses S ns all (case_uses p es) b.result u c.0)),
@@ -259,7 +258,7 @@ module _ (S : Scope) (L : Language) where
   metafunction-good m f h k =
       let cs = clauses_stand S ns (text_of f) m.clauses in
       let b = none_both (bad_name (function f)) (bad_names (contract_stands m.contract ++ cs)) k.names in
-      let p = passed-both S ns (contract_stands m.contract) cs (record { shapes = k.shapes; names = b.1; places = k.places; depths = k.depths; known = k.known; driving = k.driving; modes = k.modes }) in
+      let p = passed-both S ns (contract_stands m.contract) cs (record { shapes = k.shapes; made = k.made; names = b.1; places = k.places; depths = k.depths; known = k.known; driving = k.driving; modes = k.modes }) in
       let a = alone-good S L (contract_patterns m.contract) h.alone (subst (ArePassed S ns) (contract-lone m.contract) p.0) in
       let c = clauses-good (text_of f) m.clauses h.branches p.1 in
       let o = contract-good m.contract a in

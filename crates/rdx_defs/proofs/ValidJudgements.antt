@@ -24,7 +24,6 @@ use Rattle.rdx_grammar.specs.declared.patterns.position.Position.TheVariants.{Qu
 use Rattle.rdx_grammar.proofs.Booleans.{and_true, and_both}
 use Rattle.rdx_grammar.proofs.DepthsRead.{bound_use}
 use Rattle.rdx_grammar.proofs.Firsts.{none_first}
-use Rattle.rdx_grammar.proofs.NamedForms.{name-spelled, language-not_hole}
 use Rattle.rdx_defs.specs.Arguments.{is_misfit, data_by, patterns_in, templates_in}
 use Rattle.rdx_defs.specs.ExtraForms.{of_rule}
 use Rattle.rdx_defs.specs.ExtraReading.{items_reading, premise_reading}
@@ -43,6 +42,7 @@ use Rattle.rdx_defs.specs.Scope.{Scope, callable, has_metafunction}
 use Rattle.rdx_defs.specs.StandChecks.{bad_names}
 use Rattle.rdx_defs.specs.Stands.{Stand, misshaped, judgement, template, names_bound, bound_by_premise, bound_by_extras, arguments_stand, misfits, held_stands}
 use Rattle.rdx_defs.specs.TemplateReading.{template_reading}
+use Rattle.rdx_defs.proofs.BoundParts.{symbol-name}
 use Rattle.rdx_defs.proofs.FormRefusals.{ArePassed}
 use Rattle.rdx_defs.proofs.PassedStands.{mode-fits, passed-both, pattern-first, template-first, arguments-passed, misfits-false, fits-uses, all-fit}
 use Rattle.rdx_defs.proofs.PatternLists.{single-items, inputs-counted, outputs-counted, each-bound, each-known}
@@ -64,12 +64,7 @@ contract-not_mode (list ds s) e = absurd cc
 
 -- the name of a judgement, where it may have it
 pub judgement-name : (j : Sexp) → IsNamed j → is_bad_name (text_of j) ≡ false → IsTrue (is_name (text_of j))
-judgement-name (leaf (integer n) s) h e = absurd (let g = h.symbol in cc)
-judgement-name (leaf (truth b) s) h e = absurd (let g = h.symbol in cc)
-judgement-name (leaf (text x) s) h e = absurd (let g = h.symbol in cc)
-judgement-name (leaf (symbol x) s) h e = name-spelled x h.readable.spelled (language-not_hole x e)
-judgement-name (leaf (keyword k) s) h e = absurd (let g = h.symbol in cc)
-judgement-name (list ds s) h e = absurd (let g = h.symbol in cc)
+judgement-name j h e = symbol-name j h.symbol h.readable e
 
 module _ (S : Scope) (L : Language) where
   abbrev ns : List (List ℕ)
@@ -242,7 +237,7 @@ module _ (S : Scope) (L : Language) where
   name-first : (j : Sexp) (ss : List Stand) → ArePassed S ns (judgement j ∷ ss) → (is_bad_name (text_of j) ≡ false) × ArePassed S ns ss
   name-first j ss h =
       let k = none_first (is_bad_name (text_of j)) j (bad_names ss) h.names in
-      (k.0, record { shapes = h.shapes; names = k.1; places = h.places; depths = h.depths; known = h.known; driving = h.driving; modes = h.modes })
+      (k.0, record { shapes = h.shapes; made = h.made; names = k.1; places = h.places; depths = h.depths; known = h.known; driving = h.driving; modes = h.modes })
 
   -- ---- contracts
 

@@ -12,7 +12,7 @@ use Rattle.rdx_grammar.specs.Reading.{reading}
 use Rattle.rdx_grammar.specs.declared.patterns.position.Position.TheVariants.{Query}
 use Rattle.rdx_defs.specs.Arguments.{Arguments, patterns_in, templates_in}
 use Rattle.rdx_defs.specs.Bound.{Bound}
-use Rattle.rdx_defs.specs.ExtraForms.{ExtraForm, such_that, provided, confirmed, holding, name, no_extra, ExtraPlace, form_at}
+use Rattle.rdx_defs.specs.ExtraForms.{ExtraForm, such_that, provided, confirmed, holding, freshly, name, no_extra, ExtraPlace, form_at}
 use Rattle.rdx_defs.specs.Headed.{Headed, headed}
 use Rattle.rdx_defs.specs.Scope.{Scope}
 use Rattle.rdx_defs.specs.Stands.{names_bound, bound_by_extra, premise_arguments}
@@ -58,6 +58,7 @@ extra_reading S ns bs (such_that p t) = such_as (reading ns Query p) (template_r
 extra_reading S ns bs (provided h) = model.provided (host_reading S (names_bound bs) h) ∷ []
 extra_reading S ns bs (confirmed t) = model.provided (term (template_reading S (names_bound bs) t)) ∷ []
 extra_reading S ns bs (holding d) = held_reading S ns (names_bound bs) (headed d)
+extra_reading S ns bs (freshly ds) = map (λ d. model.fresh (text_of d)) ds
 extra_reading S ns bs name = []
 extra_reading S ns bs no_extra = []
 

@@ -10,5 +10,6 @@ pub mod FormViews
 pub mod BareStands
 pub mod PartsHave
 pub mod ByNames
+pub mod NamesAgain
 pub mod FormRefusals
 pub mod ScopeParts

@@ -8,7 +8,7 @@ use Rattle.rdx_grammar.specs.Heads.{patterns as items_of_list}
 use Rattle.rdx_grammar.specs.Parts.{text_of}
 use Rattle.rdx_grammar.specs.Reading.{reading, items_among}
 use Rattle.rdx_grammar.specs.declared.patterns.position.Position.TheVariants.{Query}
-use Rattle.rdx_defs.specs.ExtraForms.{of_case}
+use Rattle.rdx_defs.specs.ExtraForms.{of_clause}
 use Rattle.rdx_defs.specs.ExtraReading.{extras_reading}
 use Rattle.rdx_defs.specs.MetafunctionForms.{ClauseForm, clause_form, ContractForm, MetafunctionForm, function_in}
 use Rattle.rdx_defs.specs.MetafunctionStands.{bound_by_arguments, bound_by_clause}
@@ -26,7 +26,7 @@ argument_items ns ds = items_among ns Query items_of_list (sexps ds)
 abbrev pub clause_reading : Scope → List (List ℕ) → ClauseForm → Clause
 clause_reading S ns c = record {
   arguments = seq (argument_items ns c.arguments);
-  extras = extras_reading of_case S ns (bound_by_arguments ns c) c.extras;
+  extras = extras_reading of_clause S ns (bound_by_arguments ns c) c.extras;
   result = template_reading S (names_bound (bound_by_clause S ns c)) c.result;
 }
 

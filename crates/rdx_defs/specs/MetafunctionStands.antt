@@ -6,7 +6,7 @@ use Rattle.rdx_grammar.specs.Occurrences.{occurrences}
 use Rattle.rdx_grammar.specs.Parts.{text_of}
 use Rattle.rdx_grammar.specs.PatternChecks as patterns
 use Rattle.rdx_grammar.specs.Reading.{is_pattern}
-use Rattle.rdx_defs.specs.ExtraForms.{of_case}
+use Rattle.rdx_defs.specs.ExtraForms.{of_clause}
 use Rattle.rdx_defs.specs.MetafunctionForms.{ClauseForm, clause_form, ContractForm, MetafunctionForm, function_in}
 use Rattle.rdx_defs.specs.Scope.{Scope}
 use Rattle.rdx_defs.specs.Stands.{Stand, misshaped, function, pattern, template, argument_occurrences, bound_among, names_bound, bound_by_extras, extras_stand}
@@ -19,7 +19,7 @@ bound_by_arguments ns c = bound_among ns (argument_occurrences c.arguments)
 
 -- in its arguments and its extras
 abbrev pub bound_by_clause : Scope → List (List ℕ) → ClauseForm → List patterns.Bound
-bound_by_clause S ns c = bound_by_arguments ns c ++ bound_by_extras of_case S ns c.extras
+bound_by_clause S ns c = bound_by_arguments ns c ++ bound_by_extras of_clause S ns c.extras
 
 -- what stands in the clause d of the metafunction x; a clause of another one has not its shape
 abbrev pub clause_stands : Scope → List (List ℕ) → List ℕ → Sexp → Option ClauseForm → List Stand
@@ -27,7 +27,7 @@ clause_stands S ns x d None = misshaped d ∷ []
 clause_stands S ns x d (Some c) =
     if bytes_eq (text_of c.function) x
     then pattern [] (argument_occurrences c.arguments) ∷ template (names_bound (bound_by_clause S ns c)) c.result
-    ∷ extras_stand of_case S ns (bound_by_arguments ns c) true c.extras
+    ∷ extras_stand of_clause S ns (bound_by_arguments ns c) true c.extras
     else misshaped d ∷ []
 
 -- what stands in clauses

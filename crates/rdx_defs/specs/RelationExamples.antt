@@ -3,7 +3,7 @@ use Rattle.std.specs.Prelude.{◌≡◌, ℕ, pos, List, [], ◌∷◌, Option, 
 use Rattle.rdx_base.specs.declared.place.Span.{Span}
 use Rattle.rdx_sexp.specs.Sexp.{integer, text, Sexp, leaf}
 use Rattle.rdx_lang.specs.Patterns.{of_kind, named}
-use Rattle.rdx_lang.specs.Programs.{such_as, Relation}
+use Rattle.rdx_lang.specs.Programs.{such_as, fresh, Relation}
 use Rattle.rdx_lang.specs.Templates.{var, seq, nil, one}
 use Rattle.rdx_lang.specs.declared.pattern.Kind.TheVariants.{Any, Number}
 use Rattle.rdx_grammar.specs.Examples.{word, group, columns}
@@ -60,6 +60,27 @@ BindsBehind =
       } ∷ [];
     })
 
+-- `(reduction-relation L (--> any_1 x (fresh x)))`: what `fresh` makes counts in the template of the case
+abbrev pub MakesFresh : Type 0
+MakesFresh =
+    (s : Span)
+    → MeansRelation
+    (group s (word s (codes "reduction-relation") ∷ word s (codes "L")
+    ∷ group s (word s (codes "-->") ∷ word s (codes "any_1") ∷ word s (codes "x")
+    ∷ group s (word s (codes "fresh") ∷ word s (codes "x") ∷ []) ∷ []) ∷ []))
+    (codes "r")
+    (record {
+      name = codes "r";
+      language = codes "L";
+      domain = None;
+      rules = record {
+        name = None;
+        pattern = named (codes "any_1") (of_kind Any);
+        extras = fresh (codes "x") ∷ [];
+        result = var (codes "x") 0;
+      } ∷ [];
+    })
+
 -- ---- refusals
 
 -- `(reduction-relation L (--> 1 2 a) (--> 3 4 "a"))`: the string, which is the name of the first case too
@@ -104,3 +125,12 @@ ClashRefused =
     ∷ number (columns 40 41) 2
     ∷ group (columns 42 57) (word (columns 43 48) (codes "where") ∷ word (columns 49 54) (codes "any_1") ∷ number (columns 55 56) 3 ∷ []) ∷ []) ∷ []))
     EllipsisDepth 49 (Some (codes "any_1"))
+
+-- `(reduction-relation L (--> any_1 2 (fresh any_1)))`: the name in `fresh`, which is bound before
+abbrev pub FreshRefused : Type 0
+FreshRefused =
+    IsRefusedAt
+    (relation 51
+    (group (columns 23 50) (word (columns 24 27) (codes "-->") ∷ word (columns 28 33) (codes "any_1") ∷ number (columns 34 35) 2
+    ∷ group (columns 36 49) (word (columns 37 42) (codes "fresh") ∷ word (columns 43 48) (codes "any_1") ∷ []) ∷ []) ∷ []))
+    Duplicate 43 (Some (codes "any_1"))

@@ -5,7 +5,7 @@ use Rattle.rdx_lang.specs.Programs.{Rule, Relation}
 use Rattle.rdx_grammar.specs.Parts.{text_of}
 use Rattle.rdx_grammar.specs.Reading.{reading}
 use Rattle.rdx_grammar.specs.declared.patterns.position.Position.TheVariants.{Query}
-use Rattle.rdx_defs.specs.ExtraForms.{ExtraForm, such_that, provided, confirmed, holding, name, no_extra, of_case, extra_form}
+use Rattle.rdx_defs.specs.ExtraForms.{ExtraForm, such_that, provided, confirmed, holding, freshly, name, no_extra, of_case, form_at}
 use Rattle.rdx_defs.specs.ExtraReading.{extras_reading}
 use Rattle.rdx_defs.specs.RelationForms.{CaseForm, case_form, RelationForm}
 use Rattle.rdx_defs.specs.RelationStands.{bound_by_case}
@@ -20,13 +20,14 @@ name_before d (such_that p t) later = later
 name_before d (provided h) later = later
 name_before d (confirmed t) later = later
 name_before d (holding e) later = later
+name_before d (freshly ds) later = later
 name_before d name later = Some (label d)
 name_before d no_extra later = later
 
 -- the first name among extras
 abbrev pub first_name : List Sexp → Option (List ℕ)
 first_name [] = None
-first_name (d ∷ ds) = name_before d (extra_form d) (first_name ds)
+first_name (d ∷ ds) = name_before d (form_at of_case d) (first_name ds)
 
 -- the rule of a case
 abbrev pub rule_reading : Scope → List (List ℕ) → CaseForm → Rule

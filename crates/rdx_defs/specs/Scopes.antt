@@ -6,7 +6,7 @@ use Rattle.rdx_sexp.specs.Sexp.{Sexp}
 use Rattle.rdx_lang.specs.Programs.{Mode}
 use Rattle.rdx_grammar.specs.Parts.{parts, is_word, text_of}
 use Rattle.rdx_grammar.specs.Reading.{name_in}
-use Rattle.rdx_defs.specs.ExtraForms.{of_case, of_rule, form_at, ExtraPlace, is_condition}
+use Rattle.rdx_defs.specs.ExtraForms.{of_clause, of_rule, form_at, ExtraPlace, is_condition}
 use Rattle.rdx_defs.specs.JudgementForms.{RuleForm, rule_form, JudgementForm, judgement_form, judgement_in, own_mode, are_fit_options}
 use Rattle.rdx_defs.specs.MetafunctionForms.{ClauseForm, clause_form, MetafunctionForm, metafunction_form, function_in}
 use Rattle.rdx_defs.specs.Scope.{Scope}
@@ -20,7 +20,7 @@ are_conditions k ds = list_all (λ d. is_condition (form_at k d)) ds
 -- the data have the shape of a clause of the metafunction x
 abbrev pub is_clause_of : List ℕ → Option ClauseForm → Bool
 is_clause_of x None = false
-is_clause_of x (Some c) = bytes_eq (text_of c.function) x && are_conditions of_case c.extras
+is_clause_of x (Some c) = bytes_eq (text_of c.function) x && are_conditions of_clause c.extras
 
 -- the name, where all these are clauses of it, and it is one, which `hole` is not
 abbrev pub function_of_all : Option Sexp → List Sexp → List (List ℕ)

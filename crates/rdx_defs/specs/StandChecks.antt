@@ -14,7 +14,7 @@ use Rattle.rdx_grammar.specs.Refusal.{Refusal, unnamed, named_at, first}
 use Rattle.rdx_grammar.specs.Refusal as refusal
 use Rattle.rdx_grammar.specs.declared.shape.fault.DefKind.TheVariants.{Shape, Duplicate, BadName, BadPattern, EllipsisDepth, UnknownName, EllipsisVariable, RacketEscape, Mode}
 use Rattle.rdx_defs.specs.Scope.{Scope, mode_of}
-use Rattle.rdx_defs.specs.Stands.{Stand, misshaped, function, judgement, asked, arrow, pattern, template, condition, plain, misfit, named, bound_among}
+use Rattle.rdx_defs.specs.Stands.{Stand, misshaped, function, judgement, asked, arrow, pattern, template, condition, plain, misfit, fresh, named, bound_among}
 use Rattle.rdx_defs.specs.TemplateChecks.{bad_parts, shallow_parts, undriven_parts, escapes}
 use Rattle.rdx_defs.specs.TemplateOccurrences.{template_parts, host_parts}
 use Rattle.rdx_defs.specs.TemplateShapes.{template_shapes, host_shapes}
@@ -32,6 +32,7 @@ shape_fault (template bs t) = template_shapes t
 shape_fault (condition bs h) = host_shapes h
 shape_fault (plain os) = keyword_faults os
 shape_fault (misfit d n) = []
+shape_fault (fresh bs d) = []
 shape_fault (named again d) = when again d
 
 -- all such data
@@ -42,7 +43,7 @@ shape_faults ss = flat_map shape_fault ss
 abbrev pub shape_at : List Stand → Option Refusal
 shape_at ss = option_map (unnamed Shape) (first (shape_faults ss))
 
--- ---- S3, Duplicate: two cases, or two rules, have one name
+-- ---- S3, Duplicate: two cases, or two rules, have one name, or a name is to be made that is bound
 
 -- the text of a name: a symbol and a string with one text are one name
 abbrev pub label : Sexp → List ℕ
@@ -57,7 +58,11 @@ label (list ds s) = []
 abbrev pub label_text : List ℕ → List ℕ
 label_text x = if is_symbol_spelling x then x else tree_text (tree.text x)
 
--- the name, where it comes among these
+-- a symbol binds the name of this one
+abbrev pub is_bound_as : Sexp → patterns.Bound → Bool
+is_bound_as d b = bytes_eq (text_of d) (text_of b.symbol)
+
+-- the name, where it comes among these, or where it is to be made and is bound before
 abbrev pub repeated_name : List (List ℕ) → Stand → List Sexp
 repeated_name seen (misshaped d) = []
 repeated_name seen (function d) = []
@@ -69,6 +74,7 @@ repeated_name seen (template bs t) = []
 repeated_name seen (condition bs h) = []
 repeated_name seen (plain os) = []
 repeated_name seen (misfit d n) = []
+repeated_name seen (fresh bs d) = when (list_any (is_bound_as d) bs) d
 repeated_name seen (named again d) = when (list_any (λ x. bytes_eq (label d) x) seen) d
 
 -- the names that come so far, with one thing more
@@ -83,14 +89,15 @@ names_with seen (template bs t) = seen
 names_with seen (condition bs h) = seen
 names_with seen (plain os) = seen
 names_with seen (misfit d n) = seen
+names_with seen (fresh bs d) = seen
 names_with seen (named again d) = label d ∷ seen
 
--- the names that come among these, or among those before
+-- the names that come among these, or among those before, and those to be made that are bound
 abbrev pub repeated_names : List (List ℕ) → List Stand → List Sexp
 repeated_names seen [] = []
 repeated_names seen (s ∷ ss) = repeated_name seen s ++ repeated_names (names_with seen s) ss
 
--- the refusal of a second case or rule with one name
+-- the refusal of a second case or rule with one name, or of a name to be made
 abbrev pub repeated_at : Sexp → Refusal
 repeated_at d = named_at Duplicate d (label_text (label d))
 
@@ -117,6 +124,7 @@ bad_name (template bs t) = []
 bad_name (condition bs h) = []
 bad_name (plain os) = []
 bad_name (misfit d n) = []
+bad_name (fresh bs d) = when (is_bad_name (text_of d)) d
 bad_name (named again d) = []
 
 -- all of them
@@ -139,6 +147,7 @@ bad_place S ns (template bs t) = bad_parts (template_parts S bs 0 t)
 bad_place S ns (condition bs h) = bad_parts (host_parts S bs 0 h)
 bad_place S ns (plain os) = []
 bad_place S ns (misfit d n) = []
+bad_place S ns (fresh bs d) = []
 bad_place S ns (named again d) = []
 
 -- all such places
@@ -161,6 +170,7 @@ depth_fault S ns (template bs t) = shallow_parts bs (template_parts S bs 0 t)
 depth_fault S ns (condition bs h) = shallow_parts bs (host_parts S bs 0 h)
 depth_fault S ns (plain os) = []
 depth_fault S ns (misfit d n) = []
+depth_fault S ns (fresh bs d) = []
 depth_fault S ns (named again d) = []
 
 -- all such symbols
@@ -183,6 +193,7 @@ unknown_name S (template bs t) = []
 unknown_name S (condition bs h) = []
 unknown_name S (plain os) = []
 unknown_name S (misfit d n) = []
+unknown_name S (fresh bs d) = []
 unknown_name S (named again d) = []
 
 -- all such symbols
@@ -205,6 +216,7 @@ undriven_place S (template bs t) = undriven_parts S bs (template_parts S bs 0 t)
 undriven_place S (condition bs h) = undriven_parts S bs (host_parts S bs 0 h)
 undriven_place S (plain os) = []
 undriven_place S (misfit d n) = []
+undriven_place S (fresh bs d) = []
 undriven_place S (named again d) = []
 
 -- all items that such ellipses repeat
@@ -227,6 +239,7 @@ escape_place S (template bs t) = escapes (template_parts S bs 0 t)
 escape_place S (condition bs h) = escapes (host_parts S bs 0 h)
 escape_place S (plain os) = []
 escape_place S (misfit d n) = []
+escape_place S (fresh bs d) = []
 escape_place S (named again d) = []
 
 -- all such data
@@ -249,6 +262,7 @@ mode_fault (template bs t) = []
 mode_fault (condition bs h) = []
 mode_fault (plain os) = []
 mode_fault (misfit d n) = (d, n) ∷ []
+mode_fault (fresh bs d) = []
 mode_fault (named again d) = []
 
 -- all such data, each with the name of the judgement, where there is one

@@ -12,7 +12,7 @@ use Rattle.rdx_grammar.specs.PatternChecks.{all_bound}
 use Rattle.rdx_grammar.specs.declared.patterns.position.Position.TheVariants.{Query}
 use Rattle.rdx_defs.specs.Arguments.{Arguments, in_premise, is_misfit, patterns_in}
 use Rattle.rdx_defs.specs.Bound.{Bound}
-use Rattle.rdx_defs.specs.ExtraForms.{ExtraForm, such_that, provided, confirmed, holding, name, no_extra, ExtraPlace, form_at}
+use Rattle.rdx_defs.specs.ExtraForms.{ExtraForm, such_that, provided, confirmed, holding, freshly, name, no_extra, ExtraPlace, form_at}
 use Rattle.rdx_defs.specs.Headed.{Headed, headed}
 use Rattle.rdx_defs.specs.Scope.{Scope, mode_of}
 
@@ -38,6 +38,8 @@ pub data Stand : Type 0 where
   plain : List Occurrence → Stand
   -- what does not fit the mode of a judgement, or lacks one, and the name of the judgement, where there is one
   misfit : Sexp → Option Sexp → Stand
+  -- a name that is made, and the symbols that bind names before it
+  fresh : List patterns.Bound → Sexp → Stand
   -- the name of a case or a rule, and whether none may come here
   named : Bool → Sexp → Stand
 
@@ -110,6 +112,17 @@ abbrev pub bound_by_premise : Scope → List (List ℕ) → Option Headed → Li
 bound_by_premise S ns None = []
 bound_by_premise S ns (Some q) = bound_by_patterns ns (patterns_in (premise_arguments S q))
 
+-- ---- fresh names
+
+-- the symbol binds its name to a symbol
+abbrev pub bound_freshly : Sexp → patterns.Bound
+bound_freshly d = record { symbol = d; depth = 0 }
+
+-- what stands in names to be made, behind symbols that bind names
+abbrev pub fresh_stands : List patterns.Bound → List Sexp → List Stand
+fresh_stands bs [] = []
+fresh_stands bs (d ∷ ds) = fresh bs d ∷ fresh_stands (bs ++ bound_freshly d ∷ []) ds
+
 -- ---- extras
 
 -- the symbols that bind names in an extra
@@ -118,6 +131,7 @@ bound_by_extra S ns (such_that p t) = bound_in ns p
 bound_by_extra S ns (provided h) = []
 bound_by_extra S ns (confirmed t) = []
 bound_by_extra S ns (holding d) = bound_by_premise S ns (headed d)
+bound_by_extra S ns (freshly ds) = map bound_freshly ds
 bound_by_extra S ns name = []
 bound_by_extra S ns no_extra = []
 
@@ -133,6 +147,7 @@ extra_stands S ns bs again d (such_that p t) = pattern bs (occurrences 0 p) ∷ 
 extra_stands S ns bs again d (provided h) = condition (names_bound bs) h ∷ []
 extra_stands S ns bs again d (confirmed t) = template (names_bound bs) t ∷ []
 extra_stands S ns bs again d (holding e) = held_stands S ns bs e (headed e)
+extra_stands S ns bs again d (freshly ds) = fresh_stands bs ds
 extra_stands S ns bs again d name = named again d ∷ []
 extra_stands S ns bs again d no_extra = misshaped d ∷ []
 
@@ -142,6 +157,7 @@ is_named again (such_that p t) = again
 is_named again (provided h) = again
 is_named again (confirmed t) = again
 is_named again (holding d) = again
+is_named again (freshly ds) = again
 is_named again name = true
 is_named again no_extra = again
 

@@ -1,6 +1,7 @@
 // What cases, clauses and rules have in common.
 
 use crate::arguments::Arguments;
+use crate::extras::ExtraPlace;
 use rdx_sexp::Datum;
 
 /// What a case or a clause takes.
@@ -16,6 +17,8 @@ pub(crate) enum Takes<'a> {
 #[derive(Clone, Copy)]
 pub(crate) struct Branch<'a> {
     pub(crate) takes: Takes<'a>,
+    /// Where its extras stand: in a case or in a clause.
+    pub(crate) place: ExtraPlace,
     pub(crate) extras: &'a [Datum],
     pub(crate) result: &'a Datum,
 }

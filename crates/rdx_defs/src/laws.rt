@@ -5,7 +5,7 @@ ghost use Rattle.rdx_defs.specs.JudgementExamples.{AheadMeans, BehindMeans, Sees
 ghost use Rattle.rdx_defs.specs.JudgementLaws.{NeverBothJudgement, NeverNeitherJudgement, OneJudgement, OneJudgementRefusal};
 ghost use Rattle.rdx_defs.specs.MetafunctionExamples.{CallsAnother, ClosesContract, NamedClauseRefused, OtherNameRefused};
 ghost use Rattle.rdx_defs.specs.MetafunctionLaws.{NeverBothMetafunction, NeverNeitherMetafunction, OneMetafunction, OneMetafunctionRefusal};
-ghost use Rattle.rdx_defs.specs.RelationExamples.{ArrowRefused, BindsBehind, ClashRefused, ExtraRefused, NameRefused, ResultRefused};
+ghost use Rattle.rdx_defs.specs.RelationExamples.{ArrowRefused, BindsBehind, ClashRefused, ExtraRefused, FreshRefused, MakesFresh, NameRefused, ResultRefused};
 ghost use Rattle.rdx_defs.specs.RelationLaws.{NeverBothRelation, NeverNeitherRelation, OneRelation, OneRelationRefusal};
 
 /// Where given names are bound, a datum is one template at most, or has one refusal at most, and
@@ -74,11 +74,13 @@ pub fn worked_examples()
 /// Worked examples: what a datum is as a relation, and where others are refused as ones.
 pub fn worked_relations()
     ensures binds_behind { BindsBehind }
+    ensures makes { MakesFresh }
     ensures name { NameRefused }
     ensures arrow { ArrowRefused }
     ensures extra { ExtraRefused }
     ensures shallow { ResultRefused }
     ensures clash { ClashRefused }
+    ensures bound_before { FreshRefused }
 {}
 
 /// Worked examples: what data are as metafunctions, and where others are refused as ones.

@@ -6,8 +6,9 @@
 //! form is, and the relation that a `reduction-relation` form is, over a language, and
 //! [`read_premise`] a premise by itself; or they refuse it at the first place of the check with the
 //! least number that refuses it. Metafunctions and judgements are known in the whole file, so each of
-//! these is given a [`Scope`], which [`scope_of`] finds before any form is read. What forms mean follows the Redex reference manual
-//! ("Terms", "Other Relations", "Reduction Relations"), and host expressions the Racket reference.
+//! these is given a [`Scope`], which [`scope_of`] finds before any form is read. What forms mean
+//! follows the Redex reference manual ("Terms", "Other Relations", "Reduction Relations"), and host
+//! expressions the Racket reference.
 #![tactic(auto)]
 
 mod arguments;

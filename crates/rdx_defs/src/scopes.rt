@@ -31,7 +31,10 @@ fn is_condition(extra: ExtraForm<'_>) -> bool
     ensures { result ≡ all.is_condition (extra_form_of extra.entry) }
 {
     match extra {
-        ExtraForm::SuchThat(_, _) | ExtraForm::Provided(_) | ExtraForm::Confirmed(_) => true,
+        ExtraForm::SuchThat(_, _)
+        | ExtraForm::Provided(_)
+        | ExtraForm::Confirmed(_)
+        | ExtraForm::Freshly(_) => true,
         ExtraForm::Holding(premise) => headed_list(premise).is_some(),
         ExtraForm::Name | ExtraForm::NoExtra => false,
     }
@@ -55,7 +58,7 @@ fn is_clause_of(name: &str, d: &Datum) -> bool
 {
     match clause_form(d) {
         Some(clause) => text(clause.function) == name
-            && are_conditions(ExtraPlace::OfCase, clause.extras),
+            && are_conditions(ExtraPlace::OfClause, clause.extras),
         None => false,
     }
 }

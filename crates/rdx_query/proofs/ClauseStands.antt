@@ -11,15 +11,17 @@ use Rattle.rdx_grammar.specs.Refusal.{Refusal, unnamed, or_else, first}
 use Rattle.rdx_grammar.specs.declared.shape.fault.DefKind.TheVariants.{Shape}
 use Rattle.rdx_defs.specs.Arguments.{is_misfit}
 use Rattle.rdx_defs.specs.Bound.{Bound}
-use Rattle.rdx_defs.specs.ExtraForms.{ExtraForm, such_that, provided, confirmed, holding, name, no_extra, ExtraPlace, of_case, form_at}
+use Rattle.rdx_defs.specs.ExtraForms as forms
+use Rattle.rdx_defs.specs.ExtraForms.{ExtraForm, such_that, provided, confirmed, holding, freshly, name, no_extra, form_at}
 use Rattle.rdx_defs.specs.Headed.{Headed, headed}
 use Rattle.rdx_defs.specs.JudgementRefusal.{result_stands, lone_premise_stands}
 use Rattle.rdx_defs.specs.MetafunctionForms.{ClauseForm, clause_form, ContractForm, MetafunctionForm}
 use Rattle.rdx_defs.specs.MetafunctionStands.{clause_stands, clauses_stand, contract_stands, patterns_stand, function_stands}
 use Rattle.rdx_defs.specs.Scope.{Scope, mode_of}
 use Rattle.rdx_defs.specs.StandChecks.{shape_faults, shape_at, repeated_names, repeated_at, repeated_name_at}
-use Rattle.rdx_defs.specs.Stands.{Stand, misshaped, function, judgement, asked, arrow, pattern, template, condition, plain, misfit, named, bound_in, plain_argument, flagged_stand, arguments_by, arguments_stand, misfits, names_bound, premise_arguments, held_stands, bound_by_premise, bound_by_extra, extra_stands, is_named, extras_stand}
+use Rattle.rdx_defs.specs.Stands.{Stand, misshaped, function, judgement, asked, arrow, pattern, template, condition, plain, misfit, fresh, named, bound_in, plain_argument, flagged_stand, arguments_by, arguments_stand, misfits, names_bound, premise_arguments, held_stands, bound_by_premise, bound_by_extra, extra_stands, is_named, extras_stand}
 use Rattle.rdx_defs.specs.TemplateShapes.{template_shapes, host_shapes}
+use Rattle.rdx_defs.proofs.TrackedNames.{MakesNone, clause-none}
 
 -- ---- what stands there
 
@@ -35,6 +37,7 @@ IsNameless (template bs t) = Unit {0}
 IsNameless (condition bs h) = Unit {0}
 IsNameless (plain os) = Unit {0}
 IsNameless (misfit d n) = Unit {0}
+IsNameless (fresh bs d) = ⊥
 IsNameless (named again d) = again ≡ true
 
 -- all are such
@@ -93,14 +96,16 @@ of_lone_premise S ns d t =
 
 -- ---- metafunctions
 
--- of an extra, where no name may come
-of_extra : (S : Scope) (ns : List (List ℕ)) (bs : List patterns.Bound) (again : Bool) (d : Sexp) (e : ExtraForm) → again ≡ true → AreNameless (extra_stands S ns bs again d e)
-of_extra S ns bs again d (such_that p t) h = (tt, (tt, tt))
-of_extra S ns bs again d (provided g) h = (tt, tt)
-of_extra S ns bs again d (confirmed t) h = (tt, tt)
-of_extra S ns bs again d (holding e) h = of_held S ns bs e (headed e)
-of_extra S ns bs again d name h = (h, tt)
-of_extra S ns bs again d no_extra h = (tt, tt)
+-- of an extra that makes no names, where none may come
+of_extra : (S : Scope) (ns : List (List ℕ)) (bs : List patterns.Bound) (again : Bool) (d : Sexp) (e : ExtraForm) → MakesNone e → again ≡ true
+    → AreNameless (extra_stands S ns bs again d e)
+of_extra S ns bs again d (such_that p t) m h = (tt, (tt, tt))
+of_extra S ns bs again d (provided g) m h = (tt, tt)
+of_extra S ns bs again d (confirmed t) m h = (tt, tt)
+of_extra S ns bs again d (holding e) m h = of_held S ns bs e (headed e)
+of_extra S ns bs again d (freshly ds) m h = absurd m
+of_extra S ns bs again d name m h = (h, tt)
+of_extra S ns bs again d no_extra m h = (tt, tt)
 
 -- none may come behind it either
 stays_named : (again : Bool) (e : ExtraForm) → again ≡ true → is_named again e ≡ true
@@ -108,17 +113,19 @@ stays_named again (such_that p t) h = h
 stays_named again (provided g) h = h
 stays_named again (confirmed t) h = h
 stays_named again (holding d) h = h
+stays_named again (freshly ds) h = h
 stays_named again name h = refl
 stays_named again no_extra h = h
 
--- of extras
-of_extras : (k : ExtraPlace) (S : Scope) (ns : List (List ℕ)) (bs : List patterns.Bound) (again : Bool) (ds : List Sexp) → again ≡ true → AreNameless (extras_stand k S ns bs again ds)
-of_extras k S ns bs again [] h = tt
-of_extras k S ns bs again (d ∷ ds) h =
-    let e = form_at k d in
-    of_both (extra_stands S ns bs again d e) (extras_stand k S ns (bs ++ bound_by_extra S ns e) (is_named again e) ds)
-    (of_extra S ns bs again d e h)
-    (of_extras k S ns (bs ++ bound_by_extra S ns e) (is_named again e) ds (stays_named again e h))
+-- of extras of a clause
+of_extras : (S : Scope) (ns : List (List ℕ)) (bs : List patterns.Bound) (again : Bool) (ds : List Sexp) → again ≡ true
+    → AreNameless (extras_stand forms.of_clause S ns bs again ds)
+of_extras S ns bs again [] h = tt
+of_extras S ns bs again (d ∷ ds) h =
+    let e = form_at forms.of_clause d in
+    of_both (extra_stands S ns bs again d e) (extras_stand forms.of_clause S ns (bs ++ bound_by_extra S ns e) (is_named again e) ds)
+    (of_extra S ns bs again d e (clause-none d) h)
+    (of_extras S ns (bs ++ bound_by_extra S ns e) (is_named again e) ds (stays_named again e h))
 
 -- by a test
 of_test : (b : Bool) (ss ts : List Stand) → AreNameless ss → AreNameless ts → AreNameless (if b then ss else ts)
@@ -129,7 +136,7 @@ of_test false ss ts a c = c
 of_clause : (S : Scope) (ns : List (List ℕ)) (x : List ℕ) (d : Sexp) (o : Option ClauseForm) → AreNameless (clause_stands S ns x d o)
 of_clause S ns x d None = (tt, tt)
 of_clause S ns x d (Some c) =
-    of_test (bytes_eq (text_of c.function) x) _ (misshaped d ∷ []) (tt, (tt, of_extras of_case S ns _ true c.extras refl)) (tt, tt)
+    of_test (bytes_eq (text_of c.function) x) _ (misshaped d ∷ []) (tt, (tt, of_extras S ns _ true c.extras refl)) (tt, tt)
 
 -- of clauses
 of_clauses : (S : Scope) (ns : List (List ℕ)) (x : List ℕ) (ds : List Sexp) → AreNameless (clauses_stand S ns x ds)
@@ -180,6 +187,7 @@ no_repeats seen (template bs t ∷ ss) a e = no_repeats seen ss a.1 (behind_none
 no_repeats seen (condition bs h ∷ ss) a e = no_repeats seen ss a.1 (behind_none (host_shapes h) (shape_faults ss) e)
 no_repeats seen (plain os ∷ ss) a e = no_repeats seen ss a.1 (behind_none (patterns.keyword_faults os) (shape_faults ss) e)
 no_repeats seen (misfit d n ∷ ss) a e = no_repeats seen ss a.1 e
+no_repeats seen (fresh bs d ∷ ss) a e = absurd a.0
 no_repeats seen (named again d ∷ ss) a e = absurd (no_name again d (shape_faults ss) a.0 e)
 
 -- so that check is never the one that is reported

@@ -36,10 +36,11 @@ use Rattle.rdx_eval.specs.Making.{listed, filled, filled_no_context}
 use Rattle.rdx_defs.specs.Scope.{Scope}
 use Rattle.rdx_reduce.specs.Relations.{AreSteps}
 use Rattle.rdx_reduce.specs.Steps.{Step, RuleSteps}
+use Rattle.rdx_query.proofs.PrintedExamples.{digit_1, digit_2, digit_3}
 use Rattle.rdx_query.specs.AnswerText.{answers_text, matches_text, splits_text, value_line, reducts_text, steps_text, fault_line}
 use Rattle.rdx_query.specs.Answering.{HostValue, over_value, over_fault, no_answers, more_answers}
 use Rattle.rdx_query.specs.Definitions.{language}
-use Rattle.rdx_query.specs.Examples.{defines_L, marked_pair, AnswersInOrder, WholeAnswer, Inherited, OneSplit, FilledTerm, FaultAnswered, OneReductTwoSteps, PremiseMet, OutputsListed, OwnHole, OneHole, NoOwnHole, NestedSequences, OwnHoleInSequence, LengthInDecimal, FirstRefusedForm, EarlierLanguagesOnly, TakenName, HostExpression, OtherForm, Sum, Wanted, OtherModule, KnownBefore, FewItems, LeftRecursion}
+use Rattle.rdx_query.specs.Examples.{defines_L, marked_pair, AnswersInOrder, WholeAnswer, Inherited, OneSplit, FilledTerm, FaultAnswered, OneReductTwoSteps, PremiseMet, OutputsListed, FirstRefusedForm, EarlierLanguagesOnly, TakenName, HostExpression, OtherForm, Sum, Wanted, OtherModule, KnownBefore, FewItems, LeftRecursion}
 use Rattle.rdx_query.specs.File.{Defines, by_check, by_recursion, accepts_none, accepts_definition, accepts_query, accepts_passed, refuses_here, refuses_behind_definition}
 use Rattle.rdx_query.specs.HoldsAnswers.{FindsMet, whether_found, ValuesOf, values_of, values_found}
 use Rattle.rdx_query.specs.Known.{empty_program, nothing_in}
@@ -273,51 +274,20 @@ split_listing =
 
 -- ---- what is printed
 
-one_digit : codes "1" ≡ decimal 1
-one_digit = sym (decimal_digit 1 (omega arith))
-
-two_digit : codes "2" ≡ decimal 2
-two_digit = sym (decimal_digit 2 (omega arith))
-
-three_digit : codes "3" ≡ decimal 3
-three_digit = sym (decimal_digit 3 (omega arith))
-
 first_printed : codes "match 1\n  any_x = 2, any_y = 1\n" ≡ matches_text (both ∷ [])
-first_printed = λ i. codes "match" ++ codes " " ++ one_digit i ++ codes "\n"
-    ++ (codes "  " ++ ((codes "any_x" ++ codes " = " ++ two_digit i ++ []) ++ (codes ", " ++ (codes "any_y" ++ codes " = " ++ one_digit i ++ []) ++ [])) ++ codes "\n" ++ [])
+first_printed = λ i. codes "match" ++ codes " " ++ digit_1 i ++ codes "\n"
+    ++ (codes "  " ++ ((codes "any_x" ++ codes " = " ++ digit_2 i ++ []) ++ (codes ", " ++ (codes "any_y" ++ codes " = " ++ digit_1 i ++ []) ++ [])) ++ codes "\n" ++ [])
 
 second_printed : codes "match 1\n  -\n" ≡ matches_text ([] ∷ [])
-second_printed = λ i. codes "match" ++ codes " " ++ one_digit i ++ codes "\n" ++ (codes "  " ++ codes "-" ++ codes "\n" ++ [])
+second_printed = λ i. codes "match" ++ codes " " ++ digit_1 i ++ codes "\n" ++ (codes "  " ++ codes "-" ++ codes "\n" ++ [])
 
 -- the places 0 and 1 of paths
 zero_digit : codes "0" ≡ decimal 0
 zero_digit = sym (decimal_digit 0 (omega arith))
 
 split_printed : codes "splits 1\n  (hole hole) at [0] is 1 with any = hole\n" ≡ splits_text (split ∷ [])
-split_printed = λ i. codes "splits" ++ codes " " ++ one_digit i ++ codes "\n"
-    ++ (codes "  " ++ (codes "(hole hole)" ++ (codes " at [" ++ (zero_digit i ++ []) ++ codes "]") ++ codes " is " ++ one_digit i ++ codes " with " ++ codes "any = hole") ++ codes "\n" ++ [])
-
-pub own_hole : OwnHole
-own_hole = sym (λ i. codes "(hole hole)" ++ (codes " at [" ++ (one_digit i ++ []) ++ codes "]"))
-
-pub one_hole : OneHole
-one_hole = refl
-
-pub no_own_hole : NoOwnHole
-no_own_hole = refl
-
-pub nested_sequences : NestedSequences
-nested_sequences =
-    sym (λ i. codes "[" ++ ((codes "[" ++ ((one_digit i ++ []) ++ (codes " " ++ (two_digit i ++ []) ++ [])) ++ codes "]")
-    ++ (codes " " ++ (codes "[" ++ [] ++ codes "]") ++ [])) ++ codes "]")
-
-pub own_hole_in_sequence : OwnHoleInSequence
-own_hole_in_sequence =
-    sym (λ i. codes "[" ++ ((codes "(hole hole)" ++ (codes " at [" ++ (one_digit i ++ []) ++ codes "]"))
-    ++ (codes " " ++ (three_digit i ++ []) ++ [])) ++ codes "]")
-
-pub length_in_decimal : LengthInDecimal
-length_in_decimal = sym (λ i. codes "..._a" ++ codes " = " ++ two_digit i)
+split_printed = λ i. codes "splits" ++ codes " " ++ digit_1 i ++ codes "\n"
+    ++ (codes "  " ++ (codes "(hole hole)" ++ (codes " at [" ++ (zero_digit i ++ []) ++ codes "]") ++ codes " is " ++ digit_1 i ++ codes " with " ++ codes "any = hole") ++ codes "\n" ++ [])
 
 -- ---- what host expressions make
 
@@ -393,12 +363,12 @@ one_reduct : AreReducts both_steps (tree.integer (pos 2) ∷ [])
 one_reduct = one_alone (tree.integer (pos 2)) (here refl) same_reduct
 
 reducts_printed : codes "reducts 1\n  2\n" ≡ reducts_text (tree.integer (pos 2) ∷ [])
-reducts_printed = λ i. codes "reducts" ++ codes " " ++ one_digit i ++ codes "\n" ++ (codes "  " ++ two_digit i ++ codes "\n" ++ [])
+reducts_printed = λ i. codes "reducts" ++ codes " " ++ digit_1 i ++ codes "\n" ++ (codes "  " ++ digit_2 i ++ codes "\n" ++ [])
 
 steps_printed : codes "steps 2\n  a 2\n  \"b c\" 2\n" ≡ steps_text (named_steps R.rules both_steps)
 unfolding chars
-steps_printed = λ i. codes "steps" ++ codes " " ++ two_digit i ++ codes "\n"
-    ++ (codes "  " ++ (codes "a" ++ codes " " ++ two_digit i) ++ codes "\n" ++ (codes "  " ++ (codes "\"b c\"" ++ codes " " ++ two_digit i) ++ codes "\n" ++ []))
+steps_printed = λ i. codes "steps" ++ codes " " ++ digit_2 i ++ codes "\n"
+    ++ (codes "  " ++ (codes "a" ++ codes " " ++ digit_2 i) ++ codes "\n" ++ (codes "  " ++ (codes "\"b c\"" ++ codes " " ++ digit_2 i) ++ codes "\n" ++ []))
 
 -- ---- the examples
 
@@ -467,7 +437,7 @@ one_split s = record {
 }
 
 value_printed : codes "value (1 2)\n" ≡ value_line pair
-value_printed = λ i. codes "value " ++ (codes "(" ++ (one_digit i ++ (codes " " ++ two_digit i ++ [])) ++ codes ")") ++ codes "\n"
+value_printed = λ i. codes "value " ++ (codes "(" ++ (digit_1 i ++ (codes " " ++ digit_2 i ++ [])) ++ codes ")") ++ codes "\n"
 
 pub filled_term : FilledTerm
 unfolding chars
@@ -482,7 +452,7 @@ fault_printed : codes "fault NotContext 0\n" ≡ fault_line (not_context 0)
 fault_printed = λ i. codes "fault " ++ (codes "NotContext " ++ zero_digit i) ++ codes "\n"
 
 one_printed : codes "value 1\n" ≡ value_line (tree.integer (pos 1))
-one_printed = λ i. codes "value " ++ one_digit i ++ codes "\n"
+one_printed = λ i. codes "value " ++ digit_1 i ++ codes "\n"
 
 pub fault_answered : FaultAnswered
 fault_answered s = record {
@@ -530,7 +500,7 @@ sum_made : (P : Program) → HostValue P sum_of_two (value (tree.integer (pos 3)
 sum_made P = goes (goes (goes refl refl) (goes (goes (goes refl refl) (goes refl refl)) refl)) refl
 
 three_printed : codes "value 3\n" ≡ value_line (tree.integer (pos 3))
-three_printed = λ i. codes "value " ++ three_digit i ++ codes "\n"
+three_printed = λ i. codes "value " ++ digit_3 i ++ codes "\n"
 
 pub sum : Sum
 sum s = record {
@@ -595,7 +565,7 @@ value_of_f =
     (goes (goes (goes refl refl) (goes refl refl)) (one_of (one_alone (tree.integer (pos 2)) (here refl) (λ t i. only_member t (tree.integer (pos 2)) i)))))
 
 two_printed : codes "value 2\n" ≡ value_line (tree.integer (pos 2))
-two_printed = λ i. codes "value " ++ two_digit i ++ codes "\n"
+two_printed = λ i. codes "value " ++ digit_2 i ++ codes "\n"
 
 pub known_before : KnownBefore
 unfolding chars
@@ -759,8 +729,8 @@ values_made C =
     (lists (listing two_values ((refl, tt), (tt, tt)) (here refl, (there (here refl), tt)) (λ t i. i))))
 
 answers_printed : codes "answers 2\n  2\n  3\n" ≡ answers_text two_values
-answers_printed = λ i. codes "answers" ++ codes " " ++ two_digit i ++ codes "\n"
-    ++ (codes "  " ++ two_digit i ++ codes "\n" ++ (codes "  " ++ three_digit i ++ codes "\n" ++ []))
+answers_printed = λ i. codes "answers" ++ codes " " ++ digit_2 i ++ codes "\n"
+    ++ (codes "  " ++ digit_2 i ++ codes "\n" ++ (codes "  " ++ digit_3 i ++ codes "\n" ++ []))
 
 pub outputs_listed : OutputsListed
 unfolding chars

@@ -24,6 +24,7 @@ pub mod Replaced
 pub mod NamesKnown
 pub mod FileRead
 pub mod FormSteps
+pub mod PrintedExamples
 pub mod Examples
 pub mod AcceptedOrRefused
 pub mod AskedNames

@@ -5,7 +5,7 @@ use Rattle.rdx_lang.specs.Programs.{Mode}
 use Rattle.rdx_grammar.specs.Occurrences.{occurrences}
 use Rattle.rdx_grammar.specs.Parts.{text_of}
 use Rattle.rdx_defs.specs.Arguments.{Arguments, is_misfit}
-use Rattle.rdx_defs.specs.ExtraForms.{ExtraForm, such_that, provided, confirmed, holding, name, no_extra, ExtraPlace, of_case, of_rule, form_at}
+use Rattle.rdx_defs.specs.ExtraForms.{ExtraForm, such_that, provided, confirmed, holding, freshly, name, no_extra, ExtraPlace, of_rule, form_at}
 use Rattle.rdx_defs.specs.Headed.{Headed, headed}
 use Rattle.rdx_defs.specs.Inside.Branches.{Branch, taken_occurrences, case_branch, clause_branch, own_clause, contract_patterns}
 use Rattle.rdx_defs.specs.JudgementForms.{RuleForm, rule_form, own_rule, JudgementForm, judgement_in, mode_form, own_mode}
@@ -15,7 +15,7 @@ use Rattle.rdx_defs.specs.MetafunctionReading.{text_in}
 use Rattle.rdx_defs.specs.RelationForms.{CaseForm, case_form, RelationForm}
 use Rattle.rdx_defs.specs.RelationStands.{domain_stands}
 use Rattle.rdx_defs.specs.Scope.{Scope, mode_of}
-use Rattle.rdx_defs.specs.Stands.{Stand, misshaped, function, asked, arrow, pattern, template, condition, named, plain_argument, premise_arguments, misfits, is_named}
+use Rattle.rdx_defs.specs.Stands.{Stand, misshaped, function, asked, arrow, pattern, template, condition, fresh, named, plain_argument, premise_arguments, misfits, is_named}
 
 -- a pattern that stands by itself
 abbrev pub lone_pattern : Sexp → Stand
@@ -43,12 +43,17 @@ held_stands S d None = misshaped d ∷ []
 held_stands S d (Some q) =
     asked q.head ∷ misfits (is_misfit (mode_of S (text_of q.head)) q.arguments) d q.head ++ arguments_stand (premise_arguments S q)
 
+-- in names to be made
+abbrev pub fresh_stands : List Sexp → List Stand
+fresh_stands ds = map (λ d. fresh [] d) ds
+
 -- in the extra d
 abbrev pub extra_stands : Scope → Bool → Sexp → ExtraForm → List Stand
 extra_stands S again d (such_that p t) = lone_pattern p ∷ template [] t ∷ []
 extra_stands S again d (provided h) = condition [] h ∷ []
 extra_stands S again d (confirmed t) = template [] t ∷ []
 extra_stands S again d (holding e) = held_stands S e (headed e)
+extra_stands S again d (freshly ds) = fresh_stands ds
 extra_stands S again d name = named again d ∷ []
 extra_stands S again d no_extra = misshaped d ∷ []
 
@@ -59,7 +64,7 @@ extras_stand k S again (d ∷ ds) = extra_stands S again d (form_at k d) ++ extr
 
 -- in a branch
 abbrev pub branch_stands : Scope → Bool → Branch → List Stand
-branch_stands S again b = pattern [] (taken_occurrences b.takes) ∷ template [] b.result ∷ extras_stand of_case S again b.extras
+branch_stands S again b = pattern [] (taken_occurrences b.takes) ∷ template [] b.result ∷ extras_stand b.place S again b.extras
 
 -- in the case d
 abbrev pub case_stands : Scope → Sexp → Option CaseForm → List Stand

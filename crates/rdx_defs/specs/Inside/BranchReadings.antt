@@ -3,7 +3,6 @@ use Rattle.std.specs.Prelude.{ℕ, List, map, option_map}
 use Rattle.rdx_sexp.specs.Sexp.{Sexp}
 use Rattle.rdx_lang.specs.Programs.{Clause, Metafunction, Rule}
 use Rattle.rdx_grammar.specs.Parts.{text_of}
-use Rattle.rdx_defs.specs.ExtraForms.{of_case}
 use Rattle.rdx_defs.specs.ExtraReading.{extras_reading}
 use Rattle.rdx_defs.specs.Inside.Branches.{Branch, bound_by_taken, bound_by_branch, taken_reading}
 use Rattle.rdx_defs.specs.MetafunctionForms.{MetafunctionForm}
@@ -18,7 +17,7 @@ abbrev pub branch_rule : Scope → List (List ℕ) → Branch → Rule
 branch_rule S ns b = record {
   name = first_name b.extras;
   pattern = taken_reading ns b.takes;
-  extras = extras_reading of_case S ns (bound_by_taken ns b.takes) b.extras;
+  extras = extras_reading b.place S ns (bound_by_taken ns b.takes) b.extras;
   result = template_reading S (names_bound (bound_by_branch S ns b)) b.result;
 }
 
@@ -30,7 +29,7 @@ branch_rules S ns bs = map (branch_rule S ns) bs
 abbrev pub branch_clause : Scope → List (List ℕ) → Branch → Clause
 branch_clause S ns b = record {
   arguments = taken_reading ns b.takes;
-  extras = extras_reading of_case S ns (bound_by_taken ns b.takes) b.extras;
+  extras = extras_reading b.place S ns (bound_by_taken ns b.takes) b.extras;
   result = template_reading S (names_bound (bound_by_branch S ns b)) b.result;
 }
 

@@ -11,7 +11,7 @@ use Rattle.rdx_grammar.specs.Reading.{reading, is_pattern}
 use Rattle.rdx_grammar.specs.declared.patterns.position.Position.TheVariants.{Query}
 use Rattle.rdx_lang.specs.Programs.{Mode}
 use Rattle.rdx_defs.specs.Arguments.{Arguments}
-use Rattle.rdx_defs.specs.ExtraForms.{of_case}
+use Rattle.rdx_defs.specs.ExtraForms.{ExtraPlace, of_case, of_clause}
 use Rattle.rdx_defs.specs.ExtraReading.{list_reading}
 use Rattle.rdx_defs.specs.Headed.{Headed, headed}
 use Rattle.rdx_defs.specs.JudgementForms.{RuleForm, rule_form, own_rule, OptionForm, JudgementForm, judgement_in, own_mode, is_any_keyword, cut_options, key_text, is_fit_option}
@@ -31,9 +31,10 @@ pub data Takes : Type 0 where
   -- a list of arguments, each by one of these patterns, which stand by themselves
   each : List Sexp → Takes
 
--- a case or a clause without its arrow or its name
+-- a case or a clause without its arrow or its name; its place says which of them it is
 pub record Branch : Type 0 where
   pub takes : Takes
+  pub place : ExtraPlace
   pub extras : List Sexp
   pub result : Sexp
 
@@ -55,7 +56,7 @@ taken_reading ns (each ds) = list_reading ns ds
 
 -- the symbols that bind names in a branch
 abbrev pub bound_by_branch : Scope → List (List ℕ) → Branch → List patterns.Bound
-bound_by_branch S ns b = bound_by_taken ns b.takes ++ bound_by_extras of_case S ns b.extras
+bound_by_branch S ns b = bound_by_taken ns b.takes ++ bound_by_extras b.place S ns b.extras
 
 -- a rule of a judgement: the arguments of its conclusion, its premises, and whether the conclusion is written last
 pub record RuleBranch : Type 0 where
@@ -79,7 +80,7 @@ pub record Outline : Type 0 where
 
 -- the branch of a case
 abbrev pub case_branch : CaseForm → Branch
-case_branch c = record { takes = one c.pattern; extras = c.extras; result = c.result }
+case_branch c = record { takes = one c.pattern; place = of_case; extras = c.extras; result = c.result }
 
 -- where there is one
 abbrev pub in_case : Option CaseForm → List Branch
@@ -102,7 +103,7 @@ relation_outline r = record { alone = domain_patterns r.domain; branches = case_
 
 -- the branch of a clause
 abbrev pub clause_branch : ClauseForm → Branch
-clause_branch c = record { takes = several c.arguments; extras = c.extras; result = c.result }
+clause_branch c = record { takes = several c.arguments; place = of_clause; extras = c.extras; result = c.result }
 
 -- where there is one
 abbrev pub in_clause : Option ClauseForm → List Branch

@@ -1,5 +1,5 @@
 -- What a form gives by the names that are bound before each place, without the symbols that bind them.
-use Rattle.std.specs.Prelude.{ℕ, Bool, true, false, not, ◌&&◌, List, [], ◌∷◌, ◌++◌, Option, Some, None, flat_map, bytes_eq, nat_eq, if◌then◌else◌}
+use Rattle.std.specs.Prelude.{ℕ, Bool, true, false, not, ◌&&◌, List, [], ◌∷◌, ◌++◌, Option, Some, None, map, flat_map, bytes_eq, nat_eq, if◌then◌else◌}
 use Rattle.std.specs.List.{list_any}
 use Rattle.rdx_sexp.specs.Sexp.{Sexp}
 use Rattle.rdx_lang.specs.Programs as model
@@ -13,7 +13,7 @@ use Rattle.rdx_grammar.specs.Reading.{reading}
 use Rattle.rdx_grammar.specs.declared.patterns.position.Position.TheVariants.{Query}
 use Rattle.rdx_defs.specs.Arguments.{Arguments, patterns_in}
 use Rattle.rdx_defs.specs.Bound.{Bound}
-use Rattle.rdx_defs.specs.ExtraForms.{ExtraForm, such_that, provided, confirmed, holding, name, no_extra, ExtraPlace, of_case, of_rule, form_at}
+use Rattle.rdx_defs.specs.ExtraForms.{ExtraForm, such_that, provided, confirmed, holding, freshly, name, no_extra, ExtraPlace, of_rule, form_at}
 use Rattle.rdx_defs.specs.ExtraReading.{held_reading}
 use Rattle.rdx_defs.specs.Headed.{Headed, headed}
 use Rattle.rdx_defs.specs.Inside.Branches.{Takes, one, Branch, RuleBranch, Question, Outline, taken_occurrences, bound_by_taken}
@@ -40,12 +40,17 @@ abbrev pub premise_names : Scope → List (List ℕ) → Option Headed → Bound
 premise_names S ns None = []
 premise_names S ns (Some q) = patterns_names ns (patterns_in (premise_arguments S q))
 
+-- names to be made
+abbrev pub fresh_names : List Sexp → Bound
+fresh_names ds = map (λ d. (text_of d, 0)) ds
+
 -- an extra
 abbrev pub extra_names : Scope → List (List ℕ) → ExtraForm → Bound
 extra_names S ns (such_that p t) = taken_names ns (one p)
 extra_names S ns (provided h) = []
 extra_names S ns (confirmed t) = []
 extra_names S ns (holding d) = premise_names S ns (headed d)
+extra_names S ns (freshly ds) = fresh_names ds
 extra_names S ns name = []
 extra_names S ns no_extra = []
 
@@ -56,7 +61,7 @@ extras_names k S ns (d ∷ ds) = extra_names S ns (form_at k d) ++ extras_names 
 
 -- a branch
 abbrev pub branch_names : Scope → List (List ℕ) → Branch → Bound
-branch_names S ns b = taken_names ns b.takes ++ extras_names of_case S ns b.extras
+branch_names S ns b = taken_names ns b.takes ++ extras_names b.place S ns b.extras
 
 -- the inputs of the conclusion of a rule
 abbrev pub input_names : List (List ℕ) → RuleBranch → Bound
@@ -130,6 +135,7 @@ extra_faults k S ns es (such_that p t) = pattern_faults k ns es (occurrences 0 p
 extra_faults k S ns es (provided h) = host_faults k S es h
 extra_faults k S ns es (confirmed t) = template_faults k S es t
 extra_faults k S ns es (holding d) = premise_faults k S ns es (headed d)
+extra_faults k S ns es (freshly ds) = []
 extra_faults k S ns es name = []
 extra_faults k S ns es no_extra = []
 
@@ -143,7 +149,7 @@ extras_faults e k S ns es (d ∷ ds) =
 abbrev pub branch_faults : Check → Scope → List (List ℕ) → Branch → List Sexp
 branch_faults k S ns b =
     pattern_faults k ns [] (taken_occurrences b.takes)
-    ++ (template_faults k S (branch_names S ns b) b.result ++ extras_faults of_case k S ns (taken_names ns b.takes) b.extras)
+    ++ (template_faults k S (branch_names S ns b) b.result ++ extras_faults b.place k S ns (taken_names ns b.takes) b.extras)
 
 -- in branches
 abbrev pub branches_faults : Check → Scope → List (List ℕ) → List Branch → List Sexp
@@ -198,12 +204,17 @@ outline_faults k S ns o =
 
 -- ---- readings
 
+-- what names to be made ask
+abbrev pub fresh_reading : List Sexp → List Extra
+fresh_reading ds = map (λ d. model.fresh (text_of d)) ds
+
 -- what an extra asks, where it asks something
 abbrev pub extra_reading : Scope → List (List ℕ) → Bound → ExtraForm → List Extra
 extra_reading S ns es (such_that p t) = such_as (reading ns Query p) (template_reading S es t) ∷ []
 extra_reading S ns es (provided h) = model.provided (host_reading S es h) ∷ []
 extra_reading S ns es (confirmed t) = model.provided (term (template_reading S es t)) ∷ []
 extra_reading S ns es (holding d) = held_reading S ns es (headed d)
+extra_reading S ns es (freshly ds) = fresh_reading ds
 extra_reading S ns es name = []
 extra_reading S ns es no_extra = []
 

@@ -4,17 +4,18 @@ use Rattle.rdx_grammar.specs.Refusal.{Refusal, unnamed, named, first, or_else, f
 use Rattle.rdx_grammar.specs.declared.shape.fault.DefKind.TheVariants.{BadPattern, EllipsisDepth, EllipsisVariable, RacketEscape}
 use Rattle.rdx_defs.specs.Inside.Branches.{Outline}
 use Rattle.rdx_defs.specs.Inside.ByNames.{outline_faults}
+use Rattle.rdx_defs.specs.Inside.NamesAgain.{names_again}
 use Rattle.rdx_defs.specs.Scope.{Scope}
-use Rattle.rdx_defs.specs.StandChecks.{shape_at, repeated_name_at, bad_name_at, unknown_name_at, mode_fault_at}
+use Rattle.rdx_defs.specs.StandChecks.{shape_at, repeated_at, bad_name_at, unknown_name_at, mode_fault_at}
 use Rattle.rdx_defs.specs.Stands.{Stand}
 use Rattle.rdx_defs.specs.declared.stands.faults.Check.TheVariants.{Places, Depths, Driving, Escapes}
 
 -- by the checks that come before what is bound has to be known
-abbrev pub early_refusal : List Stand → Option Refusal
-early_refusal ss =
+abbrev pub early_refusal : List (List ℕ) → List Stand → Option Refusal
+early_refusal ns ss =
     first_refusal
     (shape_at ss  -- S1
-    ∷ repeated_name_at ss  -- S3
+    ∷ option_map repeated_at (first (names_again ns [] [] ss))  -- S3
     ∷ bad_name_at ss  -- S4
     ∷ [])
 
@@ -32,4 +33,4 @@ late_refusal S ns ss o =
 
 -- by all of them
 abbrev pub form_refusal : Scope → List (List ℕ) → List Stand → Outline → Option Refusal
-form_refusal S ns ss o = or_else (early_refusal ss) (late_refusal S ns ss o)
+form_refusal S ns ss o = or_else (early_refusal ns ss) (late_refusal S ns ss o)

@@ -6,20 +6,20 @@ use Rattle.rdx_sexp.specs.declared.datum.Datum.{Datum}
 use Rattle.rdx_grammar.specs.OccurrenceView.{occurrences_of}
 use Rattle.rdx_defs.specs.ExtraForms as model
 use Rattle.rdx_defs.specs.Arguments as arguments
-use Rattle.rdx_defs.specs.ExtraForms.{such_that, provided, confirmed, holding, name, no_extra, of_case, of_rule}
+use Rattle.rdx_defs.specs.ExtraForms.{such_that, provided, confirmed, holding, freshly, name, no_extra, of_case, of_clause, of_rule}
 use Rattle.rdx_defs.specs.Headed as headed
 use Rattle.rdx_defs.specs.Inside.Branches as inside
 use Rattle.rdx_defs.specs.MetafunctionForms as metafunctions
 use Rattle.rdx_defs.specs.RelationForms as relations
 use Rattle.rdx_defs.specs.JudgementForms as judgements
 use Rattle.rdx_defs.specs.Scope as scopes
-use Rattle.rdx_defs.specs.Stands.{Stand, misshaped, function, judgement, asked, arrow, pattern, template, condition, plain, misfit, named}
+use Rattle.rdx_defs.specs.Stands.{Stand, misshaped, function, judgement, asked, arrow, pattern, template, condition, plain, misfit, fresh, named}
 use Rattle.rdx_defs.specs.declared.arguments.Arguments.{Arguments}
 use Rattle.rdx_defs.specs.declared.arguments.Headed.{Headed}
 use Rattle.rdx_defs.specs.declared.extras.ExtraForm.{ExtraForm}
 use Rattle.rdx_defs.specs.declared.extras.ExtraForm.TheVariants as extras
 use Rattle.rdx_defs.specs.declared.extras.ExtraPlace.{ExtraPlace}
-use Rattle.rdx_defs.specs.declared.extras.ExtraPlace.TheVariants.{OfCase, OfRule}
+use Rattle.rdx_defs.specs.declared.extras.ExtraPlace.TheVariants.{OfCase, OfClause, OfRule}
 use Rattle.rdx_defs.specs.declared.branches.Branch.{Branch}
 use Rattle.rdx_defs.specs.declared.branches.Outline.{Outline}
 use Rattle.rdx_defs.specs.declared.branches.Question.{Question}
@@ -44,12 +44,14 @@ extra_form_of (extras.SuchThat p t) = such_that p.now t.now
 extra_form_of (extras.Provided h) = provided h.now
 extra_form_of (extras.Confirmed t) = confirmed t.now
 extra_form_of (extras.Holding d) = holding d.now
+extra_form_of (extras.Freshly ds) = freshly ds.now
 extra_form_of extras.Name = name
 extra_form_of extras.NoExtra = no_extra
 
 -- the place
 abbrev pub place_of : ExtraPlace → model.ExtraPlace
 place_of OfCase = of_case
+place_of OfClause = of_clause
 place_of OfRule = of_rule
 
 -- the list headed by a symbol
@@ -125,7 +127,7 @@ takes_of (takes.Several ds) = inside.several ds.now
 
 -- the branch
 abbrev pub branch_of : Branch → inside.Branch
-branch_of b = record { takes = takes_of b.takes; extras = b.extras.now; result = b.result.now }
+branch_of b = record { takes = takes_of b.takes; place = place_of b.place; extras = b.extras.now; result = b.result.now }
 
 -- the rule of a judgement
 abbrev pub rule_branch_of : RuleBranch → inside.RuleBranch
@@ -156,6 +158,7 @@ stand_of (stands.Template d) = template [] d.now
 stand_of (stands.Condition d) = condition [] d.now
 stand_of (stands.Plain found) = plain (occurrences_of found.items)
 stand_of (stands.Misfit d j) = misfit d.now (option_map (λ j. j.now) j)
+stand_of (stands.Fresh d) = fresh [] d.now
 stand_of (stands.Named again d) = named again d.now
 
 -- and what several are, in their order

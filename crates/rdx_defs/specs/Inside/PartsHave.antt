@@ -1,15 +1,15 @@
 -- What the patterns, the templates and the host expressions in a form have, each by itself.
-use Rattle.std.specs.Prelude.{ℕ, ◌+◌, ◌<◌, IsTrue, IsSome, List, [], ◌∷◌, Option, Some, None}
+use Rattle.std.specs.Prelude.{◌≡◌, ℕ, true, ◌+◌, ◌<◌, IsTrue, IsSome, List, [], ◌∷◌, Option, Some, None}
 use Rattle.rdx_sexp.specs.Sexp.{Sexp, sexps}
 use Rattle.rdx_sexp.specs.Size.{sexps_depth, AreSpelled}
 use Rattle.rdx_term.specs.Spelling.{is_name}
 use Rattle.rdx_lang.specs.Patterns.{Language}
 use Rattle.rdx_lang.specs.WellFormed.{is_well_formed_in}
-use Rattle.rdx_grammar.specs.Parts.{text_of}
+use Rattle.rdx_grammar.specs.Parts.{text_of, is_symbol}
 use Rattle.rdx_grammar.specs.PatternChecks as patterns
 use Rattle.rdx_grammar.specs.Readable.{IsReadable}
 use Rattle.rdx_defs.specs.Arguments.{Arguments, patterns_in}
-use Rattle.rdx_defs.specs.ExtraForms.{ExtraForm, such_that, provided, confirmed, holding, name, no_extra, ExtraPlace, of_case, of_rule, form_at}
+use Rattle.rdx_defs.specs.ExtraForms.{ExtraForm, such_that, provided, confirmed, holding, freshly, name, no_extra, ExtraPlace, of_rule, form_at}
 use Rattle.rdx_defs.specs.Headed.{Headed, headed}
 use Rattle.rdx_defs.specs.Inside.Branches.{Takes, one, several, each, Branch, RuleBranch, Question, Outline, bound_by_taken, taken_reading}
 use Rattle.rdx_defs.specs.Scope.{Scope}
@@ -21,6 +21,11 @@ use Rattle.rdx_defs.specs.Stands.{premise_arguments}
 abbrev pub AreReadable : List Sexp → Type 0
 AreReadable [] = Unit {0}
 AreReadable (d ∷ ds) = IsReadable d × AreReadable ds
+
+-- and is a symbol
+abbrev pub AreReadableSymbols : List Sexp → Type 0
+AreReadableSymbols [] = Unit {0}
+AreReadableSymbols (d ∷ ds) = ((is_symbol d ≡ true) × IsReadable d) × AreReadableSymbols ds
 
 -- as the items of a list they are
 pub record AreReadableItems (ds : List Sexp) : Type 0 where
@@ -46,10 +51,11 @@ abbrev pub AloneHave : (Takes → Type 0) → List Sexp → Type 0
 AloneHave P [] = Unit {0}
 AloneHave P (p ∷ ps) = P (one p) × AloneHave P ps
 
--- what is wanted: of what is taken, and of a premise
+-- what is wanted: of what is taken, of a premise, and of names to be made
 pub record Wanted : Type 1 where
   pub taken : Takes → Type 0
   pub asked : Headed → Type 0
+  pub made : List Sexp → Type 0
 
 module _ (S : Scope) (W : Wanted) where
   -- the list of the patterns among arguments is as wanted, and all of them are readable
@@ -62,12 +68,13 @@ module _ (S : Scope) (W : Wanted) where
   PremiseHas None = Unit {0}
   PremiseHas (Some q) = W.asked q × ArgumentsHave (premise_arguments S q)
 
-  -- the pattern of an extra is, and its template is readable
+  -- the pattern of an extra is, its template is readable, and names to be made are as wanted
   abbrev pub ExtraHas : ExtraForm → Type 0
   ExtraHas (such_that p t) = W.taken (one p) × IsReadable t
   ExtraHas (provided h) = IsReadable h
   ExtraHas (confirmed t) = IsReadable t
   ExtraHas (holding d) = PremiseHas (headed d)
+  ExtraHas (freshly ds) = W.made ds
   ExtraHas name = Unit {0}
   ExtraHas no_extra = Unit {0}
 
@@ -80,7 +87,7 @@ module _ (S : Scope) (W : Wanted) where
   pub record BranchHas (b : Branch) : Type 0 where
     pub takes : W.taken b.takes
     pub result : IsReadable b.result
-    pub extras : ExtrasHave of_case b.extras
+    pub extras : ExtrasHave b.place b.extras
 
   -- with each of these
   abbrev pub BranchesHave : List Branch → Type 0
@@ -121,6 +128,11 @@ abbrev pub BindNames : List patterns.Bound → Type 0
 BindNames [] = Unit {0}
 BindNames (b ∷ bs) = ((b.depth < 4294967296) × IsTrue (is_name (text_of b.symbol))) × BindNames bs
 
+-- these symbols are names
+abbrev pub AreNames : List Sexp → Type 0
+AreNames [] = Unit {0}
+AreNames (d ∷ ds) = IsTrue (is_name (text_of d)) × AreNames ds
+
 -- what is taken is readable, and what it binds are names
 pub record CanBind (ns : List (List ℕ)) (w : Takes) : Type 0 where
   pub readable : IsReadableTaken w
@@ -135,12 +147,12 @@ pub record IsPattern (L : Language) (ns : List (List ℕ)) (w : Takes) : Type 0 
 
 -- that it is readable
 abbrev pub readable : Wanted
-readable = record { taken = IsReadableTaken; asked = λ q. Unit {0} }
+readable = record { taken = IsReadableTaken; asked = λ q. Unit {0}; made = AreReadableSymbols }
 
 -- that what it binds are names
 abbrev pub can_bind : List (List ℕ) → Wanted
-can_bind ns = record { taken = CanBind ns; asked = λ q. Unit {0} }
+can_bind ns = record { taken = CanBind ns; asked = λ q. Unit {0}; made = AreNames }
 
 -- that it is read in the language: its patterns are well formed there, and its premises fit the modes of judgements
 abbrev pub can_read : Scope → Language → List (List ℕ) → Wanted
-can_read S L ns = record { taken = IsPattern L ns; asked = λ q. IsSome (premise_arguments S q).flags }
+can_read S L ns = record { taken = IsPattern L ns; asked = λ q. IsSome (premise_arguments S q).flags; made = AreNames }

@@ -6,6 +6,7 @@ ghost use Rattle.rdx_defs.specs.MetafunctionForms as model;
 ghost use Rattle.rdx_defs.specs.MetafunctionReading.{text_in};
 
 use crate::branches::{Branch, Takes};
+use crate::extras::ExtraPlace;
 use crate::relations::forms::may_name;
 use rdx_grammar::shape::{is_symbol, is_word, items, text};
 use rdx_sexp::Datum;
@@ -63,6 +64,7 @@ pub(crate) fn clause_branch<'a>(clause: ClauseForm<'a>) -> Branch<'a>
 {
     Branch {
         takes: Takes::Several(clause.arguments),
+        place: ExtraPlace::OfClause,
         extras: clause.extras,
         result: clause.result,
     }

@@ -5,6 +5,7 @@ ghost use Rattle.rdx_defs.specs.Inside.FormViews.{branch_of, case_form_of, relat
 ghost use Rattle.rdx_defs.specs.RelationForms as model;
 
 use crate::branches::{Branch, Takes};
+use crate::extras::ExtraPlace;
 use rdx_grammar::shape::{is_symbol, is_word, items};
 use rdx_sexp::{Datum, Form};
 
@@ -50,6 +51,7 @@ pub(crate) fn case_branch<'a>(case: CaseForm<'a>) -> Branch<'a>
 {
     Branch {
         takes: Takes::One(case.pattern),
+        place: ExtraPlace::OfCase,
         extras: case.extras,
         result: case.result,
     }

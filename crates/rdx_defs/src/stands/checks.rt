@@ -1,17 +1,23 @@
 // The checks of a form for which it need not be known what is bound, one by one.
-ghost use Rattle.std.specs.Prelude.{◌≡◌, [], IfOk, option_map};
+ghost use Rattle.std.specs.Prelude.{◌≡◌, ◌++◌, [], IfOk, option_map};
+ghost use Rattle.rdx_grammar.specs.Inside.Repeats.{texts_in, HaveSame};
+ghost use Rattle.rdx_grammar.specs.OccurrenceView.{occurrences_of};
 ghost use Rattle.rdx_grammar.specs.Refusal.{first};
 ghost use Rattle.rdx_defs.specs.Inside.FormViews.{misfit_of, stand_of, stands_of};
+ghost use Rattle.rdx_defs.specs.Inside.NamesAgain as inside;
 ghost use Rattle.rdx_defs.specs.Scope.{scope_of};
 ghost use Rattle.rdx_defs.specs.StandChecks as model;
+ghost use Rattle.rdx_defs.specs.Stands.{bound_among};
 
 use crate::Scope;
 use crate::arguments::mode_of;
 use crate::stands::collecting::Stand;
 use crate::templates::shapes::{shape_in_host, shape_in_template};
-use rdx_grammar::checks::{first_bad_binder, first_keyword, when};
+use rdx_grammar::checks::{bound_by, first_bad_binder, first_keyword, when};
 use rdx_grammar::names::{begins_with_dots, is_bad_name};
+use rdx_grammar::occurrences::Occurrence;
 use rdx_grammar::shape::{is_word, text};
+use rdx_grammar::{Names, Position};
 use rdx_sexp::{Datum, Form};
 use rdx_term::NoMemory;
 use std::alloc::Global;
@@ -26,7 +32,8 @@ fn shape_fault<'a>(s: &Stand<'a>) -> Option<&'a Datum>
         | Stand::Judgement(_)
         | Stand::Asked(_)
         | Stand::Arrow(_)
-        | Stand::Misfit(_, _) => None,
+        | Stand::Misfit(_, _)
+        | Stand::Fresh(_) => None,
         Stand::Pattern(found) | Stand::Plain(found) => first_keyword(found),
         Stand::Template(t) => shape_in_template(t),
         Stand::Condition(h) => shape_in_host(h),
@@ -57,20 +64,86 @@ pub(crate) fn label(d: &Datum) -> &str
     }
 }
 
-/// The first name of a case or a rule that an earlier one has.
+// Adds the texts of the names that these bind, over these nonterminals.
+fn add_texts<'a>(
+    names: &Names,
+    found: &[Occurrence<'a>],
+    bound: &mut BTreeSet<&'a str>,
+) -> Result<(), NoMemory>
+    ensures { IfOk result (λ _.
+        HaveSame (texts_in bound.new)
+        (texts_in bound.old
+        ++ inside.texts_bound (bound_among names.now (occurrences_of found.now)))) }
+{
+    for o in found {
+        if let Some((_, d)) = bound_by(names, Position::Query, o) {
+            bound.insert(text(d))?;
+        }
+    }
+    Ok(())
+}
+
+// The name of a case or a rule, where it is one of those before it, or the name that is made, where
+// it is bound in its case. From now on it comes before, and what binds names here has bound them.
+fn name_again<'a>(
+    names: &Names,
+    s: &Stand<'a>,
+    seen: &mut BTreeSet<&'a str>,
+    bound: &mut BTreeSet<&'a str>,
+) -> Result<Option<&'a Datum>, NoMemory>
+    ensures again { IfOk result (λ r.
+        option_map (λ d. d.now) r
+        ≡ first (inside.name_again (texts_in seen.old) (texts_in bound.old) (stand_of s.now))) }
+    ensures seen { IfOk result (λ _.
+        HaveSame (texts_in seen.new) (model.names_with (texts_in seen.old) (stand_of s.now))) }
+    ensures bound { IfOk result (λ _.
+        HaveSame (texts_in bound.new)
+        (inside.bound_with names.now (texts_in bound.old) (stand_of s.now))) }
+{
+    match s {
+        Stand::Arrow(_) => {
+            bound.clear();
+            Ok(None)
+        }
+        Stand::Pattern(found) => {
+            add_texts(names, found, bound)?;
+            Ok(None)
+        }
+        Stand::Fresh(d) => {
+            let is_new = bound.insert(text(d))?;
+            Ok(when(!is_new, d))
+        }
+        Stand::Named(_, d) => {
+            let is_new = seen.insert(label(d))?;
+            Ok(when(!is_new, d))
+        }
+        Stand::Misshaped(_)
+        | Stand::Function(_)
+        | Stand::Judgement(_)
+        | Stand::Asked(_)
+        | Stand::Template(_)
+        | Stand::Condition(_)
+        | Stand::Plain(_)
+        | Stand::Misfit(_, _) => Ok(None),
+    }
+}
+
+/// The first name of a case or a rule that an earlier one has, or name that is made and is bound
+/// before.
 pub(crate) fn first_repeated<'a>(
     alloc: Global,
+    names: &Names,
     found: &[Stand<'a>],
 ) -> Result<Option<&'a Datum>, NoMemory>
     ensures { IfOk result (λ r.
-        option_map (λ d. d.now) r ≡ first (model.repeated_names [] (stands_of found.now))) }
+        option_map (λ d. d.now) r
+        ≡ first (inside.names_again names.now [] [] (stands_of found.now))) }
 {
     let mut seen = BTreeSet::new(alloc);
+    let mut bound = BTreeSet::new(alloc);
     for s in found {
-        if let Stand::Named(_, d) = s {
-            if !seen.insert(label(d))? {
-                return Ok(Some(*d));
-            }
+        if let Some(d) = name_again(names, s, &mut seen, &mut bound)? {
+            return Ok(Some(d));
         }
     }
     Ok(None)
@@ -88,7 +161,7 @@ fn bad_name<'a>(s: &Stand<'a>) -> Option<&'a Datum>
 {
     match s {
         Stand::Function(d) => when(is_bad_function(text(d)), d),
-        Stand::Judgement(d) => when(is_bad_name(text(d)), d),
+        Stand::Judgement(d) | Stand::Fresh(d) => when(is_bad_name(text(d)), d),
         Stand::Pattern(found) => first_bad_binder(found),
         Stand::Misshaped(_)
         | Stand::Asked(_)
@@ -128,6 +201,7 @@ fn unknown_name<'a>(scope: &Scope, s: &Stand<'a>) -> Option<&'a Datum>
         | Stand::Condition(_)
         | Stand::Plain(_)
         | Stand::Misfit(_, _)
+        | Stand::Fresh(_)
         | Stand::Named(_, _) => None,
     }
 }

@@ -43,6 +43,8 @@ pub(crate) enum Stand<'a> {
     Plain(Vec<Occurrence<'a>>),
     /// What does not fit a mode, or lacks one, and the name of the judgement, where there is one.
     Misfit(&'a Datum, Option<&'a Datum>),
+    /// A name that is made.
+    Fresh(&'a Datum),
     /// The name of a case or a rule, and whether none may come here.
     Named(bool, &'a Datum),
 }
@@ -183,6 +185,17 @@ pub(crate) fn add_held<'a>(
     add_arguments(alloc, premise_arguments(scope, premise), out)
 }
 
+// Adds names that are made.
+fn add_fresh<'a>(made: &'a [Datum], out: &mut Vec<Stand<'a>>) -> Result<(), NoMemory>
+    ensures { IfOk result (λ _.
+        stands_of out.new.items ≡ stands_of out.old.items ++ bare.fresh_stands made.now) }
+{
+    for d in made {
+        out.push(Stand::Fresh(d))?;
+    }
+    Ok(())
+}
+
 // Adds what stands in an extra; no name may come here, or one may.
 fn add_extra<'a>(
     alloc: Global,
@@ -206,6 +219,7 @@ fn add_extra<'a>(
         ExtraForm::Provided(host) => Ok(out.push(Stand::Condition(host))?),
         ExtraForm::Confirmed(template) => Ok(out.push(Stand::Template(template))?),
         ExtraForm::Holding(premise) => add_held(alloc, scope, premise, out),
+        ExtraForm::Freshly(made) => add_fresh(made, out),
         ExtraForm::Name => Ok(out.push(Stand::Named(again, d))?),
         ExtraForm::NoExtra => Ok(out.push(Stand::Misshaped(d))?),
     }
@@ -221,6 +235,7 @@ fn is_named(again: bool, extra: ExtraForm<'_>) -> bool
         | ExtraForm::Provided(_)
         | ExtraForm::Confirmed(_)
         | ExtraForm::Holding(_)
+        | ExtraForm::Freshly(_)
         | ExtraForm::NoExtra => again,
     }
 }
@@ -264,5 +279,5 @@ pub(crate) fn add_branch<'a>(
 {
     add_taken(alloc, branch.takes, out)?;
     out.push(Stand::Template(branch.result))?;
-    add_extras(alloc, scope, ExtraPlace::OfCase, again, branch.extras, out)
+    add_extras(alloc, scope, branch.place, again, branch.extras, out)
 }

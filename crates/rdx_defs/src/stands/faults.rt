@@ -234,7 +234,7 @@ fn fault_in_extra<'a>(
         ExtraForm::Holding(premise) => {
             fault_in_premise(alloc, check, scope, names, bound, premise)
         }
-        ExtraForm::Name | ExtraForm::NoExtra => Ok(None),
+        ExtraForm::Freshly(_) | ExtraForm::Name | ExtraForm::NoExtra => Ok(None),
     }
 }
 
@@ -291,7 +291,7 @@ fn fault_in_branch<'a>(
         check,
         scope,
         names,
-        ExtraPlace::OfCase,
+        branch.place,
         bound,
         branch.extras,
     )

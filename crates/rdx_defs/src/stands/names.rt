@@ -8,7 +8,7 @@ ghost use Rattle.rdx_defs.specs.Headed as headed;
 ghost use Rattle.rdx_defs.specs.Inside.ByNames as by_names;
 ghost use Rattle.rdx_defs.specs.Inside.Branches.{one, each};
 ghost use Rattle.rdx_defs.specs.Inside.FormViews.{arguments_of, branch_of, extra_form_of, place_of, rule_branch_of, takes_of};
-ghost use Rattle.rdx_defs.specs.Inside.PartsHave.{BindNames, CanBind, can_bind, BranchHas, ExtraHas, ExtrasHave, PremiseHas, RuleHas};
+ghost use Rattle.rdx_defs.specs.Inside.PartsHave.{AreNames, BindNames, CanBind, can_bind, BranchHas, ExtraHas, ExtrasHave, PremiseHas, RuleHas};
 ghost use Rattle.rdx_defs.specs.Scope.{scope_of};
 ghost use Rattle.rdx_defs.specs.Stands.{bound_among, names_bound};
 
@@ -132,6 +132,18 @@ fn add_premise_names(
     }
 }
 
+// Adds names that are made.
+fn add_fresh_names(made: &[Datum], out: &mut Vec<(Name, u32)>) -> Result<(), NoMemory>
+    requires { AreNames made.now }
+    ensures { IfOk result (λ _.
+        out.new.items ≡ out.old.items ++ by_names.fresh_names made.now) }
+{
+    for d in made {
+        out.push(bound_name(0, d)?)?;
+    }
+    Ok(())
+}
+
 /// Adds the names that an extra binds.
 pub(crate) fn add_extra_names(
     alloc: Global,
@@ -151,8 +163,10 @@ pub(crate) fn add_extra_names(
             add_taken_names(alloc, names, Takes::One(pattern), out)
         }
         ExtraForm::Holding(premise) => add_premise_names(alloc, scope, names, premise, out),
-        ExtraForm::Provided(_) | ExtraForm::Confirmed(_) | ExtraForm::Name | ExtraForm::NoExtra =>
-            Ok(()),
+        ExtraForm::Freshly(made) => add_fresh_names(made, out),
+        ExtraForm::Provided(_) | ExtraForm::Confirmed(_) | ExtraForm::Name | ExtraForm::NoExtra => {
+            Ok(())
+        }
     }
 }
 
@@ -205,7 +219,7 @@ pub(crate) fn branch_names(
         ≡ by_names.branch_names (scope_of scope.now) names.now (branch_of branch.entry)) }
 {
     let mut bound = taken_names(alloc, names, branch.takes)?;
-    let place = ExtraPlace::OfCase;
+    let place = branch.place;
     add_extras_names(alloc, scope, names, place, branch.extras, &mut bound)?;
     Ok(bound)
 }

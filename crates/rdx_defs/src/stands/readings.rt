@@ -8,12 +8,12 @@ ghost use Rattle.rdx_lang.specs.WellFormed.{is_well_formed_in};
 ghost use Rattle.rdx_grammar.specs.Reading.{reading};
 ghost use Rattle.rdx_grammar.specs.declared.patterns.position.Position.TheVariants as positions;
 ghost use Rattle.rdx_defs.specs.Arguments.{data_at, patterns_in, templates_in};
-ghost use Rattle.rdx_defs.specs.ExtraForms.{of_case};
 ghost use Rattle.rdx_defs.specs.Headed as headed;
 ghost use Rattle.rdx_defs.specs.Inside.Branches.{each, bound_by_branch, bound_by_taken, taken_reading};
 ghost use Rattle.rdx_defs.specs.Inside.ByNames as by_names;
+ghost use Rattle.rdx_defs.specs.Inside.ByNames.{fresh_reading};
 ghost use Rattle.rdx_defs.specs.Inside.FormViews.{arguments_of, branch_of, extra_form_of, headed_of, place_of, takes_of};
-ghost use Rattle.rdx_defs.specs.Inside.PartsHave.{ArgumentsHave, BranchHas, ExtraHas, ExtrasHave, IsPattern, PremiseHas, can_read};
+ghost use Rattle.rdx_defs.specs.Inside.PartsHave.{AreNames, ArgumentsHave, BranchHas, ExtraHas, ExtrasHave, IsPattern, PremiseHas, can_read};
 ghost use Rattle.rdx_defs.specs.Scope.{mode_of, scope_of};
 ghost use Rattle.rdx_defs.specs.ExtraReading.{extras_reading, held_reading, items_reading, list_reading, premise_reading, templates_reading};
 ghost use Rattle.rdx_defs.specs.Stands as stands;
@@ -27,7 +27,7 @@ use crate::extras::{ExtraForm, ExtraPlace, form_at};
 use crate::stands::names::{add_extra_names, branch_names, taken_names};
 use crate::templates::readings as templates;
 use rdx_grammar::shape::text;
-use rdx_grammar::{Names, Position, readings};
+use rdx_grammar::{Names, Position, readings, symbol_name};
 use rdx_lang::{CheckedLang, CheckedPat, Extra, HostExpr, Item, Pat, Premise, Template};
 use rdx_sexp::Datum;
 use rdx_term::{Name, NoMemory};
@@ -85,7 +85,8 @@ fn add_item(
     ensures { IfOk result (λ _.
         map slot_of out.new.items
         ≡ map slot_of out.old.items
-        ++ map (λ d. just (reading names.now positions.Query d)) (data_at (is_pattern ∷ []) (d.now ∷ []))) }
+        ++ map (λ d. just (reading names.now positions.Query d))
+        (data_at (is_pattern ∷ []) (d.now ∷ []))) }
 {
     if is_pattern {
         let pattern = readings::read_datum(alloc, names, Position::Query, d)?;
@@ -221,6 +222,18 @@ fn add_premise(
     }
 }
 
+// Adds names that are made.
+fn add_fresh(made: &[Datum], out: &mut Vec<Extra>) -> Result<(), NoMemory>
+    requires { AreNames made.now }
+    ensures { IfOk result (λ _.
+        extras_of out.new.items ≡ extras_of out.old.items ++ fresh_reading made.now) }
+{
+    for d in made {
+        out.push(Extra::Fresh(symbol_name(d)?))?;
+    }
+    Ok(())
+}
+
 // Adds what an extra asks, behind which these names are bound.
 fn add_extra(
     alloc: Global,
@@ -231,7 +244,8 @@ fn add_extra(
     extra: ExtraForm<'_>,
     out: &mut Vec<Extra>,
 ) -> Result<(), NoMemory>
-    requires { ExtraHas (scope_of scope.now) (can_read (scope_of scope.now) (language_in language.now) names.now)
+    requires { ExtraHas (scope_of scope.now)
+        (can_read (scope_of scope.now) (language_in language.now) names.now)
         (extra_form_of extra) }
     ensures { IfOk result (λ _.
         extras_of out.new.items
@@ -256,6 +270,7 @@ fn add_extra(
         ExtraForm::Holding(premise) => {
             add_premise(alloc, scope, language, names, bound, premise, out)
         }
+        ExtraForm::Freshly(made) => add_fresh(made, out),
         ExtraForm::Name | ExtraForm::NoExtra => Ok(()),
     }
 }
@@ -270,7 +285,8 @@ pub(crate) fn read_extras(
     mut bound: Vec<(Name, u32)>,
     extras: &[Datum],
 ) -> Result<Vec<Extra>, NoMemory>
-    requires { ExtrasHave (scope_of scope.now) (can_read (scope_of scope.now) (language_in language.now) names.now)
+    requires { ExtrasHave (scope_of scope.now)
+        (can_read (scope_of scope.now) (language_in language.now) names.now)
         (place_of place) extras.now }
     ensures { IfOk result (λ read.
         extras_of read.items
@@ -302,13 +318,14 @@ pub(crate) fn read_branch(
     names: &Names,
     branch: Branch<'_>,
 ) -> Result<ReadBranch, NoMemory>
-    requires { BranchHas (scope_of scope.now) (can_read (scope_of scope.now) (language_in language.now) names.now)
+    requires { BranchHas (scope_of scope.now)
+        (can_read (scope_of scope.now) (language_in language.now) names.now)
         (branch_of branch) }
     ensures pattern { IfOk result (λ read.
         pattern_in read.pattern ≡ taken_reading names.now (branch_of branch.entry).takes) }
     ensures extras { IfOk result (λ read.
         extras_of read.extras.items
-        ≡ extras_reading of_case (scope_of scope.now) names.now
+        ≡ extras_reading (branch_of branch.entry).place (scope_of scope.now) names.now
         (bound_by_taken names.now (branch_of branch.entry).takes) branch.entry.extras.now) }
     ensures result { IfOk result (λ read.
         template_of read.result
@@ -318,7 +335,7 @@ pub(crate) fn read_branch(
 {
     let pattern = read_takes(alloc, language, names, branch.takes)?;
     let bound = taken_names(alloc, names, branch.takes)?;
-    let place = ExtraPlace::OfCase;
+    let place = branch.place;
     let extras = read_extras(alloc, scope, language, names, place, bound, branch.extras)?;
     let all = branch_names(alloc, scope, names, branch)?;
     let result = templates::read_datum(alloc, scope, &all, branch.result)?;

@@ -36,7 +36,8 @@ fn is_like_symbol(alloc: Global, text: &str) -> Result<bool, NoMemory>
     Ok(name.is_some())
 }
 
-// The refusal of a second case or rule with one name, which is printed as a symbol or a string.
+// The refusal of a second case or rule with one name, or of a name to be made, which is printed as
+// a symbol or a string.
 fn repeated_at(alloc: Global, d: &Datum) -> Result<DefRefusal, NoMemory>
     ensures { IfOk result (λ r. refusal_of r ≡ model.repeated_at d.now) }
 {
@@ -53,14 +54,18 @@ fn repeated_at(alloc: Global, d: &Datum) -> Result<DefRefusal, NoMemory>
 }
 
 // The refusal by the checks of shape and of names, if one refuses what stands in a form.
-fn refuse_early(alloc: Global, found: &[Stand]) -> Result<Option<DefRefusal>, NoMemory>
+fn refuse_early(
+    alloc: Global,
+    names: &Names,
+    found: &[Stand],
+) -> Result<Option<DefRefusal>, NoMemory>
     ensures { IfOk result (λ r.
-        option_map refusal_of r ≡ inside.early_refusal (stands_of found.now)) }
+        option_map refusal_of r ≡ inside.early_refusal names.now (stands_of found.now)) }
 {
     if let Some(d) = first_shape_fault(found) {
         return Ok(Some(unnamed(DefKind::Shape, d)));
     }
-    if let Some(d) = first_repeated(alloc, found)? {
+    if let Some(d) = first_repeated(alloc, names, found)? {
         return Ok(Some(repeated_at(alloc, d)?));
     }
     if let Some(d) = first_bad_name(found) {
@@ -132,14 +137,14 @@ pub(crate) fn refuse_parts(
     found: &[Stand],
     outline: &Outline,
 ) -> Result<Option<DefRefusal>, NoMemory>
-    requires { inside.early_refusal (stands_of found.now) ≡ None
+    requires { inside.early_refusal names.now (stands_of found.now) ≡ None
         → OutlineHas (scope_of scope.now) (can_bind names.now) (outline_of outline.now) }
     ensures { IfOk result (λ r.
         option_map refusal_of r
         ≡ inside.form_refusal (scope_of scope.now) names.now (stands_of found.now)
         (outline_of outline.now)) }
 {
-    if let Some(refusal) = refuse_early(alloc, found)? {
+    if let Some(refusal) = refuse_early(alloc, names, found)? {
         return Ok(Some(refusal));
     }
     refuse_late(alloc, scope, names, found, outline)

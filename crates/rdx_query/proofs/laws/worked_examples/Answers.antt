@@ -1,4 +1,5 @@
-use Rattle.rdx_query.proofs.Examples.{answers_in_order, whole_answer, inherited, one_split, filled_term, fault_answered, one_reduct_two_steps, premise_met, outputs_listed, own_hole, one_hole, no_own_hole, nested_sequences, own_hole_in_sequence, length_in_decimal, first_refused_form, earlier_languages_only, taken_name, host_expression, other_form, sum, wanted, other_module, known_before, few_items, left_recursion}
+use Rattle.rdx_query.proofs.Examples.{answers_in_order, whole_answer, inherited, one_split, filled_term, fault_answered, one_reduct_two_steps, premise_met, outputs_listed, first_refused_form, earlier_languages_only, taken_name, host_expression, other_form, sum, wanted, other_module, known_before, few_items, left_recursion}
+use Rattle.rdx_query.proofs.PrintedExamples.{own_hole, one_hole, no_own_hole, nested_sequences, own_hole_in_sequence, length_in_decimal}
 use Rattle.rdx_query.proofs.laws.worked_examples.Goals as goal
 
 pub returns-clause-answers_in_order : goal.returns-clause-answers_in_order

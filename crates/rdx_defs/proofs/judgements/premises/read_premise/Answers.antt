@@ -58,7 +58,7 @@ read_behind-requires c =
     (λ i. premise_refusal S (sym n i) d t) ∙ sym c.in_ok-refusal.ensures ∙ ap (option_map refusal_of) c.in_default.is in
     let v = question-valid S L d t c.requires.premise (readable-behind c.args.behind c.requires.behind) e in
     subst (λ (xs : List (List ℕ)). PremiseHas S (can_bind xs) (headed d)) (sym n)
-    (premise-weaker S (can_read S L (names_of L)) (can_bind (names_of L)) (λ w h. h.binds) (λ q h. tt) (headed d) v.parts.questions.0.premise)
+    (premise-weaker S (can_read S L (names_of L)) (can_bind (names_of L)) (λ w h. h.binds) (λ q h. tt) (λ ds h. h) (headed d) v.parts.questions.0.premise)
 
 pub returns-clause-reads : goal.returns-clause-reads
 returns-clause-reads c =

@@ -42,7 +42,7 @@ rule_names-requires c =
     let ns = c.args.names.now in
     let b = rule_branch (option_map (λ m. m.now) c.args.mode) (rule_form_of c.args.rule) in
     subst (λ (x : RuleBranch). RuleHas S (can_bind ns) x) (sym c.rule_branch-branch.ensures)
-    (rule-weaker S (can_read S L ns) (can_bind ns) (λ w h. h.binds) (λ q h. tt) b c.requires)
+    (rule-weaker S (can_read S L ns) (can_bind ns) (λ w h. h.binds) (λ q h. tt) (λ ds h. h) b c.requires)
 
 pub returns : goal.returns
 returns c =

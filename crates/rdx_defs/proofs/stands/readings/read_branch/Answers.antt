@@ -1,7 +1,6 @@
 use Rattle.std.proofs.Common.{◌≡◌, ◌∙◌, sym, ap}
 use Rattle.rdx_lang.specs.Checked.{language_in}
 use Rattle.rdx_defs.specs.Bound.{Bound}
-use Rattle.rdx_defs.specs.ExtraForms.{of_case}
 use Rattle.rdx_defs.specs.Inside.Branches.{bound_by_taken, bound_by_branch}
 use Rattle.rdx_defs.specs.Inside.ByNames.{extras_reading}
 use Rattle.rdx_defs.specs.Inside.FormViews.{branch_of}
@@ -17,15 +16,15 @@ pub branch_names-requires : goal.branch_names-requires
 branch_names-requires c =
     let ns = c.args.names.now in
     let S = scope_of c.args.scope.now in
-    branch-weaker S (can_read S (language_in c.args.language.now) ns) (can_bind ns) (λ w h. h.binds) (λ q h. tt) (branch_of c.args.branch) c.requires
+    branch-weaker S (can_read S (language_in c.args.language.now) ns) (can_bind ns) (λ w h. h.binds) (λ q h. tt) (λ ds h. h) (branch_of c.args.branch) c.requires
 
 pub returns-clause-extras : goal.returns-clause-extras
 returns-clause-extras c =
     let ns = c.args.names.now in
     let S = scope_of c.args.scope.now in
     let b = branch_of c.args.branch in
-    c.in_ok-extras.ensures ∙ ap (λ (es : Bound). extras_reading of_case S ns es b.extras) c.in_ok-bound.ensures
-    ∙ sym (extras-reads S ns of_case (bound_by_taken ns b.takes) b.extras)
+    c.in_ok-extras.ensures ∙ ap (λ (es : Bound). extras_reading b.place S ns es b.extras) c.in_ok-bound.ensures
+    ∙ sym (extras-reads S ns b.place (bound_by_taken ns b.takes) b.extras)
 
 pub returns-clause-result : goal.returns-clause-result
 returns-clause-result c =

@@ -20,4 +20,4 @@ add_extra_names-requires c =
     let ns = c.args.names.now in
     let W = can_read S (language_in c.args.language.now) ns in
     let h = extras-at S W (place_of c.args.place) c.args.extras.now c.loop-d.d-index c.d-item.result c.loop-d-test.true c.d-item.is c.requires in
-    subst (λ (e : ExtraForm). ExtraHas S (can_bind ns) e) (sym c.form_at-extra.ensures) (extra-weaker S W (can_bind ns) (λ w h. h.binds) (λ q h. tt) _ h)
+    subst (λ (e : ExtraForm). ExtraHas S (can_bind ns) e) (sym c.form_at-extra.ensures) (extra-weaker S W (can_bind ns) (λ w h. h.binds) (λ q h. tt) (λ ds h. h) _ h)
