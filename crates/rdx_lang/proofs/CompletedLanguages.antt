@@ -59,7 +59,7 @@ patterns_get_theirs L ys p h = well_formed-more (known_with L ys) (defined (with
 -- ---- those that some ways are
 
 -- they are there once what the ways need was added
-ways-there : (L : Language) (ws : List Way) (x : Ref) → is_among x (map cross_of ws) ≡ true → is_among x (defined (with_ways L ws)) ≡ true
+pub ways-there : (L : Language) (ws : List Way) (x : Ref) → is_among x (map cross_of ws) ≡ true → is_among x (defined (with_ways L ws)) ≡ true
 ways-there L [] x h = absurd cc
 ways-there L (w ∷ ws) x h = elim (or_cases (is_same x (cross_of w)) (is_among x (map cross_of ws)) h) [
   | inl e ↦
@@ -70,7 +70,7 @@ ways-there L (w ∷ ws) x h = elim (or_cases (is_same x (cross_of w)) (is_among 
 ]
 
 -- they are cross nonterminals
-no-plain : (z : List ℕ) (ws : List Way) → is_among (Nt z) (map cross_of ws) ≡ false
+pub no-plain : (z : List ℕ) (ws : List Way) → is_among (Nt z) (map cross_of ws) ≡ false
 no-plain z [] = refl
 no-plain z (w ∷ ws) = no-plain z ws
 
@@ -83,7 +83,7 @@ record IsWellBut (lacks : List Ref) (L : Language) : Type 0 where
 
 module _ (lacks : List Ref) (only : (z : List ℕ) → is_among (Nt z) lacks ≡ false) where
   -- what is known stays so with more definitions
-  more-but : (L : Language) (es : List Definition) (x : Ref) → is_among x (defined L ++ lacks) ≡ true
+  pub more-but : (L : Language) (es : List Definition) (x : Ref) → is_among x (defined L ++ lacks) ≡ true
       → is_among x (defined (with_definitions L es) ++ lacks) ≡ true
   more-but L es x h = elim (among-cases x (defined L) lacks h) [
     | inl e ↦ among-first x (defined (with_definitions L es)) lacks (defined-more L.nonterminals es x e)
@@ -91,7 +91,7 @@ module _ (lacks : List Ref) (only : (z : List ℕ) → is_among (Nt z) lacks ≡
   ]
 
   -- a known nonterminal that is no cross nonterminal is one of the language
-  plain-but : (L : Language) (z : List ℕ) → is_among (Nt z) (defined L ++ lacks) ≡ true → is_among (Nt z) (defined L) ≡ true
+  pub plain-but : (L : Language) (z : List ℕ) → is_among (Nt z) (defined L ++ lacks) ≡ true → is_among (Nt z) (defined L) ≡ true
   plain-but L z h = elim (among-cases (Nt z) (defined L) lacks h) [
     | inl e ↦ e
     | inr e ↦ absurd (both_ways (is_among (Nt z) lacks) (only z) e)

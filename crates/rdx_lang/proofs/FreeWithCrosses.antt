@@ -2,24 +2,25 @@
 use Rattle.std.proofs.Common.{◌≡◌, ℕ, ◌⊎◌, inl, inr, true, false, List, [], ◌∷◌, ap, sym, ◌∙◌, subst}
 use Rattle.std.proofs.lemmas.Bool.{both_ways}
 use Rattle.rdx_lang.specs.CrossLaws.{CrossesFree}
-use Rattle.rdx_lang.specs.Crosses.{unnamed, crossed, cross_alternatives, new_crosses, with_crosses}
+use Rattle.rdx_lang.specs.Crosses.{unnamed, crossed, cross_alternatives, new_crosses, with_crosses, with_crosses_to}
 use Rattle.rdx_lang.specs.Edges.{Edge, edge_nt, edge_named, edge_hide_hole, edge_closed, edge_left, edge_right, Reaches, at_once, further, IsFree}
 use Rattle.rdx_lang.specs.Empty.{IsEmpty, empty_hole, empty_nt, empty_named, empty_closed, empty_in_hole}
 use Rattle.rdx_lang.specs.Members.{In}
 use Rattle.rdx_lang.specs.Patterns.{Pattern, hole, nt, Language}
 use Rattle.rdx_lang.specs.References.{is_among}
 use Rattle.rdx_lang.specs.Rules.{IsAlternative}
-use Rattle.rdx_lang.specs.WellFormed.{has_known_nonterminals, is_well_formed_in, defined, IsWellFormed}
+use Rattle.rdx_lang.specs.WellFormed.{has_known_nonterminals, defined}
 use Rattle.rdx_lang.specs.declared.pattern.Ref.{Ref}
 use Rattle.rdx_lang.specs.declared.pattern.Ref.TheVariants.{Nt, Cross}
 use Rattle.rdx_lang.proofs.CrossWays.{recursive-from}
+use Rattle.rdx_lang.proofs.KnownCrosses.{KnowsAll, well_formed-knows, crosses-known}
 use Rattle.rdx_lang.proofs.KnownNonterminals.{known-parts}
 use Rattle.rdx_lang.proofs.LeftEdges.{edge-nt, edge-hole, first-edge}
 use Rattle.rdx_lang.proofs.LookupLaws.{is_among-defined}
 use Rattle.rdx_lang.proofs.NewCrosses.{of_cross-from, all-new, alternative-cases, alternative-source}
-use Rattle.rdx_lang.proofs.WellFormedCrosses.{alternative-passes, well_formed-known, crosses-well_formed}
+use Rattle.rdx_lang.proofs.WellFormedCrosses.{alternative-passes}
 
-module _ (L : Language) (y : List ℕ) (w : IsWellFormed L) where
+module _ (L : Language) (y : List ℕ) (k : KnowsAll L) where
   -- ---- what was known before
 
   -- the pattern speaks of nonterminals of the language alone
@@ -28,7 +29,7 @@ module _ (L : Language) (y : List ℕ) (w : IsWellFormed L) where
 
   -- each alternative does
   alternative-old : (x : Ref) (p : Pattern) → IsAlternative L x p → Old p
-  alternative-old x p a = well_formed-known (defined L) p (alternative-passes (is_well_formed_in L) L x p w.well_formed a)
+  alternative-old x p a = alternative-passes (has_known_nonterminals (defined L)) L x p k a
 
   -- a nonterminal that was there keeps its alternatives
   old-alternative : (x : Ref) (p : Pattern) → is_among x (defined L) ≡ true → IsAlternative (with_crosses L y) x p → IsAlternative L x p
@@ -100,7 +101,11 @@ module _ (L : Language) (y : List ℕ) (w : IsWellFormed L) where
         (subst (λ z. Reaches (with_crosses L y) (nt z) (nt z)) a.is r))
   ]
 
--- a language that is well formed and free of left recursion stays free with any cross nonterminals
+-- a language that knows what it speaks of and is free of left recursion stays free with any cross nonterminals
+pub known_crosses_free : (L : Language) (ys : List (List ℕ)) → KnowsAll L → IsFree L → IsFree (with_crosses_to L ys)
+known_crosses_free L [] k f = f
+known_crosses_free L (y ∷ ys) k f = known_crosses_free (with_crosses L y) ys (crosses-known L y k) (crosses-free L y k f)
+
+-- so does one that is well formed
 pub crosses_free : CrossesFree
-crosses_free L [] w f = f
-crosses_free L (y ∷ ys) w f = crosses_free (with_crosses L y) ys (crosses-well_formed L y w) (crosses-free L y w f)
+crosses_free L ys w f = known_crosses_free L ys (well_formed-knows L w) f

@@ -37,6 +37,7 @@ pub mod TextSets
 pub mod FirstFree
 pub mod VariantLaws
 pub mod Nameless
+pub mod KnownCrosses
 pub mod KnownNonterminals
 pub mod DefinedNonterminals
 pub mod NewCrosses
