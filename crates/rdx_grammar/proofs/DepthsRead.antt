@@ -11,13 +11,13 @@ use Rattle.rdx_lang.specs.Depths.{Use, length_use, uses, item_uses, closed_parts
 use Rattle.rdx_lang.specs.Patterns.{Pattern, wild, hole, lit, nt, named, in_hole, Items}
 use Rattle.rdx_lang.specs.declared.pattern.Kind.{Kind}
 use Rattle.rdx_lang.specs.declared.pattern.Ref.TheVariants.{Nt}
-use Rattle.rdx_grammar.specs.Heads.{Head, naming, avoiding, prefixing, splitting, hiding, escaping, plain, Role, word, bound, spelt, pattern, ellipsis, unread, Roles, every, patterns, repeatable, roles_of, head_among, is_ellipsis_symbol, next, is_of_ellipsis, is_repeated, fits, is_shaped}
+use Rattle.rdx_grammar.specs.Heads.{Head, naming, avoiding, prefixing, splitting, hiding, crossing, escaping, plain, Role, word, bound, spelt, pattern, ellipsis, unread, Roles, every, patterns, repeatable, roles_of, head_among, is_ellipsis_symbol, next, is_of_ellipsis, is_repeated, fits, is_shaped}
 use Rattle.rdx_grammar.specs.Kinds.{kind_of, is_among, is_base}
 use Rattle.rdx_grammar.specs.Names.{begins_with_dots, has_suffix, front}
 use Rattle.rdx_grammar.specs.Occurrences.{Occurrence, malformed, keys, keys_in, role_occurrences, deeper, head_occurrences, occurrences, occurrences_among}
 use Rattle.rdx_grammar.specs.Parts.{text_of, is_symbol, is_word}
 use Rattle.rdx_grammar.specs.PatternChecks.{Bound, binds_itself, binds, bound_when, bound_by, all_bound}
-use Rattle.rdx_grammar.specs.Reading.{base, base_of, suffixed, other_symbol, by_base, symbol_reading, name_in, length_name, ellipsis_in, ellipsis_behind, role_items, only, bound_to, prefixed, names_among, assembled, reading, items_among}
+use Rattle.rdx_grammar.specs.Reading.{base, base_of, suffixed, other_symbol, by_base, symbol_reading, name_in, length_name, ellipsis_in, ellipsis_behind, role_items, only, bound_to, prefixed, across_itself, names_among, assembled, reading, items_among}
 use Rattle.rdx_grammar.specs.declared.patterns.position.Position.{Position}
 use Rattle.rdx_grammar.specs.declared.patterns.position.Position.TheVariants.{Grammar, Query}
 use Rattle.rdx_grammar.proofs.Booleans.{and_true, and_both, second-false}
@@ -192,7 +192,7 @@ module _ (ns : List (List ℕ)) where
     unread-nothing n nil = refl
     unread-nothing n (cons d ds) = bind-append (keys d) (occurrences_among n (every unread) ds) ∙ (λ i. keys-nothing d i ++ unread-nothing n ds i)
 
-    -- the list itself, where its head would ask Racket, binds nothing and is passed
+    -- the list itself, where its head is `cross` or would ask Racket, binds nothing and is passed
     head-makes : (n : ℕ) (h : Head) (whole : Sexp) (p : Pattern) (os : List Occurrence) → (ArePassed os → Makes n p (bind os))
         → ArePassed (head_occurrences h whole ++ os) → Makes n p (bind (head_occurrences h whole ++ os))
     head-makes n naming whole p os f h = f h
@@ -200,6 +200,7 @@ module _ (ns : List (List ℕ)) where
     head-makes n prefixing whole p os f h = f h
     head-makes n splitting whole p os f h = f h
     head-makes n hiding whole p os f h = f h
+    head-makes n crossing whole p os f h = f h.1
     head-makes n escaping whole p os f h = f h.1
     head-makes n plain whole p os f h = f h
 
@@ -306,6 +307,16 @@ module _ (ns : List (List ℕ)) where
       list-makes n hiding (cons w nil) f p = second-false (is_symbol w) _ f
       list-makes n hiding (cons w (cons d nil)) f p = makes-alone n (reading ns pos d) (occurrences n d) (reading-makes n d (ArePassed-both (occurrences n d) [] p).0)
       list-makes n hiding (cons w (cons d (cons c ds))) f p = second-false (is_symbol w) _ f
+      list-makes n crossing nil f p = absurd cc
+      list-makes n crossing (cons w nil) f p = second-false (is_symbol w) _ f
+      list-makes n crossing (cons w (cons x nil)) f p = by_names (only (name_in x ++ []))
+        where
+          by_names : (o : Option (List ℕ)) → Makes n (across_itself o) []
+          by_names None = (refl, refl)
+          by_names (Some y) = (refl, refl)
+      list-makes n crossing (cons w (cons x (cons d ds))) f p =
+          let b = is_symbol x && not (is_word (codes "hole") x) in
+          second-false b _ (and_true (is_symbol w) (b && false) f).1
       list-makes n escaping nil f p = absurd cc
       list-makes n escaping (cons w ds) f p = (ap (map bound_use) (sym (unread-nothing n ds)), refl)
       list-makes n plain nil f p = (refl, refl)

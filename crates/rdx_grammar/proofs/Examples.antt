@@ -2,14 +2,15 @@
 use Rattle.std.proofs.Common.{◌≡◌, Bool, true, false, List, [], ◌∷◌, refl, sym, subst}
 use Rattle.std.specs.Prelude.{codes}
 use Rattle.std.specs.Str.{chars}
+use Rattle.rdx_lang.specs.Empty.{empty_hole, empty_nt}
 use Rattle.rdx_lang.specs.Edges.{Edge, edge_nt, edge_named, edge_hide_hole, edge_closed, edge_left, edge_right, Reaches, at_once, further, IsFree, IsFirstRecursive}
 use Rattle.rdx_lang.specs.Members.{In, here, there}
-use Rattle.rdx_lang.specs.Patterns.{Pattern, wild, of_kind, nt, Definition, Language}
+use Rattle.rdx_lang.specs.Patterns.{Pattern, wild, of_kind, hole, nt, in_hole, Definition, Language}
 use Rattle.rdx_lang.specs.WellFormed.{all_patterns, all_alternatives}
 use Rattle.rdx_lang.specs.declared.pattern.Kind.TheVariants.{Number}
 use Rattle.rdx_lang.specs.declared.pattern.Ref.{Ref}
-use Rattle.rdx_lang.specs.declared.pattern.Ref.TheVariants.{Nt}
-use Rattle.rdx_grammar.specs.Examples.{word, group, columns, definitions, extended, InheritsInPlace, LeastCheckFirst, conditioned, AsksInside, AsksInLanguage, RecursionFirst}
+use Rattle.rdx_lang.specs.declared.pattern.Ref.TheVariants.{Nt, Cross}
+use Rattle.rdx_grammar.specs.Examples.{word, group, columns, definitions, extended, InheritsInPlace, LeastCheckFirst, conditioned, AsksInside, AsksInLanguage, RecursionFirst, split_across, ReadsAcross, NoSuchEnd, CrossesLoop}
 use Rattle.rdx_grammar.specs.Refused.{by_check, by_recursion, by_escape}
 use Rattle.rdx_grammar.proofs.Booleans.{and_true}
 
@@ -121,3 +122,45 @@ recursion_first =
       definitions = group (columns 20 47) (word (columns 21 22) (codes "e") ∷ word (columns 23 24) (codes "e") ∷ conditioned 25 ∷ []) ∷ [];
     })
     (Nt (codes "e")) refl refl loops refl
+
+-- ---- contexts from a nonterminal to itself
+
+pub reads_across : ReadsAcross
+unfolding chars
+reads_across = refl
+
+pub no_such_end : NoSuchEnd
+no_such_end = refl
+
+-- the alternatives of `(define-language L (e (in-hole (cross e) e)))`, and their language with what it needs
+abbrev e_to_e : Ref
+e_to_e = Cross (codes "e") (codes "e")
+
+abbrev splitting_itself : List Pattern
+splitting_itself = in_hole (nt e_to_e) (nt (Nt (codes "e"))) ∷ []
+
+abbrev crossed_language : Language
+crossed_language = record { name = codes "L"; nonterminals = (Nt (codes "e"), splitting_itself) ∷ (e_to_e, hole ∷ []) ∷ [] }
+
+-- it reaches itself, since the hole is such a context
+loops_across : IsFirstRecursive crossed_language (Nt (codes "e"))
+loops_across = record {
+  before = [];
+  alternatives = splitting_itself;
+  behind = (e_to_e, hole ∷ []) ∷ [];
+  defined = refl;
+  recursive =
+      further (edge_nt (record { all = splitting_itself; defined = here refl; among = here refl }))
+      (at_once (edge_right (empty_nt (record { all = hole ∷ []; defined = there (here refl); among = here refl }) empty_hole)));
+  first = λ d i. elim i [ ];
+}
+
+pub crosses_loop : CrossesLoop
+unfolding chars
+crosses_loop =
+    by_recursion
+    (record {
+      name = word (columns 18 19) (codes "L");
+      definitions = group (columns 20 45) (word (columns 21 22) (codes "e") ∷ split_across 23 (codes "e") ∷ []) ∷ [];
+    })
+    (Nt (codes "e")) refl refl loops_across refl

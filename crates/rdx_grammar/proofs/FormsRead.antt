@@ -14,7 +14,7 @@ use Rattle.rdx_grammar.specs.Inside.BoundView.{BindsNames, BindNames}
 use Rattle.rdx_grammar.specs.Inside.CheckedForms.{AreSpelledIn, AreShallow, AreShallowIn}
 use Rattle.rdx_grammar.specs.Occurrences.{occurrences}
 use Rattle.rdx_grammar.specs.Parts.{listed, is_word}
-use Rattle.rdx_grammar.specs.PatternChecks.{all_bound}
+use Rattle.rdx_grammar.specs.PatternChecks.{bad_occurrences, all_bound}
 use Rattle.rdx_grammar.specs.Reading.{reading}
 use Rattle.rdx_grammar.specs.Stands.{Stand, defined, nonterminal, alternative, inherited, alternative_stand, alternatives_stand, definition_stands, definitions_stand, form_stands}
 use Rattle.rdx_grammar.specs.declared.patterns.position.Position.TheVariants.{Grammar as InGrammar}
@@ -139,7 +139,7 @@ module _ (base : Language) (ns : List (List ℕ)) where
       let m = none_both (all_depth_clashes ns ss) (all_depth_clashes ns rs) (sym (flat_map-append (depth_clash ns) ss rs) ∙ h.1.1) in
       ((k.0, (l.0, m.0)), (k.1, (l.1, m.1)))
 
-module _ (base : Language) (ns : List (List ℕ)) (test : Pattern → Bool) (enough : (d : Sexp) → has_fitting_names (reading ns InGrammar d) ≡ true → test (reading ns InGrammar d) ≡ true) where
+module _ (base : Language) (ns : List (List ℕ)) (test : Pattern → Bool) (enough : (d : Sexp) → bad_occurrences ns (occurrences 0 d) ≡ [] → has_fitting_names (reading ns InGrammar d) ≡ true → test (reading ns InGrammar d) ≡ true) where
   -- one alternative
   alternative-well : (names : List Sexp) (again : Bool) (d : Sexp) → IsSpelledSexp d → sexp_depth d < 4294967296
       → bad_name (alternative_stand names again d) ≡ [] → bad_pattern base ns (alternative_stand names again d) ≡ []
@@ -151,7 +151,7 @@ module _ (base : Language) (ns : List (List ℕ)) (test : Pattern → Bool) (eno
           → depth_clash ns (if b then inherited d names again else alternative (occurrences 0 d)) ≡ [] → b ≡ false
           → test (reading ns InGrammar d) ≡ true
       by_word true i j k w = absurd cc
-      by_word false i j k w = enough d (fitting-reading ns InGrammar d l h i j k)
+      by_word false i j k w = enough d j (fitting-reading ns InGrammar d l h i j k)
 
   -- those of several names
   alternatives-well : (names : List Sexp) (again : Bool) (ds : List Sexp) → AreReadable ds

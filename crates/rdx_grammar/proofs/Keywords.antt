@@ -3,7 +3,7 @@ use Rattle.std.proofs.Common.{◌≡◌, ℕ, ◌++◌, Bool, true, false, List,
 use Rattle.std.specs.Prelude.{not, codes}
 use Rattle.std.proofs.lemmas.Grind.{flat_map-append}
 use Rattle.rdx_sexp.specs.Sexp.{Sexp, Sexps, leaf, list, nil, cons, integer, truth, text, symbol, keyword}
-use Rattle.rdx_grammar.specs.Heads.{Head, naming, avoiding, prefixing, splitting, hiding, escaping, plain, Role, word, bound, spelt, pattern, ellipsis, unread, Roles, roles_of, head_among, next, rest, is_repeated, suits, fits, is_shaped}
+use Rattle.rdx_grammar.specs.Heads.{Head, naming, avoiding, prefixing, splitting, hiding, crossing, escaping, plain, Role, word, bound, spelt, pattern, ellipsis, unread, Roles, roles_of, head_among, next, rest, is_repeated, suits, fits, is_shaped}
 use Rattle.rdx_grammar.specs.Occurrences.{Occurrence, malformed, keys, keys_in, role_occurrences, deeper, head_occurrences, occurrences, occurrences_among}
 use Rattle.rdx_grammar.specs.Parts.{is_symbol, is_word}
 use Rattle.rdx_grammar.specs.PatternChecks.{keyword_fault, keyword_faults}
@@ -43,13 +43,14 @@ shaped-keys : (b : Bool) (whole : Sexp) (ds : Sexps) (os : List Occurrence) → 
 shaped-keys true whole ds os f = f refl
 shaped-keys false whole ds os f = refl
 
--- a list that would ask Racket is no keyword itself
+-- a list is no keyword itself
 head-keys : (h : Head) (whole : Sexp) (os : List Occurrence) → keyword_faults (head_occurrences h whole ++ os) ≡ keyword_faults os
 head-keys naming whole os = refl
 head-keys avoiding whole os = refl
 head-keys prefixing whole os = refl
 head-keys splitting whole os = refl
 head-keys hiding whole os = refl
+head-keys crossing whole os = refl
 head-keys escaping whole os = refl
 head-keys plain whole os = refl
 

@@ -32,6 +32,8 @@ pub mod Repeated
 pub mod ExtendedNames
 pub mod ExtendedPatterns
 pub mod WellFormedForms
+pub mod KnownForms
+pub mod PlainForms
 pub mod PassedForms
 pub mod Occurs
 pub mod Seen
@@ -39,3 +41,8 @@ pub mod OneReading
 pub mod Examples
 pub mod CrossedItems
 pub mod SeveralEnds
+pub mod SeveralWays
+pub mod NeededCrosses
+pub mod PlainDefinitions
+pub mod KnownReadings
+pub mod FewItems

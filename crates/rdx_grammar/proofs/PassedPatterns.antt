@@ -7,12 +7,12 @@ use Rattle.std.proofs.Math.Nat.{le-max_left, le-max_right}
 use Rattle.rdx_sexp.specs.Sexp.{Sexp, Sexps, leaf, list, nil, cons, integer, truth, text, symbol, keyword}
 use Rattle.rdx_sexp.specs.Size.{sexp_depth, sexps_depth, IsSpelledSexp, AreSpelled}
 use Rattle.rdx_term.specs.Spelling.{is_name, is_symbol_spelling}
-use Rattle.rdx_grammar.specs.Heads.{Head, naming, avoiding, prefixing, splitting, hiding, escaping, plain, Role, word, bound, spelt, pattern, ellipsis, unread, Roles, done, item, every, patterns, repeatable, roles_of, head_among, is_ellipsis_symbol, next, rest, is_repeated, suits, fits, is_shaped}
+use Rattle.rdx_grammar.specs.Heads.{Head, naming, avoiding, prefixing, splitting, hiding, crossing, escaping, plain, Role, word, bound, spelt, pattern, ellipsis, unread, Roles, done, item, every, patterns, repeatable, roles_of, head_among, is_ellipsis_symbol, next, rest, is_repeated, suits, fits, is_shaped}
 use Rattle.rdx_grammar.specs.Inside.AreNames.{AreNames}
 use Rattle.rdx_grammar.specs.Inside.BoundView.{bound_names}
 use Rattle.rdx_grammar.specs.Kinds.{is_base}
 use Rattle.rdx_grammar.specs.Names.{is_bad_name, begins_with_dots, is_ellipsis, has_suffix, front}
-use Rattle.rdx_grammar.specs.Occurrences.{Occurrence, key, binder, single, repeats, excepted, malformed, escape, keys, keys_in, role_occurrences, deeper, head_occurrences, occurrences, occurrences_among}
+use Rattle.rdx_grammar.specs.Occurrences.{Occurrence, key, binder, single, repeats, excepted, across, malformed, escape, keys, keys_in, role_occurrences, deeper, head_occurrences, occurrences, occurrences_among}
 use Rattle.rdx_grammar.specs.Parts.{text_of, is_symbol, is_word}
 use Rattle.rdx_grammar.specs.PatternChecks.{Bound, when, bad_binder, bad_binders, is_bad_symbol, bad_occurrence, bad_occurrences, binds, bound_when, all_bound}
 use Rattle.rdx_grammar.specs.declared.patterns.position.Position.{Position}
@@ -30,6 +30,7 @@ IsWritten m (binder n d) = (n < m) × IsTrue (is_symbol_spelling (text_of d))
 IsWritten m (single n d) = (n < m) × IsTrue (is_symbol_spelling (text_of d))
 IsWritten m (repeats n d) = (n < m) × (IsTrue (is_symbol_spelling (text_of d)) × (is_ellipsis_symbol d ≡ true))
 IsWritten m (excepted d) = Unit {0}
+IsWritten m (across d) = Unit {0}
 IsWritten m (malformed d) = Unit {0}
 IsWritten m (escape d) = Unit {0}
 
@@ -82,6 +83,7 @@ table-fixed avoiding = (tt, tt)
 table-fixed prefixing = (tt, (tt, tt))
 table-fixed splitting = (tt, (tt, (tt, tt)))
 table-fixed hiding = (tt, (tt, tt))
+table-fixed crossing = (tt, (tt, tt))
 table-fixed escaping = (tt, tt)
 table-fixed plain = tt
 
@@ -144,13 +146,14 @@ shaped-written : (m : ℕ) (b : Bool) (whole : Sexp) (ds : Sexps) (os : List Occ
 shaped-written m true whole ds os f = f refl
 shaped-written m false whole ds os f = (tt, keys_in-written m ds)
 
--- the list itself, where its head would ask Racket
+-- the list itself, where its head is `cross` or would ask Racket
 head-written : (m : ℕ) (h : Head) (whole : Sexp) → AreWritten m (head_occurrences h whole)
 head-written m naming whole = tt
 head-written m avoiding whole = tt
 head-written m prefixing whole = tt
 head-written m splitting whole = tt
 head-written m hiding whole = tt
+head-written m crossing whole = (tt, tt)
 head-written m escaping whole = (tt, tt)
 head-written m plain whole = tt
 
@@ -244,6 +247,7 @@ IsPassed (binder n d) = (is_name (text_of d) ≡ true) × (begins_with_dots (tex
 IsPassed (single n d) = (bytes_eq (text_of d) (codes "hole") ≡ false → is_name (text_of d) ≡ true) × (begins_with_dots (text_of d) ≡ false)
 IsPassed (repeats n d) = (is_ellipsis_symbol d ≡ true) × ((is_name (text_of d) ≡ true) × (begins_with_dots (text_of d) ≡ true))
 IsPassed (excepted d) = Unit {0}
+IsPassed (across d) = Unit {0}
 IsPassed (malformed d) = ⊥
 IsPassed (escape d) = Unit {0}
 
@@ -272,6 +276,7 @@ module _ (ns : List (List ℕ)) (m : ℕ) where
       (name-spelled (text_of d) h.1, (or_false (begins_with_dots (text_of d)) (not (bytes_eq (text_of d) (codes "_")) && (has_suffix (text_of d) && not (is_base ns (front (text_of d))))) (when-none (is_bad_symbol ns (text_of d)) d f)).0)
   written-passed (repeats n d) h e f = (h.1.1, (ellipsis-name d h.1.0 h.1.1, ellipsis-dots (text_of d) (and_true (is_symbol d) (is_ellipsis (text_of d)) h.1.1).1))
   written-passed (excepted d) h e f = tt
+  written-passed (across d) h e f = tt
   written-passed (malformed d) h e f = absurd cc
   written-passed (escape d) h e f = tt
 
@@ -313,6 +318,7 @@ module _ (ns : List (List ℕ)) (pos : Position) (m : ℕ) where
   bound-are-names (repeats n d ∷ os) h e =
       when-names (not (is_word (codes "...") d)) n d (all_bound ns pos os) h.0.0 (λ f. ellipsis-name d h.0.1.0 h.0.1.1) (bound-are-names os h.1 e)
   bound-are-names (excepted d ∷ os) h e = bound-are-names os h.1 e
+  bound-are-names (across d ∷ os) h e = bound-are-names os h.1 e
   bound-are-names (malformed d ∷ os) h e = bound-are-names os h.1 e
   bound-are-names (escape d ∷ os) h e = bound-are-names os h.1 e
 

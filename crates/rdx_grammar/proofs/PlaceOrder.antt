@@ -2,7 +2,7 @@
 use Rattle.std.proofs.Common.{ℕ, ◌++◌, Bool, true, false, List, [], ◌∷◌, Option, Some, None, map, sym, subst, if◌then◌else◌}
 use Rattle.std.proofs.lemmas.List.{map-append}
 use Rattle.rdx_sexp.specs.Sexp.{Sexp, Sexps, leaf, list, nil, cons, integer, truth, text, symbol, keyword}
-use Rattle.rdx_grammar.specs.Heads.{Head, naming, avoiding, prefixing, splitting, hiding, escaping, plain, Role, word, bound, spelt, pattern, ellipsis, unread, Roles, roles_of, head_among, next, rest, is_repeated, is_shaped}
+use Rattle.rdx_grammar.specs.Heads.{Head, naming, avoiding, prefixing, splitting, hiding, crossing, escaping, plain, Role, word, bound, spelt, pattern, ellipsis, unread, Roles, roles_of, head_among, next, rest, is_repeated, is_shaped}
 use Rattle.rdx_grammar.specs.Laws.{datum_of, all_parts, all_parts_in, IsPickedFrom, none_left, picked, left_out, InOrder}
 use Rattle.rdx_grammar.specs.Occurrences.{Occurrence, malformed, keys, keys_in, role_occurrences, deeper, head_occurrences, occurrences, occurrences_among}
 
@@ -57,6 +57,7 @@ head-picked avoiding ds whole os p = left_out p
 head-picked prefixing ds whole os p = left_out p
 head-picked splitting ds whole os p = left_out p
 head-picked hiding ds whole os p = left_out p
+head-picked crossing ds whole os p = picked p
 head-picked escaping ds whole os p = picked p
 head-picked plain ds whole os p = left_out p
 

@@ -6,10 +6,10 @@ use Rattle.std.proofs.lemmas.List.{append-nil, drop_all, length-append, nil_from
 use Rattle.std.specs.Cmp.Lexicographic.{bytes_decides}
 use Rattle.std.specs.List.{list_any}
 use Rattle.std.specs.Prelude.{◌&&◌, ◌||◌, flat_map, bytes_eq}
-use Rattle.rdx_lang.proofs.CrossesAgain.{crosses_once, plain_names_stay}
+use Rattle.rdx_lang.proofs.CrossesAgain.{crosses_once}
+use Rattle.rdx_lang.proofs.DefinedNonterminals.{defined-more}
 use Rattle.rdx_lang.proofs.NewCrosses.{in-plain_names, plain_names-among, cross-defined}
-use Rattle.rdx_lang.proofs.WellFormedCrosses.{defined-stays}
-use Rattle.rdx_lang.specs.Crosses.{cross_alternatives, crossed_alternatives, plain_names, new_cross, new_crosses, with_crosses, with_crosses_to}
+use Rattle.rdx_lang.specs.Crosses.{cross_alternatives, crossed_alternatives, plain_name, plain_names, new_cross, new_crosses, with_crosses, with_crosses_to}
 use Rattle.rdx_lang.specs.Lookup.{alternatives_among, alternatives_of}
 use Rattle.rdx_lang.specs.Members.{In}
 use Rattle.rdx_lang.specs.Patterns.{hole, Definition, Language}
@@ -26,7 +26,7 @@ use Rattle.rdx_grammar.proofs.Rests.{drop-at}
 -- ---- definitions put behind others
 
 -- what is among the nonterminals of both
-among-both : (x : Ref) (ds es : List Definition) → is_among x (heads (ds ++ es)) ≡ (is_among x (heads ds) || is_among x (heads es))
+pub among-both : (x : Ref) (ds es : List Definition) → is_among x (heads (ds ++ es)) ≡ (is_among x (heads ds) || is_among x (heads es))
 among-both x [] es = refl
 among-both x (d ∷ ds) es = ap (λ b. is_same x d.0 || b) (among-both x ds es) ∙ or_or (is_same x d.0) (is_among x (heads ds)) (is_among x (heads es))
 
@@ -65,7 +65,7 @@ none-to-other L y z w (x ∷ xs) e = by_test (is_among (Cross x z) (defined L)) 
     by_test false f = or_neither (bytes_eq w x && bytes_eq y z) (is_among (Cross w y) (heads rest)) (ap (λ c. bytes_eq w x && c) e ∙ and-false (bytes_eq w x)) f
 
 -- two languages with the same alternatives of x, and of which both or none have the cross nonterminal, get the same
-same-new : (L M : Language) (y x : List ℕ) → is_among (Cross x y) (defined M) ≡ is_among (Cross x y) (defined L)
+pub same-new : (L M : Language) (y x : List ℕ) → is_among (Cross x y) (defined M) ≡ is_among (Cross x y) (defined L)
     → alternatives_of M (Nt x) ≡ alternatives_of L (Nt x) → new_cross M y x ≡ new_cross L y x
 same-new L M y x e f =
     ap (λ b. if b then [] else (Cross x y, cross_alternatives M x y) ∷ []) e
@@ -80,14 +80,14 @@ same-new-all L M y (x ∷ xs) f g = λ i. same-new L M y x (f x) (g x) i ++ same
 -- ---- a language on the way
 
 -- M is L with all cross nonterminals to what was seen, and with no others
-record IsOnTheWay (L M : Language) (seen : List (List ℕ)) : Type 0 where
-  plain : plain_names M ≡ plain_names L
-  alternatives : (x : List ℕ) → alternatives_of M (Nt x) ≡ alternatives_of L (Nt x)
-  there_are : (y : List ℕ) → list_any (bytes_eq y) seen ≡ true → (x : List ℕ) → In x (plain_names M) → is_among (Cross x y) (defined M) ≡ true
-  unchanged : (y : List ℕ) → list_any (bytes_eq y) seen ≡ false → (x : List ℕ) → is_among (Cross x y) (defined M) ≡ is_among (Cross x y) (defined L)
+pub record IsOnTheWay (L M : Language) (seen : List (List ℕ)) : Type 0 where
+  pub plain : plain_names M ≡ plain_names L
+  pub alternatives : (x : List ℕ) → alternatives_of M (Nt x) ≡ alternatives_of L (Nt x)
+  pub there_are : (y : List ℕ) → list_any (bytes_eq y) seen ≡ true → (x : List ℕ) → In x (plain_names M) → is_among (Cross x y) (defined M) ≡ true
+  pub unchanged : (y : List ℕ) → list_any (bytes_eq y) seen ≡ false → (x : List ℕ) → is_among (Cross x y) (defined M) ≡ is_among (Cross x y) (defined L)
 
 -- at the start nothing was seen
-at-start : (L : Language) → IsOnTheWay L L []
+pub at-start : (L : Language) → IsOnTheWay L L []
 at-start L = record { plain = refl; alternatives = λ x. refl; there_are = λ y e x i. absurd cc; unchanged = λ y e x. refl }
 
 -- nothing is put behind where the whole stays the same
@@ -101,7 +101,7 @@ none-again L M seen w y e =
     (ap (λ (K : Language). K.nonterminals) (crosses_once M y (λ x i. w.there_are y e x (in-plain_names x (defined M) i))))
 
 -- what it gets next
-next-new : (L M : Language) (seen : List (List ℕ)) → IsOnTheWay L M seen → (y : List ℕ)
+pub next-new : (L M : Language) (seen : List (List ℕ)) → IsOnTheWay L M seen → (y : List ℕ)
     → new_crosses M y ≡ (if list_any (bytes_eq y) seen then [] else new_crosses L y)
 next-new L M seen w y = by_test (list_any (bytes_eq y) seen) refl
   where
@@ -109,28 +109,54 @@ next-new L M seen w y = by_test (list_any (bytes_eq y) seen) refl
     by_test true e = none-again L M seen w y e
     by_test false e = same-new-all L M y (plain_names M) (w.unchanged y e) w.alternatives ∙ ap (flat_map (new_cross L y)) w.plain
 
--- with those to one end more it is on the way
-one-more : (L M : Language) (seen : List (List ℕ)) (y : List ℕ) → IsOnTheWay L M seen → IsOnTheWay L (with_crosses M y) (y ∷ seen)
-one-more L M seen y w = record {
+-- what is added is of no plain nonterminal
+no-names : (M : Language) (y : List ℕ) (xs : List (List ℕ)) → flat_map plain_name (heads (flat_map (new_cross M y) xs)) ≡ []
+no-names M y [] = refl
+no-names M y (x ∷ xs) = by_test (is_among (Cross x y) (defined M)) (no-names M y xs)
+  where
+    rest : List Definition
+    rest = flat_map (new_cross M y) xs
+
+    by_test : (b : Bool) → flat_map plain_name (heads rest) ≡ []
+        → flat_map plain_name (heads ((if b then [] else (Cross x y, cross_alternatives M x y) ∷ []) ++ rest)) ≡ []
+    by_test true e = e
+    by_test false e = e
+
+-- definitions of no plain nonterminal, put behind others, bring no name
+names-both : (ds es : List Definition) → flat_map plain_name (heads es) ≡ [] → flat_map plain_name (heads (ds ++ es)) ≡ flat_map plain_name (heads ds)
+names-both [] es e = e
+names-both (d ∷ ds) es e = ap (λ xs. plain_name d.0 ++ xs) (names-both ds es e)
+
+-- with what it lacks to one end more from some it is on the way, if it has all to that end then
+pub some-more : (L M : Language) (seen : List (List ℕ)) (y : List ℕ) (xs : List (List ℕ)) → IsOnTheWay L M seen
+    → ((x : List ℕ) → In x (plain_names M) → is_among (Cross x y) (defined (with_definitions M (flat_map (new_cross M y) xs))) ≡ true)
+    → IsOnTheWay L (with_definitions M (flat_map (new_cross M y) xs)) (y ∷ seen)
+some-more L M seen y xs w all = record {
   plain = stay ∙ w.plain;
-  alternatives = λ x. alternatives-both (Nt x) M.nonterminals (new_crosses M y) (none-of-plain M y x (plain_names M)) ∙ w.alternatives x;
-  there_are = λ z e x i. all_there z x (subst (λ (xs : List (List ℕ)). In x xs) stay i) (or_cases (bytes_eq z y) (list_any (bytes_eq z) seen) e);
+  alternatives = λ x. alternatives-both (Nt x) M.nonterminals new (none-of-plain M y x xs) ∙ w.alternatives x;
+  there_are = λ z e x i. there-all z x (subst (λ (ns : List (List ℕ)). In x ns) stay i) (or_cases (bytes_eq z y) (list_any (bytes_eq z) seen) e);
   unchanged = λ z e x.
       let f = or_false (bytes_eq z y) (list_any (bytes_eq z) seen) e in
-      among-both (Cross x z) M.nonterminals (new_crosses M y)
-      ∙ ap (λ b. is_among (Cross x z) (defined M) || b) (none-to-other M z y x (plain_names M) f.0)
+      among-both (Cross x z) M.nonterminals new
+      ∙ ap (λ b. is_among (Cross x z) (defined M) || b) (none-to-other M z y x xs f.0)
       ∙ or-false (is_among (Cross x z) (defined M)) ∙ w.unchanged z f.1 x;
 }
   where
-    stay : plain_names (with_crosses M y) ≡ plain_names M
-    stay = plain_names_stay M (y ∷ [])
+    new : List Definition
+    new = flat_map (new_cross M y) xs
 
-    all_there : (z x : List ℕ) → In x (plain_names M) → (bytes_eq z y ≡ true) ⊎ (list_any (bytes_eq z) seen ≡ true)
-        → is_among (Cross x z) (defined (with_crosses M y)) ≡ true
-    all_there z x i (inl e) =
-        ap (λ (v : List ℕ). is_among (Cross x v) (defined (with_crosses M y))) ((bytes_decides z y).0 e)
-        ∙ cross-defined M y x (plain_names-among x (defined M) i)
-    all_there z x i (inr e) = defined-stays M (y ∷ []) (Cross x z) (w.there_are z e x i)
+    stay : plain_names (with_definitions M new) ≡ plain_names M
+    stay = names-both M.nonterminals new (no-names M y xs)
+
+    there-all : (z x : List ℕ) → In x (plain_names M) → (bytes_eq z y ≡ true) ⊎ (list_any (bytes_eq z) seen ≡ true)
+        → is_among (Cross x z) (defined (with_definitions M new)) ≡ true
+    there-all z x i (inl e) =
+        ap (λ (v : List ℕ). is_among (Cross x v) (defined (with_definitions M new))) ((bytes_decides z y).0 e) ∙ all x i
+    there-all z x i (inr e) = defined-more M.nonterminals new (Cross x z) (w.there_are z e x i)
+
+-- so with all to one end more
+pub one-more : (L M : Language) (seen : List (List ℕ)) (y : List ℕ) → IsOnTheWay L M seen → IsOnTheWay L (with_crosses M y) (y ∷ seen)
+one-more L M seen y w = some-more L M seen y (plain_names M) w (λ x i. cross-defined M y x (plain_names-among x (defined M) i))
 
 -- ---- all ends
 

@@ -1,36 +1,77 @@
--- What is read names only nonterminals that there are.
-use Rattle.std.proofs.Common.{◌≡◌, ℕ, Bool, true, false, List, Option, Some, None, refl, sym, if◌then◌else◌}
-use Rattle.std.specs.Prelude.{◌&&◌, bytes_eq, codes, flat_map}
+-- What is read names only nonterminals that there are: plain ones, and cross nonterminals from one of them to itself, which is an end.
+use Rattle.std.proofs.Common.{◌≡◌, ℕ, Bool, true, false, List, [], ◌∷◌, ◌++◌, Option, Some, None, refl, sym, ◌∙◌, if◌then◌else◌}
+use Rattle.std.specs.Prelude.{◌&&◌, not, bytes_eq, codes}
+use Rattle.std.proofs.lemmas.Grind.{flat_map-append}
+use Rattle.rdx_base.specs.declared.place.Span.{Span}
 use Rattle.rdx_sexp.specs.Sexp.{Sexp, Sexps, leaf, list, nil, cons, Atom, integer, truth, text, symbol, keyword}
 use Rattle.rdx_term.specs.Spelling.{is_name}
 use Rattle.rdx_term.specs.Tree as tree
+use Rattle.rdx_lang.proofs.MemberLaws.{append-left, append-right}
+use Rattle.rdx_lang.specs.Members.{In, here}
 use Rattle.rdx_lang.specs.Patterns.{Pattern, wild, hole, nt, lit, Items}
 use Rattle.rdx_lang.specs.Patterns as model
+use Rattle.rdx_lang.specs.References.{is_among as is_defined_among}
 use Rattle.rdx_lang.specs.WellFormed.{has_known_nonterminals, have_known_nonterminals}
 use Rattle.rdx_lang.specs.declared.pattern.Kind.{Kind}
 use Rattle.rdx_lang.specs.declared.pattern.Ref.{Ref}
-use Rattle.rdx_lang.specs.declared.pattern.Ref.TheVariants.{Nt}
-use Rattle.rdx_grammar.specs.Heads.{Head, naming, avoiding, prefixing, splitting, hiding, escaping, plain, Role, Roles, roles_of, head_among, next, rest, is_shaped}
+use Rattle.rdx_lang.specs.declared.pattern.Ref.TheVariants.{Nt, Cross}
+use Rattle.rdx_grammar.specs.Ends.{end_of, ends_in, ends_among}
+use Rattle.rdx_grammar.specs.Heads.{Head, naming, avoiding, prefixing, splitting, hiding, crossing, escaping, plain, Role, word, bound, spelt, pattern, ellipsis, unread, Roles, roles_of, head_among, next, rest, is_repeated, fits, is_shaped}
 use Rattle.rdx_grammar.specs.Kinds.{kind_of, is_among}
 use Rattle.rdx_grammar.specs.Names.{has_suffix, front}
-use Rattle.rdx_grammar.specs.Nonterminals.{ref_names}
-use Rattle.rdx_grammar.specs.Reading.{base, base_of, by_base, other_symbol, suffixed, symbol_reading, atom_reading, only, only_item, only_items, prefixed, bound_to, split_by, hidden, names_among, is_pattern, ellipsis_behind, item_slot, with_item, role_items, assembled, reading, items_among}
+use Rattle.rdx_grammar.specs.Occurrences.{Occurrence, across, malformed, keys_in, role_occurrences, deeper, head_occurrences, occurrences, occurrences_among}
+use Rattle.rdx_grammar.specs.Parts.{text_of, is_symbol, is_word}
+use Rattle.rdx_grammar.specs.PatternChecks.{when, bad_occurrence, bad_occurrences}
+use Rattle.rdx_grammar.specs.Reading.{base, base_of, by_base, other_symbol, suffixed, symbol_reading, atom_reading, only, only_item, only_items, prefixed, bound_to, split_by, hidden, across_itself, names_among, ellipsis_behind, item_slot, with_item, role_items, assembled, reading, items_among}
 use Rattle.rdx_grammar.specs.declared.patterns.position.Position.{Position}
 use Rattle.rdx_grammar.specs.declared.patterns.position.Position.TheVariants.{Grammar, Query}
-use Rattle.rdx_grammar.proofs.Among.{is_among-names}
-use Rattle.rdx_grammar.proofs.Booleans.{and_both, and_true}
+use Rattle.rdx_grammar.proofs.Booleans.{and_both, and_true, second-false}
+use Rattle.rdx_grammar.proofs.Firsts.{none_both}
 
-module _ (xs : List Ref) (pos : Position) where
-  -- the names of the nonterminals
-  abbrev ns : List (List ℕ)
-  ns = flat_map ref_names xs
+-- ---- lists headed by `cross`
 
+-- the kind of a list, by the tests of its word in their order
+abbrev chosen : Bool → Bool → Bool → Bool → Bool → Bool → Bool → Bool → Head
+chosen a b c d e f g h =
+    if a then naming else if b then avoiding else if c then prefixing else if d then splitting else if e then hiding else if f then crossing
+    else if g then escaping else if h then escaping else plain
+
+-- the word of such a list
+crossing-word : (w : Sexp) (ds : Sexps) → head_among (cons w ds) ≡ crossing → is_word (codes "cross") w ≡ true
+crossing-word (leaf (integer n) s) ds e = absurd cc
+crossing-word (leaf (truth b) s) ds e = absurd cc
+crossing-word (leaf (text t) s) ds e = absurd cc
+crossing-word (leaf (keyword k) s) ds e = absurd cc
+crossing-word (list es s) ds e = absurd cc
+crossing-word (leaf (symbol x) s) ds e =
+    by_tests (bytes_eq x (codes "name")) (bytes_eq x (codes "variable-except")) (bytes_eq x (codes "variable-prefix")) (bytes_eq x (codes "in-hole"))
+    (bytes_eq x (codes "hide-hole")) (bytes_eq x (codes "cross")) (bytes_eq x (codes "unquote")) (bytes_eq x (codes "side-condition")) e
+  where
+    by_tests : (a b c d f g h i : Bool) → chosen a b c d f g h i ≡ crossing → g ≡ true
+    by_tests true b c d f g h i k = absurd cc
+    by_tests false true c d f g h i k = absurd cc
+    by_tests false false true d f g h i k = absurd cc
+    by_tests false false false true f g h i k = absurd cc
+    by_tests false false false false true g h i k = absurd cc
+    by_tests false false false false false true h i k = refl
+    by_tests false false false false false false true i k = absurd cc
+    by_tests false false false false false false false true k = absurd cc
+    by_tests false false false false false false false false k = absurd cc
+
+-- what is not refused for it is among these
+among-unless : (b : Bool) (d : Sexp) → when (not b) d ++ [] ≡ [] → b ≡ true
+among-unless true d e = refl
+among-unless false d e = absurd cc
+
+module _ (ns : List (List ℕ)) (pos : Position) (ys : List Ref) (Ends : List ℕ → Type 0)
+    (plain_there : (x : List ℕ) → is_among ns x ≡ true → is_defined_among (Nt x) ys ≡ true)
+    (cross_there : (x : List ℕ) → is_among ns x ≡ true → Ends x → is_defined_among (Cross x x) ys ≡ true) where
   -- the test of a pattern, and of items
   abbrev is_known : Pattern → Bool
-  is_known = has_known_nonterminals xs
+  is_known = has_known_nonterminals ys
 
   abbrev are_known : Items → Bool
-  are_known = have_known_nonterminals xs
+  are_known = have_known_nonterminals ys
 
   -- what is there passes
   abbrev Passes : Option Pattern → Type 0
@@ -39,11 +80,11 @@ module _ (xs : List Ref) (pos : Position) where
 
   -- a nonterminal
   nonterminal_passes : (x : List ℕ) → Passes (if is_among ns x then Some (nt (Nt x)) else None)
-  nonterminal_passes x = by_test (is_among ns x) (is_among-names x xs)
+  nonterminal_passes x = by_test (is_among ns x) (plain_there x)
     where
-      by_test : (b : Bool) → b ≡ is_known (nt (Nt x)) → Passes (if b then Some (nt (Nt x)) else None)
-      by_test true e = sym e
-      by_test false e = tt
+      by_test : (b : Bool) → (b ≡ true → is_known (nt (Nt x)) ≡ true) → Passes (if b then Some (nt (Nt x)) else None)
+      by_test true f = f refl
+      by_test false f = tt
 
   -- a built-in name or a nonterminal
   base_passes : (x : List ℕ) → Passes (base ns x)
@@ -106,13 +147,17 @@ module _ (xs : List Ref) (pos : Position) where
   item_known None p ps h k = and_both (is_known p) (are_known ps) h k
   item_known (Some n) p ps h k = and_both (is_known p) (are_known ps) h k
 
-  -- one in a role, where it is a pattern
-  role_known : (o : Option Role) (e : Option (Option (List ℕ))) (p : Pattern) (ps : Items) → is_known p ≡ true → are_known ps ≡ true → are_known (role_items o e p ps) ≡ true
-  role_known o e p ps h k = by_test (is_pattern o)
-    where
-      by_test : (b : Bool) → are_known (if b then with_item (item_slot e p) ps else ps) ≡ true
-      by_test true = item_known e p ps h k
-      by_test false = k
+  -- one in a role, where it is a pattern that no check refuses
+  role_known : (n : ℕ) (o : Option Role) (e : Option (Option (List ℕ))) (d : Sexp) (p : Pattern) (ps : Items) (os : List Occurrence)
+      → (bad_occurrences ns os ≡ [] → is_known p ≡ true) → bad_occurrences ns (role_occurrences n o d os) ≡ [] → are_known ps ≡ true
+      → are_known (role_items o e p ps) ≡ true
+  role_known n None e d p ps os f h k = k
+  role_known n (Some word) e d p ps os f h k = k
+  role_known n (Some bound) e d p ps os f h k = k
+  role_known n (Some spelt) e d p ps os f h k = k
+  role_known n (Some pattern) e d p ps os f h k = item_known e p ps (f h) k
+  role_known n (Some ellipsis) e d p ps os f h k = k
+  role_known n (Some unread) e d p ps os f h k = k
 
   -- what is bound to a name
   bound_known : (o : Option (List ℕ)) (ps : Items) → are_known ps ≡ true → is_known (bound_to o (only_item ps)) ≡ true
@@ -148,32 +193,66 @@ module _ (xs : List Ref) (pos : Position) where
   hidden_known (model.one p (model.many q n ps)) h = refl
   hidden_known (model.many p n ps) h = refl
 
-  -- a list of such items
-  assembled_known : (h : Head) (ys : List (List ℕ)) (ps : Items) → are_known ps ≡ true → is_known (assembled h ys ps) ≡ true
-  assembled_known naming ys ps e = bound_known (only ys) ps e
-  assembled_known avoiding ys ps e = refl
-  assembled_known prefixing ys ps e = prefixed_known (only ys)
-  assembled_known splitting ys ps e = split_known ps e
-  assembled_known hiding ys ps e = hidden_known ps e
-  assembled_known escaping ys ps e = refl
-  assembled_known plain ys ps e = e
+  -- a list `(cross e)` of an end
+  across_known : (s : Span) (ds : Sexps) → head_among ds ≡ crossing → fits (roles_of crossing) ds ≡ true → bad_occurrences ns (across (list ds s) ∷ []) ≡ []
+      → ((x : List ℕ) → In x (end_of ds) → Ends x) → is_known (across_itself (only (names_among (roles_of crossing) ds))) ≡ true
+  across_known s nil k f h ends = absurd cc
+  across_known s (cons w nil) k f h ends = second-false (is_symbol w) _ f
+  across_known s (cons w (cons e nil)) k f h ends =
+      by_name (is_name (text_of e)) (is_word (codes "cross") w) (crossing-word w (cons e nil) k) ends
+    where
+      by_name : (b c : Bool) → c ≡ true
+          → ((x : List ℕ) → In x (let xs : List (List ℕ) = if c then (if b then text_of e ∷ [] else []) else [] in xs) → Ends x)
+          → is_known (across_itself (only ((if b then text_of e ∷ [] else []) ++ []))) ≡ true
+      by_name true true g i = cross_there (text_of e) (among-unless (is_among ns (text_of e)) (list (cons w (cons e nil)) s) h) (i (text_of e) (here refl))
+      by_name true false g i = absurd cc
+      by_name false c g i = refl
+  across_known s (cons w (cons e (cons d ds))) k f h ends =
+      let b = is_symbol e && not (is_word (codes "hole") e) in
+      second-false b _ (and_true (is_symbol w) (b && false) f).1
 
-  -- a list that may have its shape
-  shaped_known : (b : Bool) (p : Pattern) → is_known p ≡ true → is_known (if b then p else wild) ≡ true
-  shaped_known true p e = e
-  shaped_known false p e = refl
+  -- a list with its shape, of such items
+  list_known : (h : Head) (s : Span) (ds : Sexps) (ps : Items) → head_among ds ≡ h → fits (roles_of h) ds ≡ true
+      → bad_occurrences ns (head_occurrences h (list ds s)) ≡ [] → ((x : List ℕ) → In x (end_of ds) → Ends x) → are_known ps ≡ true
+      → is_known (assembled h (names_among (roles_of h) ds) ps) ≡ true
+  list_known naming s ds ps k f h i e = bound_known (only (names_among (roles_of naming) ds)) ps e
+  list_known avoiding s ds ps k f h i e = refl
+  list_known prefixing s ds ps k f h i e = prefixed_known (only (names_among (roles_of prefixing) ds))
+  list_known splitting s ds ps k f h i e = split_known ps e
+  list_known hiding s ds ps k f h i e = hidden_known ps e
+  list_known crossing s ds ps k f h i e = across_known s ds k f h i
+  list_known escaping s ds ps k f h i e = refl
+  list_known plain s ds ps k f h i e = e
+
+  -- what stands in two parts
+  not-bad : (os qs : List Occurrence) → bad_occurrences ns (os ++ qs) ≡ [] → (bad_occurrences ns os ≡ []) × (bad_occurrences ns qs ≡ [])
+  not-bad os qs h = none_both (bad_occurrences ns os) (bad_occurrences ns qs) (sym (flat_map-append (bad_occurrence ns) os qs) ∙ h)
 
   mutual
-    -- a datum
-    pub reading_known : (d : Sexp) → has_known_nonterminals xs (reading (flat_map ref_names xs) pos d) ≡ true
-    reading_known (leaf a s) = atom_known a
-    reading_known (list ds s) =
-        let h = head_among ds in
-        shaped_known (is_shaped ds) (assembled h (names_among (roles_of h) ds) (items_among ns pos (roles_of h) ds))
-        (assembled_known h (names_among (roles_of h) ds) (items_among ns pos (roles_of h) ds) (items_known (roles_of h) ds))
+    -- a datum around which n repetitions stand, of which no check refuses a pattern and whose ends are such
+    pub reading_known : (n : ℕ) (d : Sexp) → ((x : List ℕ) → In x (ends_in d) → Ends x) → bad_occurrences ns (occurrences n d) ≡ []
+        → has_known_nonterminals ys (reading ns pos d) ≡ true
+    reading_known n (leaf a s) i h = atom_known a
+    reading_known n (list ds s) i h =
+        by_shape (is_shaped ds) refl h (λ g. items_known n (roles_of (head_among ds)) ds (λ x j. i x (append-right (end_of ds) (ends_among ds) x j)) g)
+      where
+        by_shape : (b : Bool) → is_shaped ds ≡ b
+            → bad_occurrences ns (if b then head_occurrences (head_among ds) (list ds s) ++ occurrences_among n (roles_of (head_among ds)) ds else malformed (list ds s) ∷ keys_in ds) ≡ []
+            → (bad_occurrences ns (occurrences_among n (roles_of (head_among ds)) ds) ≡ [] → are_known (items_among ns pos (roles_of (head_among ds)) ds) ≡ true)
+            → is_known (if b then assembled (head_among ds) (names_among (roles_of (head_among ds)) ds) (items_among ns pos (roles_of (head_among ds)) ds) else wild) ≡ true
+        by_shape true f g k =
+            let l = not-bad (head_occurrences (head_among ds) (list ds s)) (occurrences_among n (roles_of (head_among ds)) ds) g in
+            list_known (head_among ds) s ds (items_among ns pos (roles_of (head_among ds)) ds) refl f l.0
+            (λ x j. i x (append-left (end_of ds) (ends_among ds) x j)) (k l.1)
+        by_shape false f g k = refl
 
     -- items in these roles
-    pub items_known : (rs : Roles) (ds : Sexps) → have_known_nonterminals xs (items_among (flat_map ref_names xs) pos rs ds) ≡ true
-    items_known rs nil = refl
-    items_known rs (cons d ds) =
-        role_known (next rs d) (ellipsis_behind (rest rs d) ds) (reading ns pos d) (items_among ns pos (rest rs d) ds) (reading_known d) (items_known (rest rs d) ds)
+    pub items_known : (n : ℕ) (rs : Roles) (ds : Sexps) → ((x : List ℕ) → In x (ends_among ds) → Ends x)
+        → bad_occurrences ns (occurrences_among n rs ds) ≡ [] → have_known_nonterminals ys (items_among ns pos rs ds) ≡ true
+    items_known n rs nil i h = refl
+    items_known n rs (cons d ds) i h =
+        let os = occurrences (deeper (is_repeated (rest rs d) ds) n) d in
+        let k = not-bad (role_occurrences n (next rs d) d os) (occurrences_among n (rest rs d) ds) h in
+        role_known n (next rs d) (ellipsis_behind (rest rs d) ds) d (reading ns pos d) (items_among ns pos (rest rs d) ds) os
+        (λ g. reading_known (deeper (is_repeated (rest rs d) ds) n) d (λ x j. i x (append-left (ends_in d) (ends_among ds) x j)) g) k.0
+        (items_known n (rest rs d) ds (λ x j. i x (append-right (ends_in d) (ends_among ds) x j)) k.1)

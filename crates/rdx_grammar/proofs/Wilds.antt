@@ -9,7 +9,7 @@ use Rattle.rdx_term.specs.Tree as tree
 use Rattle.rdx_lang.specs.Patterns.{Pattern, wild, hole, lit, nt, Items}
 use Rattle.rdx_lang.specs.declared.pattern.Kind.{Kind}
 use Rattle.rdx_lang.specs.declared.pattern.Ref.TheVariants.{Nt}
-use Rattle.rdx_grammar.specs.Heads.{Head, naming, avoiding, prefixing, splitting, hiding, escaping, plain, Role, word, bound, spelt, pattern, ellipsis, unread, Roles, every, roles_of, head_among, next, rest, is_repeated, fits, is_shaped}
+use Rattle.rdx_grammar.specs.Heads.{Head, naming, avoiding, prefixing, splitting, hiding, crossing, escaping, plain, Role, word, bound, spelt, pattern, ellipsis, unread, Roles, every, roles_of, head_among, next, rest, is_repeated, fits, is_shaped}
 use Rattle.rdx_grammar.specs.Kinds.{kind_of, is_among, is_base}
 use Rattle.rdx_grammar.specs.Laws.{wilds, item_wilds, underscores, WildsAreWritten}
 use Rattle.rdx_grammar.specs.Names.{is_bad_name, begins_with_dots, has_suffix, front}
@@ -17,7 +17,7 @@ use Rattle.rdx_grammar.specs.Occurrences.{Occurrence, malformed, keys, keys_in, 
 use Rattle.rdx_grammar.specs.Parts.{text_of, is_symbol, is_word}
 use Rattle.rdx_grammar.specs.PatternChecks.{keyword_fault, keyword_faults, bad_binder, bad_binders, bad_occurrence, bad_occurrences, is_bad_symbol, escape_in, escapes}
 use Rattle.rdx_grammar.specs.PatternRefusal.{keyword_at, bad_binder_at, bad_occurrence_at, depth_clash_at, escape_at}
-use Rattle.rdx_grammar.specs.Reading.{base, base_of, suffixed, other_symbol, by_base, symbol_reading, name_in, only, bound_to, prefixed, names_among, ellipsis_behind, item_slot, with_item, role_items, assembled, reading, items_among}
+use Rattle.rdx_grammar.specs.Reading.{base, base_of, suffixed, other_symbol, by_base, symbol_reading, name_in, only, bound_to, prefixed, across_itself, names_among, ellipsis_behind, item_slot, with_item, role_items, assembled, reading, items_among}
 use Rattle.rdx_grammar.specs.Refusal.{unnamed, named}
 use Rattle.rdx_grammar.specs.Unbuilt.{unbuilt_at}
 use Rattle.rdx_grammar.specs.declared.patterns.position.Position.{Position}
@@ -144,13 +144,14 @@ module _ (ns : List (List ℕ)) (pos : Position) where
     keys_in-underscores nil = refl
     keys_in-underscores (cons d ds) = underscores-append (keys d) (keys_in ds) ∙ (λ i. keys-underscores d i + keys_in-underscores ds i)
 
-  -- nor is a list that would ask Racket
+  -- nor is a list `(cross e)`, or one that would ask Racket
   head-underscores : (h : Head) (whole : Sexp) (os : List Occurrence) → underscores os ≡ underscores (head_occurrences h whole ++ os)
   head-underscores naming whole os = refl
   head-underscores avoiding whole os = refl
   head-underscores prefixing whole os = refl
   head-underscores splitting whole os = refl
   head-underscores hiding whole os = refl
+  head-underscores crossing whole os = sym (zero-plus (underscores os))
   head-underscores escaping whole os = sym (zero-plus (underscores os))
   head-underscores plain whole os = refl
 
@@ -208,6 +209,10 @@ module _ (ns : List (List ℕ)) (pos : Position) where
   prefixed-wilds : (xs : List (List ℕ)) (x : List ℕ) → xs ≡ x ∷ [] → wilds (prefixed (only (xs ++ []))) ≡ 0
   prefixed-wilds xs x e = ap (λ (ys : List (List ℕ)). wilds (prefixed (only (ys ++ [])))) e
 
+  -- contexts from one nonterminal to itself
+  across-wilds : (xs : List (List ℕ)) (x : List ℕ) → xs ≡ x ∷ [] → wilds (across_itself (only (xs ++ []))) ≡ 0
+  across-wilds xs x e = ap (λ (ys : List (List ℕ)). wilds (across_itself (only (ys ++ [])))) e
+
   -- a list with its shape has those of its items, by its head
   list-wilds : (n : ℕ) (h : Head) (whole : Sexp) (ds : Sexps) → escapes (head_occurrences h whole) ≡ [] → AreSpelled ds → fits (roles_of h) ds ≡ true → bad_binders (occurrences_among n (roles_of h) ds) ≡ [] → wilds (assembled h (names_among (roles_of h) ds) (items_among ns pos (roles_of h) ds)) ≡ item_wilds (items_among ns pos (roles_of h) ds)
   list-wilds n naming whole nil e h f p = absurd cc
@@ -239,6 +244,15 @@ module _ (ns : List (List ℕ)) (pos : Position) where
   list-wilds n hiding whole (cons w nil) e h f p = second-false (is_symbol w) _ f
   list-wilds n hiding whole (cons w (cons d nil)) e h f p = sym (plus-zero (wilds (reading ns pos d)))
   list-wilds n hiding whole (cons w (cons d (cons c ds))) e h f p = second-false (is_symbol w) _ f
+  list-wilds n crossing whole nil e h f p = absurd cc
+  list-wilds n crossing whole (cons w nil) e h f p = second-false (is_symbol w) _ f
+  list-wilds n crossing whole (cons w (cons x nil)) e h f p =
+      let b = is_symbol x && not (is_word (codes "hole") x) in
+      let g = and_true b true (and_true (is_symbol w) (b && true) f).1 in
+      across-wilds (name_in x) (text_of x) (named-once x (spelt-name x g.0 h.1.0))
+  list-wilds n crossing whole (cons w (cons x (cons d ds))) e h f p =
+      let b = is_symbol x && not (is_word (codes "hole") x) in
+      second-false b _ (and_true (is_symbol w) (b && false) f).1
   list-wilds n escaping whole ds e h f p = absurd cc
   list-wilds n plain whole ds e h f p = refl
 

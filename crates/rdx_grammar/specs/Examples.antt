@@ -1,16 +1,19 @@
--- Worked examples: the language that an extension is, the refusals of forms that two checks refuse, and those of lists that would ask Racket.
+-- Worked examples: the language that an extension is, the refusals of forms that two checks refuse, those of lists that would ask Racket, and
+-- contexts from a nonterminal to itself.
 use Rattle.std.specs.Prelude.{◌≡◌, ℕ, ◌+◌, true, List, [], ◌∷◌, Some, None, codes}
 use Rattle.rdx_base.specs.declared.place.Span.{Span}
 use Rattle.rdx_sexp.specs.Sexp.{symbol, truth, Sexp, leaf, list, sexps}
-use Rattle.rdx_lang.specs.Patterns.{of_kind, Language}
+use Rattle.rdx_lang.specs.Patterns.{of_kind, nt, named, in_hole, Language}
 use Rattle.rdx_lang.specs.declared.pattern.Kind.TheVariants.{Any, Number, Text, Boolean}
-use Rattle.rdx_lang.specs.declared.pattern.Ref.TheVariants.{Nt}
+use Rattle.rdx_lang.specs.declared.pattern.Ref.TheVariants.{Nt, Cross}
 use Rattle.rdx_grammar.specs.Forms.{language_form, extension_form}
 use Rattle.rdx_grammar.specs.Languages.{empty_language}
 use Rattle.rdx_grammar.specs.PatternRefusal.{pattern_refusal}
+use Rattle.rdx_grammar.specs.Reading.{reading}
 use Rattle.rdx_grammar.specs.Refusal.{Refusal}
 use Rattle.rdx_grammar.specs.Refused.{IsLanguage, IsRefused}
-use Rattle.rdx_grammar.specs.declared.shape.fault.DefKind.TheVariants.{Duplicate, LeftRecursive, RacketEscape}
+use Rattle.rdx_grammar.specs.declared.patterns.position.Position.TheVariants.{Query}
+use Rattle.rdx_grammar.specs.declared.shape.fault.DefKind.TheVariants.{Duplicate, BadPattern, LeftRecursive, RacketEscape}
 
 -- a symbol, and a list
 abbrev pub word : Span → List ℕ → Sexp
@@ -109,4 +112,35 @@ conditioned_loop =
 abbrev pub RecursionFirst : Type 0
 RecursionFirst =
     IsRefused empty_language conditioned_loop (language_form conditioned_loop)
+    (record { kind = LeftRecursive; place = record { line = 1; column = 1 }; name = Some (codes "e") })
+
+-- ---- contexts from a nonterminal to itself
+
+-- `(in-hole (cross x) e)`, from one column on, for a name x of one letter
+abbrev pub split_across : ℕ → List ℕ → Sexp
+split_across n x =
+    group (columns n (n + 21)) (word (columns (n + 1) (n + 8)) (codes "in-hole")
+    ∷ group (columns (n + 9) (n + 18)) (word (columns (n + 10) (n + 15)) (codes "cross") ∷ word (columns (n + 16) (n + 17)) x ∷ [])
+    ∷ word (columns (n + 19) (n + 20)) (codes "e") ∷ [])
+
+-- Over a nonterminal `e`, `(in-hole (cross e) e)` splits a term into a context that leads from an e to an e, which has no name, and what stands there.
+abbrev pub ReadsAcross : Type 0
+ReadsAcross = reading (codes "e" ∷ []) Query (split_across 1 (codes "e")) ≡ in_hole (nt (Cross (codes "e") (codes "e"))) (named (codes "e") (nt (Nt (codes "e"))))
+
+-- `(cross f)` means nothing there: the list itself is refused.
+abbrev pub NoSuchEnd : Type 0
+NoSuchEnd =
+    pattern_refusal (codes "e" ∷ []) (split_across 1 (codes "f"))
+    ≡ Some (record { kind = BadPattern; place = record { line = 1; column = 10 }; name = None })
+
+-- `(define-language L (e (in-hole (cross e) e)))`
+abbrev pub crossed_loop : Sexp
+crossed_loop =
+    group (columns 1 46) (word (columns 2 17) (codes "define-language") ∷ word (columns 18 19) (codes "L")
+    ∷ group (columns 20 45) (word (columns 21 22) (codes "e") ∷ split_across 23 (codes "e") ∷ []) ∷ [])
+
+-- The hole is a context from an e to an e, so `e` is left-recursive by what stands in it.
+abbrev pub CrossesLoop : Type 0
+CrossesLoop =
+    IsRefused empty_language crossed_loop (language_form crossed_loop)
     (record { kind = LeftRecursive; place = record { line = 1; column = 1 }; name = Some (codes "e") })

@@ -1,5 +1,5 @@
 -- The heads and roles that values of the code stand for.
-use Rattle.rdx_grammar.specs.Heads.{Head, naming, avoiding, prefixing, splitting, hiding, escaping, plain, Role, word, bound, spelt, pattern, ellipsis, unread, Roles, done, item, every, patterns, repeatable}
+use Rattle.rdx_grammar.specs.Heads.{Head, naming, avoiding, prefixing, splitting, hiding, crossing, escaping, plain, Role, word, bound, spelt, pattern, ellipsis, unread, Roles, done, item, every, patterns, repeatable}
 use Rattle.rdx_grammar.specs.declared.patterns.heads.Head as code_head
 use Rattle.rdx_grammar.specs.declared.patterns.heads.Head.TheVariants as heads
 use Rattle.rdx_grammar.specs.declared.patterns.heads.Role as code_role
@@ -14,6 +14,7 @@ head_view heads.Avoiding = avoiding
 head_view heads.Prefixing = prefixing
 head_view heads.Splitting = splitting
 head_view heads.Hiding = hiding
+head_view heads.Crossing = crossing
 head_view heads.Escaping = escaping
 head_view heads.Plain = plain
 

@@ -17,6 +17,8 @@ pub data Head : Type 0 where
   splitting : Head
   -- `(hide-hole p)`
   hiding : Head
+  -- `(cross e)`
+  crossing : Head
   -- a list headed by `unquote` or `side-condition`, which would ask Racket
   escaping : Head
   -- every other list, item by item
@@ -30,6 +32,7 @@ head_of x =
     else if bytes_eq x (codes "variable-prefix") then prefixing
     else if bytes_eq x (codes "in-hole") then splitting
     else if bytes_eq x (codes "hide-hole") then hiding
+    else if bytes_eq x (codes "cross") then crossing
     else if bytes_eq x (codes "unquote") then escaping
     else if bytes_eq x (codes "side-condition") then escaping
     else plain
@@ -47,7 +50,7 @@ pub data Role : Type 0 where
   word : Role
   -- a symbol that is bound
   bound : Role
-  -- a symbol other than `hole` that stands for symbols: itself, or all that begin so
+  -- a symbol other than `hole` that stands for no pattern of its own: for itself, for all that begin so, or for a nonterminal by its name
   spelt : Role
   -- a pattern
   pattern : Role
@@ -76,6 +79,7 @@ roles_of avoiding = item word (every spelt)
 roles_of prefixing = item word (item spelt done)
 roles_of splitting = item word (item pattern (item pattern done))
 roles_of hiding = item word (item pattern done)
+roles_of crossing = item word (item spelt done)
 roles_of escaping = item word (every unread)
 roles_of plain = patterns
 

@@ -7,5 +7,6 @@ pub mod AreNames
 pub mod BoundView
 pub mod CheckedForms
 pub mod Adding
+pub mod Among
 pub mod Slots
 pub mod CrossesTo

@@ -1,6 +1,7 @@
 -- The language that a form stands for, over a base whose nonterminals it extends; a form that defines a language by itself has an empty base.
 use Rattle.std.specs.Prelude.{ℕ, List, [], ◌∷◌, ◌++◌, Option, Some, None, map, codes, if◌then◌else◌}
 use Rattle.rdx_sexp.specs.Sexp.{Sexp}
+use Rattle.rdx_lang.specs.Crosses.{completed, without_crosses}
 use Rattle.rdx_lang.specs.Lookup.{alternatives_of}
 use Rattle.rdx_lang.specs.Patterns.{Pattern, Language}
 use Rattle.rdx_lang.specs.Patterns as model
@@ -38,6 +39,13 @@ definitions_of base ns (d ∷ ds) = defined_by base ns (definition_in d) ++ defi
 abbrev pub empty_language : Language
 empty_language = record { name = []; nonterminals = [] }
 
--- the language of these parts over a base
+-- the definitions of these parts, behind those of the base that are of no cross nonterminal
+abbrev pub written_over : Language → GrammarForm → Language
+written_over base g = record {
+  name = text_of g.name;
+  nonterminals = extended (without_crosses base) (definitions_of base (all_names base g.definitions) g.definitions);
+}
+
+-- the language of these parts over a base: with the cross nonterminals that its own alternatives need, of which it takes over none
 abbrev pub language_over : Language → GrammarForm → Language
-language_over base g = record { name = text_of g.name; nonterminals = extended base (definitions_of base (all_names base g.definitions) g.definitions) }
+language_over base g = completed (written_over base g)

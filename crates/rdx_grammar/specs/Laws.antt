@@ -3,12 +3,16 @@ use Rattle.std.specs.Prelude.{◌≡◌, ◌⊎◌, ℕ, ◌+◌, List, [], ◌�
 use Rattle.rdx_sexp.specs.Sexp.{Sexp, Sexps, leaf, list, nil, cons}
 use Rattle.rdx_sexp.specs.Size.{IsSpelledSexp}
 use Rattle.rdx_lang.specs.Checked.{pattern_in}
+use Rattle.rdx_lang.specs.Edges.{IsFirstRecursive}
 use Rattle.rdx_lang.specs.Patterns.{Pattern, wild, of_kind, except, prefix, hole, lit, nt, named, in_hole, hide_hole, closed, seq, Items, Language}
 use Rattle.rdx_lang.specs.Patterns as model
 use Rattle.rdx_lang.specs.declared.checked.CheckedPat.{CheckedPat}
+use Rattle.rdx_lang.specs.declared.pattern.Ref.{Ref}
+use Rattle.rdx_lang.specs.declared.pattern.Ref.TheVariants.{Nt}
 use Rattle.rdx_grammar.specs.Answers.{ReadsPattern}
 use Rattle.rdx_grammar.specs.Forms.{GrammarForm}
-use Rattle.rdx_grammar.specs.Occurrences.{Occurrence, key, binder, single, repeats, excepted, malformed, escape, occurrences}
+use Rattle.rdx_grammar.specs.Languages.{language_over}
+use Rattle.rdx_grammar.specs.Occurrences.{Occurrence, key, binder, single, repeats, excepted, across, malformed, escape, occurrences}
 use Rattle.rdx_grammar.specs.Parts.{text_of}
 use Rattle.rdx_grammar.specs.PatternRefusal.{pattern_refusal}
 use Rattle.rdx_grammar.specs.Reading.{reading}
@@ -31,6 +35,12 @@ OneRefusal = (base : Language) (d : Sexp) (g : Option GrammarForm) (r q : Refusa
 -- a form that is a language isn't refused
 abbrev pub NeverBothLanguage : Type 0
 NeverBothLanguage = (base : Language) (d : Sexp) (g : Option GrammarForm) (L : Language) (r : Refusal) → IsLanguage base d g L → IsRefused base d g r → ⊥
+
+-- ---- the languages of forms, over a base
+
+-- the first left-recursive nonterminal is no cross nonterminal, so it is the one that a refusal names
+abbrev pub RecursionIsPlain : Type 0
+RecursionIsPlain = (base : Language) (g : GrammarForm) (x : Ref) → IsFirstRecursive (language_over base g) x → (y : List ℕ) × (x ≡ Nt y)
 
 -- ---- patterns by themselves, over these nonterminals
 
@@ -70,6 +80,7 @@ datum_of (binder n d) = d
 datum_of (single n d) = d
 datum_of (repeats n d) = d
 datum_of (excepted d) = d
+datum_of (across d) = d
 datum_of (malformed d) = d
 datum_of (escape d) = d
 
@@ -114,6 +125,7 @@ underscore (binder n d) = 0
 underscore (single n d) = if bytes_eq (text_of d) (codes "_") then 1 else 0
 underscore (repeats n d) = 0
 underscore (excepted d) = 0
+underscore (across d) = 0
 underscore (malformed d) = 0
 underscore (escape d) = 0
 

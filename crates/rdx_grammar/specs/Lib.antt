@@ -10,6 +10,7 @@ pub mod PatternChecks
 pub mod OccurrenceView
 pub mod Readable
 pub mod Reading
+pub mod Ends
 pub mod PatternRefusal
 pub mod Definitions
 pub mod Forms

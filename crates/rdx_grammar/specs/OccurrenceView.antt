@@ -1,7 +1,7 @@
 -- The things in patterns that values of the code stand for.
 use Rattle.std.specs.Prelude.{ℕ, List, [], ◌∷◌, Option, Some, None, map}
 use Rattle.rdx_sexp.specs.Sexp.{Sexp}
-use Rattle.rdx_grammar.specs.Occurrences.{Occurrence, key, binder, single, repeats, excepted, malformed, escape}
+use Rattle.rdx_grammar.specs.Occurrences.{Occurrence, key, binder, single, repeats, excepted, across, malformed, escape}
 use Rattle.rdx_grammar.specs.PatternChecks.{Bound}
 use Rattle.rdx_grammar.specs.declared.patterns.occurrences.Occurrence as code_occurrence
 use Rattle.rdx_grammar.specs.declared.patterns.occurrences.Occurrence.TheVariants as variants
@@ -13,6 +13,7 @@ occurrence_of (variants.Binder n d) = binder n d.now
 occurrence_of (variants.Single n d) = single n d.now
 occurrence_of (variants.Repeats n d) = repeats n d.now
 occurrence_of (variants.Excepted d) = excepted d.now
+occurrence_of (variants.Across d) = across d.now
 occurrence_of (variants.Malformed d) = malformed d.now
 occurrence_of (variants.Escape d) = escape d.now
 

@@ -2,7 +2,7 @@
 -- may bind a name also how many repetitions stand around it.
 use Rattle.std.specs.Prelude.{ℕ, suc, Bool, List, [], ◌∷◌, ◌++◌, Option, Some, None, if◌then◌else◌}
 use Rattle.rdx_sexp.specs.Sexp.{Atom, integer, truth, text, symbol, keyword, Sexp, Sexps, leaf, list, nil, cons}
-use Rattle.rdx_grammar.specs.Heads.{Head, naming, avoiding, prefixing, splitting, hiding, escaping, plain, Role, word, bound, spelt, pattern, ellipsis, unread, Roles, roles_of, head_among, next, rest, is_repeated, is_shaped}
+use Rattle.rdx_grammar.specs.Heads.{Head, naming, avoiding, prefixing, splitting, hiding, crossing, escaping, plain, Role, word, bound, spelt, pattern, ellipsis, unread, Roles, roles_of, head_among, next, rest, is_repeated, is_shaped}
 
 -- one thing that stands in a pattern
 pub data Occurrence : Type 0 where
@@ -14,8 +14,10 @@ pub data Occurrence : Type 0 where
   single : ℕ → Sexp → Occurrence
   -- the ellipsis of a repetition, which does not count as one around itself
   repeats : ℕ → Sexp → Occurrence
-  -- a symbol that `variable-except` or `variable-prefix` names
+  -- a symbol that `variable-except`, `variable-prefix` or `cross` names
   excepted : Sexp → Occurrence
+  -- a list `(cross e)`
+  across : Sexp → Occurrence
   -- a list that has not the shape that its head asks for
   malformed : Sexp → Occurrence
   -- a list that would ask Racket
@@ -59,13 +61,14 @@ role_occurrences n (Some unread) d os = keys d
 abbrev pub deeper : Bool → ℕ → ℕ
 deeper b n = if b then suc n else n
 
--- the list, where its head is one that would ask Racket
+-- the list, where its head is `cross`, or one that would ask Racket
 abbrev pub head_occurrences : Head → Sexp → List Occurrence
 head_occurrences naming d = []
 head_occurrences avoiding d = []
 head_occurrences prefixing d = []
 head_occurrences splitting d = []
 head_occurrences hiding d = []
+head_occurrences crossing d = across d ∷ []
 head_occurrences escaping d = escape d ∷ []
 head_occurrences plain d = []
 

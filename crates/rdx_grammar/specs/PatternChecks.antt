@@ -1,10 +1,10 @@
 -- The checks of a pattern, one by one: each gives all the places at which it refuses, in the order in which they stand.
 use Rattle.std.specs.Prelude.{ℕ, Bool, true, false, not, ◌&&◌, ◌||◌, List, [], ◌∷◌, ◌++◌, flat_map, codes, bytes_eq, nat_eq, if◌then◌else◌}
 use Rattle.std.specs.List.{list_any}
-use Rattle.rdx_sexp.specs.Sexp.{Sexp}
-use Rattle.rdx_grammar.specs.Kinds.{is_base}
+use Rattle.rdx_sexp.specs.Sexp.{Sexp, Sexps, leaf, list, nil, cons}
+use Rattle.rdx_grammar.specs.Kinds.{is_among, is_base}
 use Rattle.rdx_grammar.specs.Names.{is_bad_name, begins_with_dots, is_ellipsis, has_suffix, front}
-use Rattle.rdx_grammar.specs.Occurrences.{Occurrence, key, binder, single, repeats, excepted, malformed, escape}
+use Rattle.rdx_grammar.specs.Occurrences.{Occurrence, key, binder, single, repeats, excepted, across, malformed, escape}
 use Rattle.rdx_grammar.specs.Parts.{text_of, is_word}
 use Rattle.rdx_grammar.specs.declared.patterns.position.Position.{Position}
 use Rattle.rdx_grammar.specs.declared.patterns.position.Position.TheVariants.{Grammar, Query}
@@ -22,6 +22,7 @@ keyword_fault (binder n d) = []
 keyword_fault (single n d) = []
 keyword_fault (repeats n d) = []
 keyword_fault (excepted d) = []
+keyword_fault (across d) = []
 keyword_fault (malformed d) = []
 keyword_fault (escape d) = []
 
@@ -38,6 +39,7 @@ bad_binder (binder n d) = when (is_bad_name (text_of d)) d
 bad_binder (single n d) = []
 bad_binder (repeats n d) = []
 bad_binder (excepted d) = []
+bad_binder (across d) = []
 bad_binder (malformed d) = []
 bad_binder (escape d) = []
 
@@ -55,13 +57,25 @@ is_bad_symbol ns x = begins_with_dots x || (not (bytes_eq x (codes "_")) && (has
 abbrev pub is_bad_excepted : List ℕ → Bool
 is_bad_excepted x = begins_with_dots x && not (is_ellipsis x)
 
--- the datum, where it is a bad symbol, or a list without its shape
+-- the text of the second of these, where it is a symbol
+abbrev pub second_text : Sexps → List ℕ
+second_text nil = []
+second_text (cons d nil) = []
+second_text (cons d (cons e ds)) = text_of e
+
+-- the nonterminal that a list `(cross e)` names
+abbrev pub crossed_name : Sexp → List ℕ
+crossed_name (leaf a s) = []
+crossed_name (list ds s) = second_text ds
+
+-- the datum, where it is a bad symbol, a list `(cross e)` of what is none of these nonterminals, or a list without its shape
 abbrev pub bad_occurrence : List (List ℕ) → Occurrence → List Sexp
 bad_occurrence ns (key d) = []
 bad_occurrence ns (binder n d) = []
 bad_occurrence ns (single n d) = when (is_bad_symbol ns (text_of d)) d
 bad_occurrence ns (repeats n d) = []
 bad_occurrence ns (excepted d) = when (is_bad_excepted (text_of d)) d
+bad_occurrence ns (across d) = when (not (is_among ns (crossed_name d))) d
 bad_occurrence ns (malformed d) = d ∷ []
 bad_occurrence ns (escape d) = []
 
@@ -98,6 +112,7 @@ bound_by ns pos (binder n d) = bound_when true n d
 bound_by ns pos (single n d) = bound_when (binds ns pos (text_of d)) n d
 bound_by ns pos (repeats n d) = bound_when (not (is_word (codes "...") d)) n d
 bound_by ns pos (excepted d) = []
+bound_by ns pos (across d) = []
 bound_by ns pos (malformed d) = []
 bound_by ns pos (escape d) = []
 
@@ -127,6 +142,7 @@ escape_in (binder n d) = []
 escape_in (single n d) = []
 escape_in (repeats n d) = []
 escape_in (excepted d) = []
+escape_in (across d) = []
 escape_in (malformed d) = []
 escape_in (escape d) = d ∷ []
 

@@ -9,8 +9,8 @@ use Rattle.rdx_lang.specs.Patterns.{Pattern, wild, of_kind, except, prefix, hole
 use Rattle.rdx_lang.specs.PatternView.{Slot, just, repeated}
 use Rattle.rdx_lang.specs.Patterns as model
 use Rattle.rdx_lang.specs.declared.pattern.Kind.{Kind}
-use Rattle.rdx_lang.specs.declared.pattern.Ref.TheVariants.{Nt}
-use Rattle.rdx_grammar.specs.Heads.{Head, naming, avoiding, prefixing, splitting, hiding, escaping, plain, Role, word, bound, spelt, pattern, ellipsis, unread, Roles, roles_of, head_among, next, rest, is_shaped}
+use Rattle.rdx_lang.specs.declared.pattern.Ref.TheVariants.{Nt, Cross}
+use Rattle.rdx_grammar.specs.Heads.{Head, naming, avoiding, prefixing, splitting, hiding, crossing, escaping, plain, Role, word, bound, spelt, pattern, ellipsis, unread, Roles, roles_of, head_among, next, rest, is_shaped}
 use Rattle.rdx_grammar.specs.Kinds.{kind_of, is_among}
 use Rattle.rdx_grammar.specs.Names.{has_suffix, front}
 use Rattle.rdx_grammar.specs.Parts.{text_of}
@@ -171,6 +171,11 @@ abbrev pub hidden : Option Pattern → Pattern
 hidden None = wild
 hidden (Some p) = hide_hole p
 
+-- the contexts from the nonterminal of this name to itself, where there is one
+abbrev pub across_itself : Option (List ℕ) → Pattern
+across_itself None = wild
+across_itself (Some x) = nt (Cross x x)
+
 -- a list with such a head, put together from the names and the patterns among its items
 abbrev pub assembled : Head → List (List ℕ) → Items → Pattern
 assembled naming xs ps = bound_to (only xs) (only_item ps)
@@ -178,6 +183,7 @@ assembled avoiding xs ps = except xs
 assembled prefixing xs ps = prefixed (only xs)
 assembled splitting xs ps = split_by (only_items ps)
 assembled hiding xs ps = hidden (only_item ps)
+assembled crossing xs ps = across_itself (only xs)
 assembled escaping xs ps = wild
 assembled plain xs ps = seq ps
 

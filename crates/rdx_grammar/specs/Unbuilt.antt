@@ -8,7 +8,7 @@ use Rattle.rdx_grammar.specs.declared.shape.fault.DefKind.TheVariants.{Unbuilt}
 
 -- the words that forms to come are written with
 abbrev pub words_to_come : List (List ℕ)
-words_to_come = codes "context-closure" ∷ codes "compatible-closure" ∷ codes "cross" ∷ codes "with" ∷ []
+words_to_come = codes "with" ∷ []
 
 -- y stands somewhere in x
 abbrev pub occurs_in : List ℕ → List ℕ → Bool

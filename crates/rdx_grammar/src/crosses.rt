@@ -3,6 +3,10 @@
 mod adding;
 mod alternatives;
 mod checked;
+mod completion;
 mod nameless;
+mod ways;
 
-pub use checked::{add_crosses_of, cross_of};
+pub(crate) use checked::check_with_crosses;
+pub use checked::{add_crosses_for, add_crosses_of, cross_of};
+pub(crate) use completion::complete;

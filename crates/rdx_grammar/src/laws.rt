@@ -1,6 +1,7 @@
 //! Laws of the definitions: functions that do nothing, whose contracts are the laws.
 ghost use Rattle.rdx_grammar.specs.Examples.{InheritsInPlace, LeastCheckFirst, AsksInside, AsksInLanguage, RecursionFirst};
-ghost use Rattle.rdx_grammar.specs.Laws.{OneLanguage, OneRefusal, NeverBothLanguage, OnePattern, OnePatternRefusal, NeverBothPattern, NeverNeitherPattern, InOrder, WildsAreWritten};
+ghost use Rattle.rdx_grammar.specs.Examples.{ReadsAcross, NoSuchEnd, CrossesLoop};
+ghost use Rattle.rdx_grammar.specs.Laws.{OneLanguage, OneRefusal, NeverBothLanguage, RecursionIsPlain, OnePattern, OnePatternRefusal, NeverBothPattern, NeverNeitherPattern, InOrder, WildsAreWritten};
 
 /// A form over a base is one language at most.
 pub fn one_language()
@@ -15,6 +16,12 @@ pub fn one_refusal()
 /// A form that is a language isn't refused.
 pub fn never_both_language_and_refusal()
     ensures { NeverBothLanguage }
+{}
+
+/// The first left-recursive nonterminal of a language that a form stands for is no cross
+/// nonterminal.
+pub fn recursion_is_plain()
+    ensures { RecursionIsPlain }
 {}
 
 /// A datum is one pattern over given nonterminals at most, or has one refusal at most, and always one of both.
@@ -35,12 +42,15 @@ pub fn wilds_are_written()
     ensures { WildsAreWritten }
 {}
 
-/// Worked examples: the language that an extension is, the refusals of forms that two checks refuse, and those of lists that would ask
-/// Racket.
+/// Worked examples: the language that an extension is, the refusals of forms that two checks refuse, those of lists that would ask
+/// Racket, and contexts from a nonterminal to itself.
 pub fn worked_examples()
     ensures extension { InheritsInPlace }
     ensures refusal { LeastCheckFirst }
     ensures asks_inside { AsksInside }
     ensures asks_in_language { AsksInLanguage }
     ensures recursion_first { RecursionFirst }
+    ensures reads_across { ReadsAcross }
+    ensures no_such_end { NoSuchEnd }
+    ensures crosses_loop { CrossesLoop }
 {}

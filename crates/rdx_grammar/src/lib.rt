@@ -9,7 +9,7 @@
 //!
 //! A reader gives what the form means, or refuses the form at the first place of the check with the least number that refuses it. The
 //! README names the definition of each check. The modules stand on each other in this order: [`shape`] (data by their shape, names, words
-//! that are not built yet, refusals at data), patterns, languages, crosses (languages with cross nonterminals).
+//! that are not built yet, refusals at data), crosses (languages with cross nonterminals), patterns, languages.
 #![tactic(auto)]
 
 mod crosses;
@@ -18,10 +18,10 @@ pub mod laws;
 mod patterns;
 pub mod shape;
 
-pub use crosses::{add_crosses_of, cross_of};
+pub use crosses::{add_crosses_for, add_crosses_of, cross_of};
 pub use languages::{extend, read_language};
 pub use patterns::{
-    Names, Position, checks, heads, language_names, occurrences, read_pattern, readings,
+    Names, Position, checks, ends_in, heads, language_names, occurrences, read_pattern, readings,
     symbol_name,
 };
 pub use shape::{DefFault, DefKind, DefRefusal, names, refusal, unbuilt};

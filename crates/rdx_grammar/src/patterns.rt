@@ -2,6 +2,7 @@
 
 mod assembly;
 pub mod checks;
+mod ends;
 pub mod heads;
 pub(crate) mod kinds;
 pub(crate) mod names;
@@ -12,6 +13,8 @@ mod reader;
 pub mod readings;
 mod refusals;
 
+pub use ends::ends_in;
+pub(crate) use ends::known_ends;
 pub use names::{Names, symbol_name};
 pub use nonterminals::language_names;
 pub use position::Position;

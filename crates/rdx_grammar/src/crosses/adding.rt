@@ -35,8 +35,8 @@ fn cross_alternatives(
     Ok(found)
 }
 
-// Adds the cross nonterminal from the one to the other, where the definitions lack it.
-fn add_cross(
+/// Adds the cross nonterminal from the one to the other, where the definitions lack it.
+pub(crate) fn add_cross(
     alloc: Global,
     definitions: &Definitions,
     from: &Name,
@@ -73,8 +73,8 @@ fn add_crosses_to(
     Ok(())
 }
 
-// Adds those to `to`, unless its text was seen. It is seen from now on.
-fn add_crosses_once<'a>(
+/// Adds those to `to`, unless its text was seen. It is seen from now on.
+pub(crate) fn add_crosses_once<'a>(
     alloc: Global,
     definitions: &Definitions,
     to: &'a Name,

@@ -74,6 +74,7 @@ impl<'a> Model for Definitions<'a> {
 
 impl<'a> Definitions<'a> {
     ghost use Rattle.std.specs.Prelude.{IfOk, map, option_map};
+    ghost use Rattle.rdx_lang.specs.Crosses.{plain_definitions};
     ghost use Rattle.rdx_lang.specs.PatternView.{definition_of};
     ghost use Rattle.rdx_lang.specs.declared.pattern.Ref.TheVariants as refs;
     ghost use Rattle.rdx_lang.specs.Lookup.{alternatives_among};
@@ -123,6 +124,24 @@ impl<'a> Definitions<'a> {
         ensures { result ≡ is_among nonterminal.now (heads (map definition_of self.now)) }
     {
         self.find(nonterminal).is_some()
+    }
+
+    /// Whether the nonterminal of this name is defined.
+    pub(crate) fn has_name(&self, name: &str) -> bool
+        ensures { result ≡ is_among (refs.Nt name.now) (heads (map definition_of self.now)) }
+    {
+        self.find_named(name).is_some()
+    }
+
+    /// Whether the nonterminal is defined and no cross nonterminal.
+    pub(crate) fn has_plain(&self, nonterminal: &Ref) -> bool
+        ensures { result
+            ≡ is_among nonterminal.now (heads (plain_definitions (map definition_of self.now))) }
+    {
+        match nonterminal {
+            Ref::Nt(name) => self.has_name(name.text()),
+            Ref::Cross(_, _) => false,
+        }
     }
 
     /// The alternatives of the nonterminal of this name, in their order; none where it isn't

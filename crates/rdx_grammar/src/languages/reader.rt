@@ -10,6 +10,7 @@ ghost use Rattle.rdx_grammar.specs.Inside.PartViews.{parts_of};
 ghost use Rattle.rdx_grammar.specs.Languages as model;
 ghost use Rattle.rdx_grammar.specs.Readable.{IsReadable};
 
+use crate::crosses::complete;
 use crate::languages::bases::Base;
 use crate::languages::definitions::read_definitions;
 use crate::languages::extension::extended;
@@ -42,7 +43,9 @@ fn read_parts(
     let names = Names::new(alloc, &all)?;
     let new = read_definitions(alloc, base, &names, parts.definitions)?;
     let nts = extended(alloc, base, new)?;
-    Ok(Language { name, nts })
+    let mut language = Language { name, nts };
+    complete(alloc, &mut language)?;
+    Ok(language)
 }
 
 // The language of a form with these parts over a base.

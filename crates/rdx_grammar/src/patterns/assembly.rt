@@ -6,7 +6,7 @@ ghost use Rattle.rdx_grammar.specs.HeadView.{head_view};
 ghost use Rattle.rdx_grammar.specs.Reading as model;
 
 use crate::patterns::heads::Head;
-use rdx_lang::{Item, Pat};
+use rdx_lang::{Item, Pat, Ref};
 use rdx_term::{Name, NoMemory};
 use std::alloc::Global;
 
@@ -89,6 +89,16 @@ fn hidden(alloc: Global, inner: Option<Pat>) -> Result<Pat, NoMemory>
     }
 }
 
+// The contexts from the nonterminal of this name to itself, where there is one.
+fn across_itself(name: Option<Name>) -> Result<Pat, NoMemory>
+    ensures { IfOk result (λ pat. pattern_of pat ≡ model.across_itself name) }
+{
+    match name {
+        Some(name) => Ok(Pat::Nt(Ref::Cross(name.share()?, name))),
+        None => Ok(Pat::Wild),
+    }
+}
+
 /// A list with such a head, of these names and items.
 pub(crate) fn assembled(
     alloc: Global,
@@ -109,6 +119,7 @@ pub(crate) fn assembled(
         },
         Head::Splitting => split_by(alloc, only_items(items)),
         Head::Hiding => hidden(alloc, only_item(items)),
+        Head::Crossing => across_itself(only_name(names)),
         Head::Escaping => Ok(Pat::Wild),
         Head::Plain => Ok(Pat::Seq(items)),
     }

@@ -1,5 +1,6 @@
 //! The checks of a pattern one by one.
 ghost use Rattle.std.specs.Prelude.{◌≡◌, IfOk, option_map};
+ghost use Rattle.rdx_sexp.specs.Sexp.{sexps};
 ghost use Rattle.rdx_grammar.specs.Inside.AreNames.{AreNames};
 ghost use Rattle.rdx_grammar.specs.Inside.BoundView.{bound_names};
 ghost use Rattle.rdx_grammar.specs.OccurrenceView.{bounds_of, occurrence_of, occurrences_of};
@@ -13,7 +14,7 @@ use crate::patterns::position::Position;
 use crate::shape::names::{begins_with_dots, front, has_suffix, is_bad_name, is_ellipsis};
 use crate::shape::{is_word, text};
 use rdx_lang::Depths;
-use rdx_sexp::Datum;
+use rdx_sexp::{Datum, Form};
 use rdx_term::NoMemory;
 use std::alloc::Global;
 
@@ -33,6 +34,7 @@ fn keyword_fault<'a>(o: &Occurrence<'a>) -> Option<&'a Datum>
         | Occurrence::Single(_, _)
         | Occurrence::Repeats(_, _)
         | Occurrence::Excepted(_)
+        | Occurrence::Across(_)
         | Occurrence::Malformed(_)
         | Occurrence::Escape(_) => None,
     }
@@ -59,6 +61,7 @@ fn bad_binder<'a>(o: &Occurrence<'a>) -> Option<&'a Datum>
         | Occurrence::Single(_, _)
         | Occurrence::Repeats(_, _)
         | Occurrence::Excepted(_)
+        | Occurrence::Across(_)
         | Occurrence::Malformed(_)
         | Occurrence::Escape(_) => None,
     }
@@ -90,6 +93,26 @@ fn is_bad_excepted(text: &str) -> bool
     begins_with_dots(text) && !is_ellipsis(text)
 }
 
+// The text of the second of these, where it is a symbol.
+fn second_text(items: &[Datum]) -> &str
+    ensures { result.now ≡ model.second_text (sexps items.now) }
+{
+    match items {
+        [_, second, ..] => text(second),
+        _ => "",
+    }
+}
+
+// The nonterminal that a list `(cross e)` names.
+fn crossed_name(d: &Datum) -> &str
+    ensures { result.now ≡ model.crossed_name d.now }
+{
+    match &d.form {
+        Form::List(parts) => second_text(parts),
+        _ => "",
+    }
+}
+
 fn bad_occurrence<'a>(names: &Names, o: &Occurrence<'a>) -> Option<&'a Datum>
     ensures { option_map (λ d. d.now) result
         ≡ first (model.bad_occurrence names.now (occurrence_of o.now)) }
@@ -97,6 +120,7 @@ fn bad_occurrence<'a>(names: &Names, o: &Occurrence<'a>) -> Option<&'a Datum>
     match o {
         Occurrence::Single(_, d) => when(is_bad_symbol(names, text(d)), d),
         Occurrence::Excepted(d) => when(is_bad_excepted(text(d)), d),
+        Occurrence::Across(d) => when(names.find(crossed_name(d)).is_none(), d),
         Occurrence::Malformed(d) => Some(*d),
         Occurrence::Key(_)
         | Occurrence::Binder(_, _)
@@ -164,6 +188,7 @@ pub fn bound_by<'a>(
         Occurrence::Repeats(depth, d) => bound_when(!is_word(d, "..."), *depth, d),
         Occurrence::Key(_)
         | Occurrence::Excepted(_)
+        | Occurrence::Across(_)
         | Occurrence::Malformed(_)
         | Occurrence::Escape(_) => None,
     }
@@ -180,6 +205,7 @@ fn escape_in<'a>(o: &Occurrence<'a>) -> Option<&'a Datum>
         | Occurrence::Single(_, _)
         | Occurrence::Repeats(_, _)
         | Occurrence::Excepted(_)
+        | Occurrence::Across(_)
         | Occurrence::Malformed(_) => None,
     }
 }

@@ -22,6 +22,8 @@ pub enum Head {
     Splitting,
     /// `(hide-hole p)`
     Hiding,
+    /// `(cross e)`
+    Crossing,
     /// a list headed by `unquote` or `side-condition`, which would ask Racket
     Escaping,
     /// every other list, item by item
@@ -35,7 +37,7 @@ pub enum Role {
     Word,
     /// A symbol that is bound.
     Bound,
-    /// A symbol other than `hole` that stands for symbols.
+    /// A symbol other than `hole` that stands for symbols, or for a nonterminal by its name.
     Spelt,
     /// A pattern.
     Pattern,
@@ -76,6 +78,7 @@ fn head_of(text: &str) -> Head
         "variable-prefix" => Head::Prefixing,
         "in-hole" => Head::Splitting,
         "hide-hole" => Head::Hiding,
+        "cross" => Head::Crossing,
         "unquote" | "side-condition" => Head::Escaping,
         _ => Head::Plain,
     }
@@ -101,7 +104,7 @@ pub fn roles_of(head: Head) -> Roles
     match head {
         Head::Naming => Roles::Three(Role::Word, Role::Bound, Role::Pattern),
         Head::Avoiding => Roles::OneAndEvery(Role::Word, Role::Spelt),
-        Head::Prefixing => Roles::Two(Role::Word, Role::Spelt),
+        Head::Prefixing | Head::Crossing => Roles::Two(Role::Word, Role::Spelt),
         Head::Splitting => Roles::Three(Role::Word, Role::Pattern, Role::Pattern),
         Head::Hiding => Roles::Two(Role::Word, Role::Pattern),
         Head::Escaping => Roles::OneAndEvery(Role::Word, Role::Unread),

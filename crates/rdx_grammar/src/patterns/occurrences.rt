@@ -24,8 +24,10 @@ pub enum Occurrence<'a> {
     Single(usize, &'a Datum),
     /// The ellipsis of a repetition.
     Repeats(usize, &'a Datum),
-    /// A symbol that `variable-except` or `variable-prefix` names.
+    /// A symbol that `variable-except`, `variable-prefix` or `cross` names.
     Excepted(&'a Datum),
+    /// A list `(cross e)`.
+    Across(&'a Datum),
     /// A list that has not the shape that its head asks for.
     Malformed(&'a Datum),
     /// A list that would ask Racket.
@@ -78,13 +80,14 @@ fn deeper(repeated: bool, depth: usize) -> usize
     if repeated { depth + 1 } else { depth }
 }
 
-// Adds the list with this head, where it would ask Racket.
+// Adds the list with this head, where it is `(cross e)` or would ask Racket.
 fn add_head<'a>(head: Head, d: &'a Datum, out: &mut Vec<Occurrence<'a>>) -> Result<(), NoMemory>
     ensures { IfOk result (λ _.
         occurrences_of out.new.items
         ≡ occurrences_of out.old.items ++ model.head_occurrences (head_view head) d.now) }
 {
     match head {
+        Head::Crossing => Ok(out.push(Occurrence::Across(d))?),
         Head::Escaping => Ok(out.push(Occurrence::Escape(d))?),
         Head::Naming
         | Head::Avoiding

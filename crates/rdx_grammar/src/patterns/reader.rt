@@ -1,10 +1,13 @@
 // Patterns outside grammars.
-ghost use Rattle.std.specs.Prelude.{◌≡◌, IfOk};
+ghost use Rattle.std.specs.Prelude.{◌≡◌, IfOk, OnOk, OnErr};
 ghost use Rattle.rdx_lang.specs.Checked.{language_in};
 ghost use Rattle.rdx_grammar.specs.Answers.{IsWellFormedIn, ReadsPattern};
+ghost use Rattle.rdx_grammar.specs.Ends.{crossed_for, ends_in};
 ghost use Rattle.rdx_grammar.specs.Nonterminals.{names_of};
 ghost use Rattle.rdx_grammar.specs.Readable.{IsReadable};
 
+use crate::crosses::check_with_crosses;
+use crate::patterns::ends::{ends_in, known_ends};
 use crate::patterns::names::Names;
 use crate::patterns::nonterminals::language_names;
 use crate::patterns::position::Position;
@@ -15,7 +18,8 @@ use rdx_lang::{CheckedLang, CheckedPat};
 use rdx_sexp::Datum;
 use std::alloc::Global;
 
-/// The pattern of a datum outside grammars, over a language.
+/// The pattern of a datum outside grammars, over a language. Where the pattern speaks of cross
+/// nonterminals, the language gains all to the same ends.
 pub fn read_pattern(
     alloc: Global,
     language: &mut CheckedLang,
@@ -23,7 +27,9 @@ pub fn read_pattern(
 ) -> Result<CheckedPat, DefFault>
     requires { IsReadable d.now }
     ensures reads { ReadsPattern (names_of (language_in language.old)) d.now result }
-    ensures same { language_in language.new ≡ language_in language.old }
+    ensures gains { OnOk result
+        (language_in language.new ≡ crossed_for (ends_in d.now) (language_in language.old)) }
+    ensures same { OnErr result (language_in language.new ≡ language_in language.old) }
     ensures well_formed { IfOk result (λ c. IsWellFormedIn (language_in language.new) c) }
 {
     let all = language_names(alloc, language)?;
@@ -32,8 +38,7 @@ pub fn read_pattern(
         return Err(DefFault::Refused(refusal));
     }
     let pattern = read_datum(alloc, &names, Position::Query, d)?;
-    match CheckedPat::new(alloc, language, pattern)? {
-        Some(pattern) => Ok(pattern),
-        None => unreachable!(),
-    }
+    let asked = ends_in(alloc, d)?;
+    let ends = known_ends(alloc, &names, &asked)?;
+    Ok(check_with_crosses(alloc, language, &ends, pattern)?)
 }

@@ -94,8 +94,8 @@ fn name_of(d: &Datum) -> Result<Option<Name>, NoMemory>
     }
 }
 
-// Puts the name that a symbol is, where it is one, behind those that are there.
-fn add_name(d: &Datum, out: &mut Vec<Name>) -> Result<(), NoMemory>
+/// Puts the name that a symbol is, where it is one, behind those that are there.
+pub(crate) fn add_name(d: &Datum, out: &mut Vec<Name>) -> Result<(), NoMemory>
     ensures { OnOk result (out.new.items ≡ out.old.items ++ model.name_in d.now) }
 {
     match name_of(d)? {

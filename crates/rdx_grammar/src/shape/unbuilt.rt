@@ -10,10 +10,7 @@ use rdx_sexp::{Datum, Form};
 fn is_form_word(text: &str) -> bool
     ensures { result ≡ is_one_of unbuilt.words_to_come text.now }
 {
-    matches!(
-        text,
-        "context-closure" | "compatible-closure" | "cross" | "with"
-    )
+    text == "with"
 }
 
 // Whether this is a name that stands for different terms wherever it comes.

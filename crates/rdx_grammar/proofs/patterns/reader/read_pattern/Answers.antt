@@ -1,36 +1,34 @@
-use Rattle.std.proofs.Common.{◌≡◌, true, false, None, subst, ap, sym, ◌∙◌}
+use Rattle.std.proofs.Common.{◌≡◌, ℕ, List, None, ap, sym, ◌∙◌}
 use Rattle.std.specs.Prelude.{option_map}
-use Rattle.std.specs.Option.{IfNone, IfSome}
 use Rattle.rdx_lang.specs.Checked.{language_in, pattern_in}
-use Rattle.rdx_lang.specs.Depths.{has_fitting_names}
+use Rattle.rdx_lang.specs.Crosses.{with_crosses_to}
+use Rattle.rdx_lang.specs.Patterns.{Pattern, Language}
 use Rattle.rdx_lang.specs.PatternView.{pattern_of}
-use Rattle.rdx_lang.specs.WellFormed.{is_well_formed, has_known_nonterminals, defined}
+use Rattle.rdx_lang.specs.WellFormed.{is_well_formed_in}
+use Rattle.rdx_grammar.specs.Ends.{ends_in, known_ends, crossed_for}
 use Rattle.rdx_grammar.specs.Nonterminals.{names_of}
 use Rattle.rdx_grammar.specs.PatternRefusal.{pattern_refusal}
 use Rattle.rdx_grammar.specs.Reading.{reading}
 use Rattle.rdx_grammar.specs.Refusal.{refusal_of}
 use Rattle.rdx_grammar.specs.declared.patterns.position.Position.TheVariants.{Query}
-use Rattle.rdx_grammar.proofs.Booleans.{and_both}
-use Rattle.rdx_grammar.proofs.FittingNames.{fitting-pattern}
-use Rattle.rdx_grammar.proofs.WellRead.{reading_known}
+use Rattle.rdx_grammar.proofs.KnownReadings.{pattern_well_formed}
 use Rattle.rdx_grammar.proofs.patterns.reader.read_pattern.Goals as goal
 
-pub unreachable-requires : goal.unreachable-requires
-unreachable-requires c =
+pub check_with_crosses-requires : goal.check_with_crosses-requires
+check_with_crosses-requires c =
     let L = language_in c.args.language.now in
     let d = c.args.d.now in
-    let p = pattern_of c.in_ok-pattern.pattern in
     let n0 : c.in_ok-all.all.items ≡ names_of L = c.in_ok-all.ensures in
     let m : c.in_ok-names.names ≡ c.deref.result.now = c.in_ok-names.ensures in
     let n : c.in_ok-names.names ≡ names_of L = cc in
     let r : option_map refusal_of c.in_ok-refusal.field-0 ≡ pattern_refusal c.in_ok-names.names d = c.in_ok-refusal.ensures in
     let o : pattern_refusal (names_of L) d ≡ None = ap (λ xs. pattern_refusal xs d) (sym n) ∙ sym r ∙ ap (option_map refusal_of) c.in_default.is in
-    let e : p ≡ reading (names_of L) Query d = c.in_ok-pattern.ensures ∙ ap (λ xs. reading xs Query d) n in
-    let w : is_well_formed (defined L) p ≡ true =
-    ap (is_well_formed (defined L)) e
-    ∙ and_both (has_known_nonterminals (defined L) (reading (names_of L) Query d)) (has_fitting_names (reading (names_of L) Query d)) (reading_known (defined L) Query d) (fitting-pattern (names_of L) d c.requires o) in
-    let f = subst (λ o. IfNone o (is_well_formed (defined L) p ≡ false)) c.in-None.is c.in_ok-pattern-2.ensures.none in
-    cc
+    let e : pattern_of c.in_ok-pattern.pattern ≡ reading (names_of L) Query d = c.in_ok-pattern.ensures ∙ ap (λ xs. reading xs Query d) n in
+    let a : c.deref-2.result.now ≡ ends_in d = c.deref-2.ensures.value ∙ c.in_ok-asked.ensures in
+    let f : c.deref-3.result.now ≡ known_ends (names_of L) (ends_in d) = c.deref-3.ensures.value ∙ c.in_ok-ends.ensures ∙ λ i. known_ends (n i) (a i) in
+    ap (λ (es : List (List ℕ)). is_well_formed_in (with_crosses_to L es) (pattern_of c.in_ok-pattern.pattern)) f
+    ∙ ap (is_well_formed_in (crossed_for (ends_in d) L)) e
+    ∙ pattern_well_formed L (ends_in d) d c.requires (λ x i. i) o
 
 pub returns-in-Some-clause-reads : goal.returns-in-Some-clause-reads
 returns-in-Some-clause-reads c =
@@ -49,6 +47,36 @@ returns-clause-reads c =
     let m : c.in_ok-names.names ≡ c.deref.result.now = c.in_ok-names.ensures in
     let n : c.in_ok-names.names ≡ ns = cc in
     let r : option_map refusal_of c.in_ok-refusal.field-0 ≡ pattern_refusal c.in_ok-names.names d = c.in_ok-refusal.ensures in
-    let p : pattern_in c.in-Some-2.pattern ≡ pattern_of c.in_ok-pattern.pattern = subst (λ o. IfSome o (λ x. pattern_in x ≡ pattern_of c.in_ok-pattern.pattern)) c.in-Some-2.is c.in_ok-pattern-2.ensures.same in
-    let e : pattern_in c.in-Some-2.pattern ≡ reading ns Query d = p ∙ c.in_ok-pattern.ensures ∙ ap (λ xs. reading xs Query d) n in
+    let e : pattern_in c.in_ok-check_with_crosses.field-0 ≡ reading ns Query d =
+    c.in_ok-check_with_crosses.ensures.pattern ∙ c.in_ok-pattern.ensures ∙ ap (λ xs. reading xs Query d) n in
     (ap (λ xs. pattern_refusal xs d) (sym n) ∙ sym r ∙ ap (option_map refusal_of) c.in_default.is, e)
+
+pub returns-clause-well_formed : goal.returns-clause-well_formed
+returns-clause-well_formed c =
+    let L = language_in c.args.language.now in
+    let d = c.args.d.now in
+    let n0 : c.in_ok-all.all.items ≡ names_of L = c.in_ok-all.ensures in
+    let m : c.in_ok-names.names ≡ c.deref.result.now = c.in_ok-names.ensures in
+    let n : c.in_ok-names.names ≡ names_of L = cc in
+    let r : option_map refusal_of c.in_ok-refusal.field-0 ≡ pattern_refusal c.in_ok-names.names d = c.in_ok-refusal.ensures in
+    let o : pattern_refusal (names_of L) d ≡ None = ap (λ xs. pattern_refusal xs d) (sym n) ∙ sym r ∙ ap (option_map refusal_of) c.in_default.is in
+    let e : pattern_in c.in_ok-check_with_crosses.field-0 ≡ reading (names_of L) Query d =
+    c.in_ok-check_with_crosses.ensures.pattern ∙ c.in_ok-pattern.ensures ∙ ap (λ xs. reading xs Query d) n in
+    let a : c.deref-2.result.now ≡ ends_in d = c.deref-2.ensures.value ∙ c.in_ok-asked.ensures in
+    let f : c.deref-3.result.now ≡ known_ends (names_of L) (ends_in d) = c.deref-3.ensures.value ∙ c.in_ok-ends.ensures ∙ λ i. known_ends (n i) (a i) in
+    let g : language_in c.check_with_crosses.new.language ≡ crossed_for (ends_in d) L =
+    c.in_ok-check_with_crosses.ensures.added ∙ ap (λ (es : List (List ℕ)). with_crosses_to L es) f in
+    ap (λ (M : Language). is_well_formed_in M (pattern_in c.in_ok-check_with_crosses.field-0)) g
+    ∙ ap (λ (p : Pattern). is_well_formed_in (crossed_for (ends_in d) L) p) e
+    ∙ pattern_well_formed L (ends_in d) d c.requires (λ x i. i) o
+
+pub returns-clause-gains : goal.returns-clause-gains
+returns-clause-gains c =
+    let L = language_in c.args.language.now in
+    let d = c.args.d.now in
+    let n0 : c.in_ok-all.all.items ≡ names_of L = c.in_ok-all.ensures in
+    let m : c.in_ok-names.names ≡ c.deref.result.now = c.in_ok-names.ensures in
+    let n : c.in_ok-names.names ≡ names_of L = cc in
+    let a : c.deref-2.result.now ≡ ends_in d = c.deref-2.ensures.value ∙ c.in_ok-asked.ensures in
+    let f : c.deref-3.result.now ≡ known_ends (names_of L) (ends_in d) = c.deref-3.ensures.value ∙ c.in_ok-ends.ensures ∙ λ i. known_ends (n i) (a i) in
+    c.in_ok-check_with_crosses.ensures.added ∙ ap (λ (es : List (List ℕ)). with_crosses_to L es) f
