@@ -20,7 +20,7 @@ use Rattle.rdx_defs.specs.Headed.{Headed, headed}
 use Rattle.rdx_defs.specs.Inside.BareStands as bare
 use Rattle.rdx_defs.specs.Inside.BareStands.{lone_pattern}
 use Rattle.rdx_defs.specs.Inside.Branches.{Takes, one, several, each, Branch, taken_occurrences, case_branch, in_case, case_branches, domain_patterns, relation_outline, clause_branch, in_clause, own_clause, clause_branches, contract_patterns, metafunction_outline, RuleBranch, rule_branch, in_rule, rule_branches, given_patterns, option_patterns, options_patterns, judgement_outline, question_outline}
-use Rattle.rdx_defs.specs.Inside.PartsHave.{AreReadable, AreReadableSymbols, AreNames, IsReadableTaken, ArgumentsHave, PremiseHas, ExtraHas, ExtrasHave, BranchHas, BranchesHave, RuleHas, RulesHave, AloneHave, OutlineHas, BindNames, CanBind, readable, can_bind}
+use Rattle.rdx_defs.specs.Inside.PartsHave.{AreReadable, AreReadableSymbols, AreNames, IsReadableTaken, ArgumentsHave, PremiseHas, ExtraHas, ExtrasHave, BranchHas, BranchesHave, RuleHas, RulesHave, AloneHave, OutlineHas, BindNames, CanBind}
 use Rattle.rdx_defs.specs.JudgementForms.{RuleForm, rule_form, own_rule, OptionForm, JudgementForm, judgement_in, mode_form, own_mode, key_text, is_fit_option}
 use Rattle.rdx_defs.specs.JudgementStands.{rule_arguments, name_stands, missing_mode, mode_stands, contract_stands, given_stands, option_stands, options_stand}
 use Rattle.rdx_defs.specs.MetafunctionForms.{ClauseForm, clause_form, ContractForm, MetafunctionForm}
@@ -29,6 +29,7 @@ use Rattle.rdx_defs.specs.RelationStands.{domain_stands}
 use Rattle.rdx_defs.specs.Scope.{Scope, mode_of}
 use Rattle.rdx_defs.specs.StandChecks.{bad_name, bad_names}
 use Rattle.rdx_defs.specs.Stands.{Stand, misshaped, function, template, premise_arguments, misfits, is_named}
+use Rattle.rdx_defs.proofs.PartsOfForms.{wanted, bound}
 
 -- names, as they are elsewhere
 bind-names : (bs : List Bound) → AreBoundNames 4294967296 bs → BindNames bs
@@ -88,25 +89,26 @@ arguments-binders : (o : Option (List Bool)) (ds : List Sexp) → bad_names (bar
 arguments-binders None ds e = refl
 arguments-binders (Some fs) ds e = flagged-binders fs ds e
 
-module _ (S : Scope) (ns : List (List ℕ)) where
-  -- what is taken
-  can-bind : (w : Takes) → IsReadableTaken w → bad_binders (taken_occurrences w) ≡ [] → CanBind ns w
-  can-bind w r e = record {
-    readable = r;
-    names = bind-names _ (bound-are-names ns Query 4294967296 (taken_occurrences w) (taken-written w r) e);
-  }
+-- what is taken binds names
+pub can-bind : (ns : List (List ℕ)) (w : Takes) → IsReadableTaken w → bad_binders (taken_occurrences w) ≡ [] → CanBind ns w
+can-bind ns w r e = record {
+  readable = r;
+  names = bind-names _ (bound-are-names ns Query 4294967296 (taken_occurrences w) (taken-written w r) e);
+}
 
+-- Where T holds of what is taken, and R follows where none of the names that it binds may not be bound, R holds of what is taken.
+module _ (S : Scope) (T R : Takes → Type 0) (binds : (w : Takes) → T w → bad_binders (taken_occurrences w) ≡ [] → R w) where
   -- ---- extras
 
   -- arguments
-  arguments-bind : (a : Arguments) → bad_names (bare.arguments_stand a) ≡ [] → ArgumentsHave S readable a → ArgumentsHave S (can_bind ns) a
+  arguments-bind : (a : Arguments) → bad_names (bare.arguments_stand a) ≡ [] → ArgumentsHave S (wanted T) a → ArgumentsHave S (bound R) a
   arguments-bind a e h = record {
-    patterns = can-bind (each (patterns_in a)) h.patterns (arguments-binders a.flags a.items e);
+    patterns = binds (each (patterns_in a)) h.patterns (arguments-binders a.flags a.items e);
     readable = h.readable;
   }
 
   -- a premise
-  premise-binds : (d : Sexp) (o : Option Headed) → bad_names (bare.held_stands S d o) ≡ [] → PremiseHas S readable o → PremiseHas S (can_bind ns) o
+  premise-binds : (d : Sexp) (o : Option Headed) → bad_names (bare.held_stands S d o) ≡ [] → PremiseHas S (wanted T) o → PremiseHas S (bound R) o
   premise-binds d None e h = tt
   premise-binds d (Some q) e h =
       let a = premise_arguments S q in
@@ -121,8 +123,8 @@ module _ (S : Scope) (ns : List (List ℕ)) where
       (symbol-name d h.0.0 h.0.1 k.0, fresh-named ds k.1 h.1)
 
   -- an extra
-  extra-binds : (again : Bool) (d : Sexp) (e : ExtraForm) → bad_names (bare.extra_stands S again d e) ≡ [] → ExtraHas S readable e → ExtraHas S (can_bind ns) e
-  extra-binds again d (such_that p t) e h = (can-bind (one p) h.0 (none_both (bad_binders (occurrences 0 p)) [] e).0, h.1)
+  extra-binds : (again : Bool) (d : Sexp) (e : ExtraForm) → bad_names (bare.extra_stands S again d e) ≡ [] → ExtraHas S (wanted T) e → ExtraHas S (bound R) e
+  extra-binds again d (such_that p t) e h = (binds (one p) h.0 (none_both (bad_binders (occurrences 0 p)) [] e).0, h.1)
   extra-binds again d (provided t) e h = h
   extra-binds again d (confirmed t) e h = h
   extra-binds again d (holding c) e h = premise-binds c (headed c) e h
@@ -131,7 +133,7 @@ module _ (S : Scope) (ns : List (List ℕ)) where
   extra-binds again d no_extra e h = tt
 
   -- extras
-  extras-bind : (k : ExtraPlace) (again : Bool) (ds : List Sexp) → bad_names (bare.extras_stand k S again ds) ≡ [] → ExtrasHave S readable k ds → ExtrasHave S (can_bind ns) k ds
+  extras-bind : (k : ExtraPlace) (again : Bool) (ds : List Sexp) → bad_names (bare.extras_stand k S again ds) ≡ [] → ExtrasHave S (wanted T) k ds → ExtrasHave S (bound R) k ds
   extras-bind k again [] e h = tt
   extras-bind k again (d ∷ ds) e h =
       let f = both (bare.extra_stands S again d (form_at k d)) (bare.extras_stand k S (is_named again (form_at k d)) ds) e in
@@ -140,19 +142,19 @@ module _ (S : Scope) (ns : List (List ℕ)) where
   -- ---- cases and clauses
 
   -- a branch
-  branch-binds : (again : Bool) (b : Branch) → bad_names (bare.branch_stands S again b) ≡ [] → BranchHas S readable b → BranchHas S (can_bind ns) b
+  branch-binds : (again : Bool) (b : Branch) → bad_names (bare.branch_stands S again b) ≡ [] → BranchHas S (wanted T) b → BranchHas S (bound R) b
   branch-binds again b e h =
       let k = none_both (bad_binders (taken_occurrences b.takes)) (bad_names (bare.extras_stand b.place S again b.extras)) e in
-      record { takes = can-bind b.takes h.takes k.0; result = h.result; extras = extras-bind b.place again b.extras k.1 h.extras }
+      record { takes = binds b.takes h.takes k.0; result = h.result; extras = extras-bind b.place again b.extras k.1 h.extras }
 
   -- a case before others
   case-binds : (d : Sexp) (o : Option CaseForm) (bs : List Branch) → bad_names (bare.case_stands S d o) ≡ []
-      → (BranchesHave S readable bs → BranchesHave S (can_bind ns) bs) → BranchesHave S readable (in_case o ++ bs) → BranchesHave S (can_bind ns) (in_case o ++ bs)
+      → (BranchesHave S (wanted T) bs → BranchesHave S (bound R) bs) → BranchesHave S (wanted T) (in_case o ++ bs) → BranchesHave S (bound R) (in_case o ++ bs)
   case-binds d None bs e f h = f h
   case-binds d (Some c) bs e f h = (branch-binds false (case_branch c) e h.0, f h.1)
 
   -- cases
-  cases-bind : (ds : List Sexp) → bad_names (bare.cases_stand S ds) ≡ [] → BranchesHave S readable (case_branches ds) → BranchesHave S (can_bind ns) (case_branches ds)
+  cases-bind : (ds : List Sexp) → bad_names (bare.cases_stand S ds) ≡ [] → BranchesHave S (wanted T) (case_branches ds) → BranchesHave S (bound R) (case_branches ds)
   cases-bind [] e h = tt
   cases-bind (d ∷ ds) e h =
       let k = both (bare.case_stands S d (case_form d)) (bare.cases_stand S ds) e in
@@ -160,13 +162,13 @@ module _ (S : Scope) (ns : List (List ℕ)) where
 
   -- a clause before others
   clause-binds : (d : Sexp) (o : Option ClauseForm) (bs : List Branch) → bad_names (bare.clause_stands S d o) ≡ []
-      → (BranchesHave S readable bs → BranchesHave S (can_bind ns) bs) → BranchesHave S readable (in_clause o ++ bs) → BranchesHave S (can_bind ns) (in_clause o ++ bs)
+      → (BranchesHave S (wanted T) bs → BranchesHave S (bound R) bs) → BranchesHave S (wanted T) (in_clause o ++ bs) → BranchesHave S (bound R) (in_clause o ++ bs)
   clause-binds d None bs e f h = f h
   clause-binds d (Some c) bs e f h = (branch-binds true (clause_branch c) e h.0, f h.1)
 
   -- clauses
-  clauses-bind : (x : List ℕ) (ds : List Sexp) → bad_names (bare.clauses_stand S x ds) ≡ [] → BranchesHave S readable (clause_branches x ds)
-      → BranchesHave S (can_bind ns) (clause_branches x ds)
+  clauses-bind : (x : List ℕ) (ds : List Sexp) → bad_names (bare.clauses_stand S x ds) ≡ [] → BranchesHave S (wanted T) (clause_branches x ds)
+      → BranchesHave S (bound R) (clause_branches x ds)
   clauses-bind x [] e h = tt
   clauses-bind x (d ∷ ds) e h =
       let k = both (bare.clause_stands S d (own_clause x (clause_form d))) (bare.clauses_stand S x ds) e in
@@ -175,37 +177,37 @@ module _ (S : Scope) (ns : List (List ℕ)) where
   -- ---- patterns that stand by themselves
 
   -- before others
-  alone-before : (ps qs : List Sexp) → bad_names (map lone_pattern ps) ≡ [] → (AloneHave IsReadableTaken qs → AloneHave (CanBind ns) qs)
-      → AloneHave IsReadableTaken (ps ++ qs) → AloneHave (CanBind ns) (ps ++ qs)
+  alone-before : (ps qs : List Sexp) → bad_names (map lone_pattern ps) ≡ [] → (AloneHave T qs → AloneHave R qs)
+      → AloneHave T (ps ++ qs) → AloneHave R (ps ++ qs)
   alone-before [] qs e f h = f h
   alone-before (p ∷ ps) qs e f h =
       let k = none_both (bad_binders (occurrences 0 p)) (bad_names (map lone_pattern ps)) e in
-      (can-bind (one p) h.0 k.0, alone-before ps qs k.1 f h.1)
+      (binds (one p) h.0 k.0, alone-before ps qs k.1 f h.1)
 
   -- alone
-  alone-bind : (ps : List Sexp) → bad_names (map lone_pattern ps) ≡ [] → AloneHave IsReadableTaken ps → AloneHave (CanBind ns) ps
+  alone-bind : (ps : List Sexp) → bad_names (map lone_pattern ps) ≡ [] → AloneHave T ps → AloneHave R ps
   alone-bind [] e h = tt
   alone-bind (p ∷ ps) e h =
       let k = none_both (bad_binders (occurrences 0 p)) (bad_names (map lone_pattern ps)) e in
-      (can-bind (one p) h.0 k.0, alone-bind ps k.1 h.1)
+      (binds (one p) h.0 k.0, alone-bind ps k.1 h.1)
 
   -- ---- relations and metafunctions
 
   -- a relation
-  pub relation-binds : (r : RelationForm) → bad_names (bare.relation_stands S r) ≡ [] → OutlineHas S readable (relation_outline r) → OutlineHas S (can_bind ns) (relation_outline r)
+  pub relation-binds : (r : RelationForm) → bad_names (bare.relation_stands S r) ≡ [] → OutlineHas S (wanted T) (relation_outline r) → OutlineHas S (bound R) (relation_outline r)
   relation-binds r e h =
       let k = both (domain_stands r.domain) (bare.cases_stand S r.cases) e in
       record { alone = by_domain r.domain k.0 h.alone; branches = cases-bind r.cases k.1 h.branches; rules = tt; questions = tt }
     where
-      by_domain : (o : Option Sexp) → bad_names (domain_stands o) ≡ [] → AloneHave IsReadableTaken (domain_patterns o) → AloneHave (CanBind ns) (domain_patterns o)
+      by_domain : (o : Option Sexp) → bad_names (domain_stands o) ≡ [] → AloneHave T (domain_patterns o) → AloneHave R (domain_patterns o)
       by_domain None f g = tt
-      by_domain (Some p) f g = (can-bind (one p) g.0 (none_both (bad_binders (occurrences 0 p)) [] f).0, tt)
+      by_domain (Some p) f g = (binds (one p) g.0 (none_both (bad_binders (occurrences 0 p)) [] f).0, tt)
 
   -- a metafunction; where no clause has its shape there is no contract
   pub metafunction-binds : (m : MetafunctionForm) (f : Option Sexp) → (f ≡ None → m.contract ≡ None) → bad_names (bare.function_stands S m f) ≡ []
-      → OutlineHas S readable (metafunction_outline m f) → OutlineHas S (can_bind ns) (metafunction_outline m f)
+      → OutlineHas S (wanted T) (metafunction_outline m f) → OutlineHas S (bound R) (metafunction_outline m f)
   metafunction-binds m None n e h = record {
-    alone = subst (λ (o : Option ContractForm). AloneHave (CanBind ns) (contract_patterns o)) (sym (n refl)) tt;
+    alone = subst (λ (o : Option ContractForm). AloneHave R (contract_patterns o)) (sym (n refl)) tt;
     branches = clauses-bind [] m.clauses e h.branches;
     rules = tt;
     questions = tt;
@@ -219,14 +221,14 @@ module _ (S : Scope) (ns : List (List ℕ)) where
   -- ---- judgements
 
   -- the conclusion of a rule
-  conclusion-binds : (m : Option Mode) (r : RuleForm) → bad_names (bare.conclusion_stands m r) ≡ [] → ArgumentsHave S readable (rule_arguments m r)
-      → ArgumentsHave S (can_bind ns) (rule_arguments m r)
+  conclusion-binds : (m : Option Mode) (r : RuleForm) → bad_names (bare.conclusion_stands m r) ≡ [] → ArgumentsHave S (wanted T) (rule_arguments m r)
+      → ArgumentsHave S (bound R) (rule_arguments m r)
   conclusion-binds m r e h =
       arguments-bind (rule_arguments m r) (both (misfits (is_misfit m r.parts.arguments) r.conclusion r.parts.head) (bare.arguments_stand (rule_arguments m r)) e).1 h
 
   -- a rule in either layout
-  rule-binds : (m : Option Mode) (d : Sexp) (r : RuleForm) → bad_names (bare.rule_stands S m d (Some r)) ≡ [] → RuleHas S readable (rule_branch m r)
-      → RuleHas S (can_bind ns) (rule_branch m r)
+  rule-binds : (m : Option Mode) (d : Sexp) (r : RuleForm) → bad_names (bare.rule_stands S m d (Some r)) ≡ [] → RuleHas S (wanted T) (rule_branch m r)
+      → RuleHas S (bound R) (rule_branch m r)
   rule-binds m d r e h = by_test r.is_last e
     where
       premises : List Stand
@@ -236,7 +238,7 @@ module _ (S : Scope) (ns : List (List ℕ)) where
       conclusion = bare.conclusion_stands m r
 
       by_test : (b : Bool) → bad_names (if b then premises ++ name_stands r.name ++ conclusion else conclusion ++ premises ++ name_stands r.name) ≡ []
-          → RuleHas S (can_bind ns) (rule_branch m r)
+          → RuleHas S (bound R) (rule_branch m r)
       by_test true f =
           let k = both (premises ++ name_stands r.name) conclusion f in
           let l = both premises (name_stands r.name) k.0 in
@@ -248,13 +250,13 @@ module _ (S : Scope) (ns : List (List ℕ)) where
 
   -- a rule before others
   rule-before : (m : Option Mode) (d : Sexp) (o : Option RuleForm) (rs : List RuleBranch) → bad_names (bare.rule_stands S m d o) ≡ []
-      → (RulesHave S readable rs → RulesHave S (can_bind ns) rs) → RulesHave S readable (in_rule m o ++ rs) → RulesHave S (can_bind ns) (in_rule m o ++ rs)
+      → (RulesHave S (wanted T) rs → RulesHave S (bound R) rs) → RulesHave S (wanted T) (in_rule m o ++ rs) → RulesHave S (bound R) (in_rule m o ++ rs)
   rule-before m d None rs e f h = f h
   rule-before m d (Some r) rs e f h = (rule-binds m d r e h.0, f h.1)
 
   -- rules
-  rules-bind : (j : Option Sexp) (m : Option Mode) (ds : List Sexp) → bad_names (bare.rules_stand S j m ds) ≡ [] → RulesHave S readable (rule_branches j m ds)
-      → RulesHave S (can_bind ns) (rule_branches j m ds)
+  rules-bind : (j : Option Sexp) (m : Option Mode) (ds : List Sexp) → bad_names (bare.rules_stand S j m ds) ≡ [] → RulesHave S (wanted T) (rule_branches j m ds)
+      → RulesHave S (bound R) (rule_branches j m ds)
   rules-bind j m [] e h = tt
   rules-bind j m (d ∷ ds) e h =
       let k = both (bare.rule_stands S m d (own_rule j (rule_form d))) (bare.rules_stand S j m ds) e in
@@ -262,32 +264,32 @@ module _ (S : Scope) (ns : List (List ℕ)) where
 
   -- what an option gives, before other patterns
   given-binds : (m : Option Mode) (k d : Sexp) (o : Option Headed) (qs : List Sexp) → bad_names (given_stands m k d o) ≡ []
-      → (AloneHave IsReadableTaken qs → AloneHave (CanBind ns) qs) → AloneHave IsReadableTaken (given_patterns k o ++ qs) → AloneHave (CanBind ns) (given_patterns k o ++ qs)
+      → (AloneHave T qs → AloneHave R qs) → AloneHave T (given_patterns k o ++ qs) → AloneHave R (given_patterns k o ++ qs)
   given-binds m k d None qs e f h = f h
   given-binds m k d (Some q) qs e f h = by_test (is_keyword (codes "mode") k) e h
     where
       by_test : (b : Bool) → bad_names (if b then mode_stands q else contract_stands m d q) ≡ []
-          → AloneHave IsReadableTaken ((if b then [] else q.arguments) ++ qs) → AloneHave (CanBind ns) ((if b then [] else q.arguments) ++ qs)
+          → AloneHave T ((if b then [] else q.arguments) ++ qs) → AloneHave R ((if b then [] else q.arguments) ++ qs)
       by_test true g l = f l
       by_test false g l = alone-before q.arguments qs (both (misfits (is_misfit m q.arguments) d q.head) (map lone_pattern q.arguments) g).1 f l
 
   -- where it gives something
   option-binds : (m : Option Mode) (k : Sexp) (o : Option Sexp) (qs : List Sexp) → bad_names (option_stands m k o) ≡ []
-      → (AloneHave IsReadableTaken qs → AloneHave (CanBind ns) qs) → AloneHave IsReadableTaken (option_patterns k o ++ qs) → AloneHave (CanBind ns) (option_patterns k o ++ qs)
+      → (AloneHave T qs → AloneHave R qs) → AloneHave T (option_patterns k o ++ qs) → AloneHave R (option_patterns k o ++ qs)
   option-binds m k None qs e f h = f h
   option-binds m k (Some d) qs e f h = given-binds m k d (headed d) qs e f h
 
   -- where it has its shape
   option-when : (b : Bool) (m : Option Mode) (o : OptionForm) (qs : List Sexp)
-      → bad_names (if b then option_stands m o.key o.given else misshaped o.key ∷ []) ≡ [] → (AloneHave IsReadableTaken qs → AloneHave (CanBind ns) qs)
-      → AloneHave IsReadableTaken ((if b then option_patterns o.key o.given else []) ++ qs)
-      → AloneHave (CanBind ns) ((if b then option_patterns o.key o.given else []) ++ qs)
+      → bad_names (if b then option_stands m o.key o.given else misshaped o.key ∷ []) ≡ [] → (AloneHave T qs → AloneHave R qs)
+      → AloneHave T ((if b then option_patterns o.key o.given else []) ++ qs)
+      → AloneHave R ((if b then option_patterns o.key o.given else []) ++ qs)
   option-when true m o qs e f h = option-binds m o.key o.given qs e f h
   option-when false m o qs e f h = f h
 
   -- options
   options-bind : (j : Option Sexp) (m : Option Mode) (seen : List (List ℕ)) (os : List OptionForm) → bad_names (options_stand j m seen os) ≡ []
-      → AloneHave IsReadableTaken (options_patterns j seen os) → AloneHave (CanBind ns) (options_patterns j seen os)
+      → AloneHave T (options_patterns j seen os) → AloneHave R (options_patterns j seen os)
   options-bind j m seen [] e h = tt
   options-bind j m seen (o ∷ os) e h =
       let b = is_fit_option j seen o in
@@ -296,8 +298,8 @@ module _ (S : Scope) (ns : List (List ℕ)) where
       option-when b m o (options_patterns j later os) k.0 (λ g. options-bind j m later os k.1 g) h
 
   -- a judgement
-  pub judgement-binds : (d : Sexp) (f : JudgementForm) → bad_names (bare.judgement_stands S d f) ≡ [] → OutlineHas S readable (judgement_outline f)
-      → OutlineHas S (can_bind ns) (judgement_outline f)
+  pub judgement-binds : (d : Sexp) (f : JudgementForm) → bad_names (bare.judgement_stands S d f) ≡ [] → OutlineHas S (wanted T) (judgement_outline f)
+      → OutlineHas S (bound R) (judgement_outline f)
   judgement-binds d f e h =
       let options = options_stand (judgement_in f) (own_mode f) [] f.options in
       let rules = bare.rules_stand S (judgement_in f) (own_mode f) f.rules in
@@ -313,8 +315,8 @@ module _ (S : Scope) (ns : List (List ℕ)) where
   -- ---- premises by themselves
 
   -- one, and what stands behind it
-  pub question-binds : (d : Sexp) (t : Option Sexp) → bad_names (bare.question_stands S d t) ≡ [] → OutlineHas S readable (question_outline d t)
-      → OutlineHas S (can_bind ns) (question_outline d t)
+  pub question-binds : (d : Sexp) (t : Option Sexp) → bad_names (bare.question_stands S d t) ≡ [] → OutlineHas S (wanted T) (question_outline d t)
+      → OutlineHas S (bound R) (question_outline d t)
   question-binds d t e h = record {
     alone = tt;
     branches = tt;

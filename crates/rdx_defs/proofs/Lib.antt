@@ -21,7 +21,10 @@ pub mod Labels
 pub mod BareChecks
 pub mod RepeatedNames
 pub mod TrackedNames
+pub mod PartsOfForms
+pub mod InheritedParts
 pub mod ReadableParts
+pub mod AskingParts
 pub mod ArgumentLists
 pub mod BoundParts
 pub mod FormRefusals

@@ -6,6 +6,7 @@ use Rattle.rdx_sexp.specs.Sexp.{Sexp}
 use Rattle.rdx_term.specs.Spelling.{is_name}
 use Rattle.rdx_lang.specs.Patterns.{Language}
 use Rattle.rdx_lang.specs.Valid.{is_valid_clause, is_valid_contract, is_valid_metafunction, is_valid_over}
+use Rattle.rdx_grammar.specs.Ends.{ends_in, crossed_for}
 use Rattle.rdx_grammar.specs.Nonterminals.{names_of}
 use Rattle.rdx_grammar.specs.Parts.{text_of}
 use Rattle.rdx_grammar.specs.Readable.{IsReadable}
@@ -15,7 +16,7 @@ use Rattle.rdx_defs.specs.Inside.BareStands as bare_stands
 use Rattle.rdx_defs.specs.Inside.Branches.{relation_outline, clause_branches, metafunction_outline, judgement_outline, question_outline}
 use Rattle.rdx_defs.specs.Inside.BranchReadings.{branch_metafunction}
 use Rattle.rdx_defs.specs.Inside.FormRefusals.{early_refusal}
-use Rattle.rdx_defs.specs.Inside.PartsHave.{IsReadableIn, OutlineHas, can_bind, can_read}
+use Rattle.rdx_defs.specs.Inside.PartsHave.{IsReadableIn, IsReadableTaken, CanBind, OutlineHas, can_bind, can_read}
 use Rattle.rdx_defs.specs.JudgementForms.{JudgementForm, judgement_form}
 use Rattle.rdx_defs.specs.JudgementRefusal.{judgement_refusal, lone_premise_stands, premise_refusal}
 use Rattle.rdx_defs.specs.JudgementStands.{judgement_stands}
@@ -31,11 +32,18 @@ use Rattle.rdx_defs.specs.Scope.{Scope, callable}
 use Rattle.rdx_defs.specs.StandChecks.{is_bad_function, bad_names}
 use Rattle.rdx_defs.specs.Stands.{Stand}
 use Rattle.rdx_defs.proofs.BareChecks.{bare-relation, bare-function, bare-judgement, bare-question, bad_names-bare}
-use Rattle.rdx_defs.proofs.BoundParts.{relation-binds, metafunction-binds, judgement-binds, question-binds}
+use Rattle.rdx_defs.proofs.AskingParts.{AsksWithin, asks-within, TakenWithin, within-inherited, BindsWithin, binds-within}
+use Rattle.rdx_defs.proofs.BoundParts.{can-bind, relation-binds, metafunction-binds, judgement-binds, question-binds}
 use Rattle.rdx_defs.proofs.FormRefusals.{ArePassed, no-contract, early-names, relation-passed, metafunction-passed, judgement-passed, question-passed, some-function}
-use Rattle.rdx_defs.proofs.ReadableParts.{IsNamed, IsNamedIn, relation-readable, relation_outline-readable, metafunction-readable, metafunction_outline-readable, function-named, function-name, judgement-readable, mode-readable, judgement_outline-readable, question_outline-readable}
+use Rattle.rdx_defs.proofs.InheritedParts.{relation-has, relation_outline-has, metafunction-has, metafunction_outline-has, function-named, function-name, judgement-has, mode-has, judgement_outline-has, question_outline-has}
+use Rattle.rdx_defs.proofs.PartsOfForms.{IsNamed, IsNamedIn}
+use Rattle.rdx_defs.proofs.ReadableParts.{readable-inherited}
 use Rattle.rdx_defs.proofs.ValidForms.{IsGoodMetafunction, relation-good, metafunction-good}
 use Rattle.rdx_defs.proofs.ValidJudgements.{IsValidJudgement, judgement-good, IsValidQuestion, question-good}
+
+-- the language over which the parts of a form are read
+abbrev pub gained : Language → Sexp → Language
+gained L d = crossed_for (ends_in d) L
 
 -- ---- relations
 
@@ -43,16 +51,19 @@ use Rattle.rdx_defs.proofs.ValidJudgements.{IsValidJudgement, judgement-good, Is
 pub relation-early : (S : Scope) (ns : List (List ℕ)) (d : Sexp) (r : RelationForm) (ss : List Stand) → IsReadable d → relation_form d ≡ Some r
     → ss ≡ bare_stands.relation_stands S r → early_refusal ns ss ≡ None → OutlineHas S (can_bind ns) (relation_outline r)
 relation-early S ns d r ss h f q e =
-    relation-binds S ns r (early-names ns (bare_stands.relation_stands S r) (ap (early_refusal ns) (sym q) ∙ e)) (relation_outline-readable S r (relation-readable d r h f))
+    relation-binds S IsReadableTaken (CanBind ns) (can-bind ns) r (early-names ns (bare_stands.relation_stands S r) (ap (early_refusal ns) (sym q) ∙ e)) (relation_outline-has IsReadable IsReadableTaken readable-inherited S r (relation-has IsReadable IsReadableTaken readable-inherited d r h f))
 
 -- where no check refuses, its patterns are well formed, and it is valid
 pub relation-valid : (S : Scope) (L : Language) (d : Sexp) (r : RelationForm) (x : List ℕ) → IsReadable d → relation_form d ≡ Some r → relation_refusal S (names_of L) d ≡ None
-    → OutlineHas S (can_read S L (names_of L)) (relation_outline r) × (is_valid_over (callable S) (Some L) (relation_reading S (names_of L) x r) ≡ true)
+    → OutlineHas S (can_read S (gained L d) (names_of L)) (relation_outline r) × (is_valid_over (callable S) (Some (gained L d)) (relation_reading S (names_of L) x r) ≡ true)
 relation-valid S L d r x h f e =
     let ns = names_of L in
+    let ys = ends_in d in
     let k = relation-passed S ns d r f e in
+    let parts = relation-has (AsksWithin ys) (TakenWithin ys) (within-inherited ys) d r (asks-within d h) f in
+    let o = relation_outline-has (AsksWithin ys) (TakenWithin ys) (within-inherited ys) S r parts in
     let b : bad_names (bare_stands.relation_stands S r) ≡ [] = ap bad_names (sym (bare-relation S ns d r)) ∙ bad_names-bare (relation_stands S ns d (Some r)) ∙ k.names in
-    relation-good S L d r x (relation-binds S ns r b (relation_outline-readable S r (relation-readable d r h f))) k
+    relation-good S L ys d r x (relation-binds S (TakenWithin ys) (BindsWithin ys ns) (binds-within ys ns) r b o) k
 
 -- ---- metafunctions
 
@@ -60,14 +71,14 @@ relation-valid S L d r x h f e =
 pub metafunction-early : (S : Scope) (ns : List (List ℕ)) (d : Sexp) (m : MetafunctionForm) (ss : List Stand) → IsReadable d → metafunction_form d ≡ Some m
     → ss ≡ bare_stands.function_stands S m (function_in m) → early_refusal ns ss ≡ None → OutlineHas S (can_bind ns) (metafunction_outline m (function_in m))
 metafunction-early S ns d m ss h f q e =
-    metafunction-binds S ns m (function_in m) (no-contract m) (early-names ns (bare_stands.function_stands S m (function_in m)) (ap (early_refusal ns) (sym q) ∙ e))
-    (metafunction_outline-readable S m (function_in m) (metafunction-readable d m h f))
+    metafunction-binds S IsReadableTaken (CanBind ns) (can-bind ns) m (function_in m) (no-contract m) (early-names ns (bare_stands.function_stands S m (function_in m)) (ap (early_refusal ns) (sym q) ∙ e))
+    (metafunction_outline-has IsReadable IsReadableTaken readable-inherited S m (function_in m) (metafunction-has IsReadable IsReadableTaken readable-inherited d m h f))
 
 -- where no check refuses, it has a name
 pub has-function : (S : Scope) (ns : List (List ℕ)) (d : Sexp) (m : MetafunctionForm) → IsReadable d → metafunction_form d ≡ Some m → metafunction_refusal S ns d ≡ None → function_in m ≡ None → ⊥
 has-function S ns d m h f e g =
     let k = metafunction-passed S ns d m f e in
-    some-function S ns m (metafunction-readable d m h f).some g (subst (λ (o : Option Sexp). ArePassed S ns (function_stands S ns m o)) g k).shapes
+    some-function S ns m (metafunction-has IsReadable IsReadableTaken readable-inherited d m h f).some g (subst (λ (o : Option Sexp). ArePassed S ns (function_stands S ns m o)) g k).shapes
 
 -- which is a name
 named-first : (S : Scope) (ns : List (List ℕ)) (m : MetafunctionForm) (f : Sexp) → IsNamed f → ArePassed S ns (function_stands S ns m (Some f)) → IsTrue (is_name (text_of f))
@@ -75,24 +86,26 @@ named-first S ns m f h k =
     function-name f h (none_first (is_bad_function (text_of f)) f (bad_names (contract_stands m.contract ++ clauses_stand S ns (text_of f) m.clauses)) k.names).0
 
 -- what a metafunction of this name has: well-formed patterns, a name, and that it is valid
-pub record IsValidForm (S : Scope) (L : Language) (m : MetafunctionForm) (f : Sexp) : Type 0 where
-  pub good : IsGoodMetafunction S L m f
+pub record IsValidForm (S : Scope) (L : Language) (d : Sexp) (m : MetafunctionForm) (f : Sexp) : Type 0 where
+  pub good : IsGoodMetafunction S L (ends_in d) m f
   pub named : IsTrue (is_name (text_of f))
   pub reading : branch_metafunction S (names_of L) m f (clause_branches (text_of f) m.clauses) ≡ metafunction_reading S (names_of L) m
-  pub valid : is_valid_metafunction (callable S) (Some L) (metafunction_reading S (names_of L) m) ≡ true
+  pub valid : is_valid_metafunction (callable S) (Some (gained L d)) (metafunction_reading S (names_of L) m) ≡ true
 
 pub metafunction-valid : (S : Scope) (L : Language) (d : Sexp) (m : MetafunctionForm) (f : Sexp) → IsReadable d → metafunction_form d ≡ Some m → function_in m ≡ Some f
-    → metafunction_refusal S (names_of L) d ≡ None → IsValidForm S L m f
+    → metafunction_refusal S (names_of L) d ≡ None → IsValidForm S L d m f
 metafunction-valid S L d m f h g n e =
     let ns = names_of L in
-    let parts = metafunction-readable d m h g in
+    let ys = ends_in d in
+    let parts = metafunction-has (AsksWithin ys) (TakenWithin ys) (within-inherited ys) d m (asks-within d h) g in
     let k : ArePassed S ns (function_stands S ns m (Some f)) = subst (λ (o : Option Sexp). ArePassed S ns (function_stands S ns m o)) n (metafunction-passed S ns d m g e) in
     let b : bad_names (bare_stands.function_stands S m (Some f)) ≡ [] = ap bad_names (sym (bare-function S ns m (Some f))) ∙ bad_names-bare (function_stands S ns m (Some f)) ∙ k.names in
-    let o = metafunction-binds S ns m (Some f) (λ q. absurd cc) b (metafunction_outline-readable S m (Some f) parts) in
-    let good = metafunction-good S L m f o k in
+    let o = metafunction-binds S (TakenWithin ys) (BindsWithin ys ns) (binds-within ys ns) m (Some f) (λ q. absurd cc) b
+    (metafunction_outline-has (AsksWithin ys) (TakenWithin ys) (within-inherited ys) S m (Some f) parts) in
+    let good = metafunction-good S L ys m f o k in
     record {
       good = good;
-      named = named-first S ns m f (subst IsNamedIn n (function-named m parts)) k;
+      named = named-first S ns m f (subst IsNamedIn n (function-named (AsksWithin ys) (TakenWithin ys) (within-inherited ys) m parts)) k;
       reading = λ i. record {
         name = text_in (sym n i);
         language = text_of m.language;
@@ -100,7 +113,7 @@ metafunction-valid S L d m f h g n e =
         clauses = sym good.reading i;
       };
       valid =
-          and_both (is_valid_contract L (option_map (contract_reading ns) m.contract)) (list_all (is_valid_clause (callable S) L) (clauses_reading S ns m.clauses)) good.valid_contract
+          and_both (is_valid_contract (gained L d) (option_map (contract_reading ns) m.contract)) (list_all (is_valid_clause (callable S) (gained L d)) (clauses_reading S ns m.clauses)) good.valid_contract
           good.valid_clauses;
     }
 
@@ -110,17 +123,19 @@ metafunction-valid S L d m f h g n e =
 pub judgement-early : (S : Scope) (ns : List (List ℕ)) (d : Sexp) (f : JudgementForm) (ss : List Stand) → IsReadable d → judgement_form d ≡ Some f
     → ss ≡ bare_stands.judgement_stands S d f → early_refusal ns ss ≡ None → OutlineHas S (can_bind ns) (judgement_outline f)
 judgement-early S ns d f ss h g q e =
-    judgement-binds S ns d f (early-names ns (bare_stands.judgement_stands S d f) (ap (early_refusal ns) (sym q) ∙ e)) (judgement_outline-readable S f (judgement-readable d f h g))
+    judgement-binds S IsReadableTaken (CanBind ns) (can-bind ns) d f (early-names ns (bare_stands.judgement_stands S d f) (ap (early_refusal ns) (sym q) ∙ e)) (judgement_outline-has IsReadable IsReadableTaken readable-inherited S f (judgement-has IsReadable IsReadableTaken readable-inherited d f h g))
 
 -- where no check refuses
 pub judgement-valid : (S : Scope) (L : Language) (d : Sexp) (f : JudgementForm) → IsReadable d → judgement_form d ≡ Some f → judgement_refusal S (names_of L) d ≡ None
-    → IsValidJudgement S L f
+    → IsValidJudgement S L (ends_in d) f
 judgement-valid S L d f h g e =
     let ns = names_of L in
-    let parts = judgement-readable d f h g in
+    let ys = ends_in d in
+    let parts = judgement-has (AsksWithin ys) (TakenWithin ys) (within-inherited ys) d f (asks-within d h) g in
     let k = judgement-passed S ns d f g e in
     let b : bad_names (bare_stands.judgement_stands S d f) ≡ [] = ap bad_names (sym (bare-judgement S ns d f)) ∙ bad_names-bare (judgement_stands S ns d (Some f)) ∙ k.names in
-    judgement-good S L d f (mode-readable f parts) (judgement-binds S ns d f b (judgement_outline-readable S f parts)) k
+    judgement-good S L ys d f (mode-has IsReadable IsReadableTaken readable-inherited f (judgement-has IsReadable IsReadableTaken readable-inherited d f h g))
+    (judgement-binds S (TakenWithin ys) (BindsWithin ys ns) (binds-within ys ns) d f b (judgement_outline-has (AsksWithin ys) (TakenWithin ys) (within-inherited ys) S f parts)) k
 
 -- ---- premises by themselves
 
@@ -128,13 +143,16 @@ judgement-valid S L d f h g e =
 pub question-early : (S : Scope) (ns : List (List ℕ)) (d : Sexp) (t : Option Sexp) (ss : List Stand) → IsReadable d → IsReadableIn t
     → ss ≡ bare_stands.question_stands S d t → early_refusal ns ss ≡ None → OutlineHas S (can_bind ns) (question_outline d t)
 question-early S ns d t ss h r q e =
-    question-binds S ns d t (early-names ns (bare_stands.question_stands S d t) (ap (early_refusal ns) (sym q) ∙ e)) (question_outline-readable S d t h r)
+    question-binds S IsReadableTaken (CanBind ns) (can-bind ns) d t (early-names ns (bare_stands.question_stands S d t) (ap (early_refusal ns) (sym q) ∙ e)) (question_outline-has IsReadable IsReadableTaken readable-inherited S d t h r)
 
 -- where no check refuses
 pub question-valid : (S : Scope) (L : Language) (d : Sexp) (t : Option Sexp) → IsReadable d → IsReadableIn t → premise_refusal S (names_of L) d t ≡ None
-    → IsValidQuestion S L d t
+    → IsValidQuestion S L (ends_in d) d t
 question-valid S L d t h r e =
     let ns = names_of L in
+    let ys = ends_in d in
     let k = question-passed S ns d t e in
     let b : bad_names (bare_stands.question_stands S d t) ≡ [] = ap bad_names (sym (bare-question S ns d t)) ∙ bad_names-bare (lone_premise_stands S ns d t) ∙ k.names in
-    question-good S L d t (question-binds S ns d t b (question_outline-readable S d t h r)) k
+    question-good S L ys d t
+    (question-binds S (TakenWithin ys) (BindsWithin ys ns) (binds-within ys ns) d t b
+    (question_outline-has (AsksWithin ys) (TakenWithin ys) (within-inherited ys) S d t (asks-within d h) r)) k

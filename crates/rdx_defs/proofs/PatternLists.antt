@@ -10,6 +10,7 @@ use Rattle.rdx_lang.specs.Modes.{input_count, output_count, are_single}
 use Rattle.rdx_lang.specs.Patterns.{Language}
 use Rattle.rdx_lang.specs.Programs.{Mode}
 use Rattle.rdx_lang.specs.WellFormed.{defined, has_known_nonterminals, have_known_nonterminals}
+use Rattle.rdx_grammar.specs.Ends.{crossed_for}
 use Rattle.rdx_grammar.specs.Nonterminals.{names_of}
 use Rattle.rdx_grammar.specs.Occurrences.{occurrences}
 use Rattle.rdx_grammar.specs.PatternChecks.{bad_binder, bad_binders, bad_occurrence, bad_occurrences, bound_by, all_bound, depth_clashes}
@@ -19,14 +20,16 @@ use Rattle.rdx_grammar.proofs.Booleans.{and_both}
 use Rattle.rdx_grammar.proofs.DepthsRead.{bound_use, reading-makes}
 use Rattle.rdx_grammar.proofs.Firsts.{none_both}
 use Rattle.rdx_grammar.proofs.PassedPatterns.{are-passed, pattern-written, bound-are-names}
-use Rattle.rdx_grammar.proofs.WellRead.{reading_known}
+use Rattle.rdx_grammar.proofs.KnownReadings.{pattern_known}
 use Rattle.rdx_defs.specs.Arguments.{data_at}
 use Rattle.rdx_defs.specs.ExtraReading.{items_reading, list_reading}
 use Rattle.rdx_defs.specs.Inside.Branches.{each}
 use Rattle.rdx_defs.specs.Inside.PartsHave.{AreReadable}
 use Rattle.rdx_defs.specs.Stands.{bound_by_patterns, bound_in}
+use Rattle.rdx_defs.proofs.AskingParts.{AsksWithin}
 use Rattle.rdx_defs.proofs.AgreeingUses.{agree-all, all-shallow}
 use Rattle.rdx_defs.proofs.BoundParts.{taken-written}
+use Rattle.rdx_defs.proofs.PartsOfForms.{Each}
 
 -- ---- how many there are
 
@@ -97,8 +100,15 @@ module _ (ns : List (List ℕ)) where
       (and_both (all_agree (map bound_use bs)) (list_all is_shallow (map bound_use bs)) (agree-all [] bs g) (all-shallow bs (bound-are-names ns Query 4294967296 os (taken-written (each ds) r) e))) in
       and_both (has_one_depth_each p) (closed_parts_fit p) one m.1
 
--- its nonterminals are those of the language
-pub each-known : (L : Language) (ds : List Sexp) → have_known_nonterminals (defined L) (items_reading (names_of L) ds) ≡ true
-each-known L [] = refl
-each-known L (d ∷ ds) =
-    and_both (has_known_nonterminals (defined L) (reading (names_of L) Query d)) (have_known_nonterminals (defined L) (items_reading (names_of L) ds)) (reading_known (defined L) Query d) (each-known L ds)
+-- where no check refuses them, its nonterminals are those of a language that has gained what they ask for
+pub each-known : (L : Language) (es : List (List ℕ)) (ds : List Sexp) → Each (AsksWithin es) ds
+    → bad_occurrences (names_of L) (flat_map (occurrences 0) ds) ≡ [] → have_known_nonterminals (defined (crossed_for es L)) (items_reading (names_of L) ds) ≡ true
+each-known L es [] r f = refl
+each-known L es (d ∷ ds) r f =
+    let ns = names_of L in
+    let xs = defined (crossed_for es L) in
+    let os = occurrences 0 d in
+    let qs = flat_map (occurrences 0) ds in
+    let b = none_both (bad_occurrences ns os) (bad_occurrences ns qs) (sym (flat_map-append (bad_occurrence ns) os qs) ∙ f) in
+    and_both (has_known_nonterminals xs (reading ns Query d)) (have_known_nonterminals xs (items_reading ns ds)) (pattern_known L es d b.0 r.0.ends)
+    (each-known L es ds r.1 b.1)

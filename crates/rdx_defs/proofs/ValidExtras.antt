@@ -14,6 +14,7 @@ use Rattle.rdx_lang.specs.Programs.{Mode, holds}
 use Rattle.rdx_lang.specs.Scopes.{bound_by, extras_uses}
 use Rattle.rdx_lang.specs.Valid.{is_used, is_valid_extra, are_valid_extras}
 use Rattle.rdx_lang.specs.WellFormed.{defined, has_known_nonterminals, have_known_nonterminals, is_well_formed_in}
+use Rattle.rdx_grammar.specs.Ends.{crossed_for}
 use Rattle.rdx_grammar.specs.Heads.{patterns as items_of_list}
 use Rattle.rdx_grammar.specs.Names.{is_bad_name, begins_with_dots}
 use Rattle.rdx_grammar.specs.Nonterminals.{names_of}
@@ -29,22 +30,24 @@ use Rattle.rdx_grammar.proofs.DepthsRead.{bound_use, reading-makes, items-make}
 use Rattle.rdx_grammar.proofs.Firsts.{none_first}
 use Rattle.rdx_grammar.proofs.FittingNames.{fitting-reading, fitting-items}
 use Rattle.rdx_grammar.proofs.PassedPatterns.{are-passed}
-use Rattle.rdx_grammar.proofs.WellRead.{reading_known, items_known}
+use Rattle.rdx_grammar.proofs.KnownReadings.{pattern_known, items_known_to}
 use Rattle.rdx_defs.specs.Arguments.{is_misfit, data_at, data_by, patterns_in, templates_in}
 use Rattle.rdx_defs.specs.ExtraForms.{ExtraForm, such_that, provided, confirmed, holding, freshly, name, no_extra, ExtraPlace, form_at}
 use Rattle.rdx_defs.specs.ExtraReading.{items_reading, list_reading, premise_reading, held_reading, extra_reading, extras_reading}
 use Rattle.rdx_defs.specs.Headed.{Headed, headed}
 use Rattle.rdx_defs.specs.Inside.BareStands.{lone_pattern}
 use Rattle.rdx_defs.specs.Inside.Branches.{Takes, one, several, each, taken_occurrences, bound_by_taken, taken_reading}
-use Rattle.rdx_defs.specs.Inside.PartsHave.{PremiseHas, ExtraHas, ExtrasHave, AloneHave, CanBind, IsPattern, can_bind, can_read}
+use Rattle.rdx_defs.specs.Inside.PartsHave.{PremiseHas, ExtraHas, ExtrasHave, AloneHave, IsPattern, can_read}
 use Rattle.rdx_defs.specs.MetafunctionReading.{argument_items}
 use Rattle.rdx_defs.specs.Scope.{Scope, mode_of, callable, has_metafunction}
 use Rattle.rdx_defs.specs.StandChecks.{is_bound_as}
 use Rattle.rdx_defs.specs.Stands.{template, names_bound, premise_arguments, arguments_stand, misfits, premise_stands, held_stands, bound_by_premise, bound_freshly, fresh_stands, bound_by_extra, bound_by_extras, extra_stands, is_named, extras_stand}
 use Rattle.rdx_defs.specs.TemplateReading.{template_reading, host_reading}
+use Rattle.rdx_defs.proofs.AskingParts.{BindsWithin}
 use Rattle.rdx_defs.proofs.BoundParts.{taken-written}
 use Rattle.rdx_defs.proofs.FormRefusals.{ArePassed}
 use Rattle.rdx_defs.proofs.NamesBound.{any-append}
+use Rattle.rdx_defs.proofs.PartsOfForms.{bound}
 use Rattle.rdx_defs.proofs.PassedStands.{mode-fits, IsPassedPattern, passed-both, pattern-first, template-first, fresh-first, host-passed, arguments-passed, misfits-false, asked-first, fits-uses, all-fit, host-uses}
 use Rattle.rdx_defs.proofs.PatternLists.{single-items, inputs-counted, outputs-counted, twice-not, each-bound, each-uses, fitting-each, each-known}
 
@@ -72,38 +75,45 @@ fresh-use d e =
     let f = or_false (bytes_eq x (codes "hole") || bytes_eq x (codes "_")) (begins_with_dots x) e in
     λ i. record { name = x; depth = 0; is_length = sym f.1 i }
 
-module _ (S : Scope) (L : Language) where
+-- Forms are read over the names of L and over M, which is L with the cross nonterminals to those of ys that are nonterminals of it.
+module _ (S : Scope) (L : Language) (ys : List (List ℕ)) where
   abbrev ns : List (List ℕ)
   ns = names_of L
+
+  abbrev M : Language
+  M = crossed_for ys L
 
   -- ---- patterns
 
   -- what is taken, where it passes, is well formed, and makes these uses
-  pub taken-passed : (bs : List patterns.Bound) (w : Takes) → CanBind ns w → IsPassedPattern ns bs (taken_occurrences w)
-      → IsPattern L ns w × (uses 0 (taken_reading ns w) ≡ map bound_use (bound_by_taken ns w))
+  pub taken-passed : (bs : List patterns.Bound) (w : Takes) → BindsWithin ys ns w → IsPassedPattern ns bs (taken_occurrences w)
+      → IsPattern M ns w × (uses 0 (taken_reading ns w) ≡ map bound_use (bound_by_taken ns w))
   taken-passed bs (one p) h g =
       let os = occurrences 0 p in
       let r = reading ns Query p in
-      let f = fitting-reading ns Query p h.readable.nested h.readable.spelled g.names g.places (clashes-fewer [] bs (bound_by_taken ns (one p)) g.depths) in (
-        record { binds = h; well_formed = and_both (has_known_nonterminals (defined L) r) (has_fitting_names r) (reading_known (defined L) Query p) f },
-        (reading-makes ns Query 0 p (are-passed ns 4294967296 os (taken-written (one p) h.readable) g.names g.places)).0,
+      let d = h.asks.readable in
+      let f = fitting-reading ns Query p d.nested d.spelled g.names g.places (clashes-fewer [] bs (bound_by_taken ns (one p)) g.depths) in (
+        record { binds = h.binds; well_formed = and_both (has_known_nonterminals (defined M) r) (has_fitting_names r) (pattern_known L ys p g.places h.asks.ends) f },
+        (reading-makes ns Query 0 p (are-passed ns 4294967296 os (taken-written (one p) d) g.names g.places)).0,
       )
   taken-passed bs (several ds) h g =
       let os = taken_occurrences (several ds) in
       let r = seq (argument_items ns ds) in
-      let f = fitting-items ns Query (sexps ds) (let l = h.readable.nested in omega (arith, l)) h.readable.spelled g.names g.places (clashes-fewer [] bs (bound_by_taken ns (several ds)) g.depths) in (
-        record { binds = h; well_formed = and_both (has_known_nonterminals (defined L) r) (has_fitting_names r) (items_known (defined L) Query items_of_list (sexps ds)) f },
-        (items-make ns Query 0 (sexps ds) (are-passed ns 4294967296 os (taken-written (several ds) h.readable) g.names g.places)).0,
+      let d = h.binds.readable in
+      let f = fitting-items ns Query (sexps ds) (let l = d.nested in omega (arith, l)) d.spelled g.names g.places (clashes-fewer [] bs (bound_by_taken ns (several ds)) g.depths) in (
+        record { binds = h.binds; well_formed = and_both (has_known_nonterminals (defined M) r) (has_fitting_names r) (items_known_to L ys (sexps ds) g.places h.asks.1) f },
+        (items-make ns Query 0 (sexps ds) (are-passed ns 4294967296 os (taken-written (several ds) d) g.names g.places)).0,
       )
   taken-passed bs (each ds) h g =
       let r = list_reading ns ds in
-      let f = fitting-each ns ds h.readable g.names g.places (clashes-fewer [] bs (bound_by_taken ns (each ds)) g.depths) in (
-        record { binds = h; well_formed = and_both (have_known_nonterminals (defined L) (items_reading ns ds)) (has_fitting_names r) (each-known L ds) f },
-        each-uses ns ds h.readable g.names g.places,
+      let d = h.binds.readable in
+      let f = fitting-each ns ds d g.names g.places (clashes-fewer [] bs (bound_by_taken ns (each ds)) g.depths) in (
+        record { binds = h.binds; well_formed = and_both (have_known_nonterminals (defined M) (items_reading ns ds)) (has_fitting_names r) (each-known L ys ds h.asks g.places) f },
+        each-uses ns ds d g.names g.places,
       )
 
   -- patterns that stand by themselves
-  pub alone-good : (ps : List Sexp) → AloneHave (CanBind ns) ps → ArePassed S ns (map lone_pattern ps) → AloneHave (IsPattern L ns) ps
+  pub alone-good : (ps : List Sexp) → AloneHave (BindsWithin ys ns) ps → ArePassed S ns (map lone_pattern ps) → AloneHave (IsPattern M ns) ps
   alone-good [] h k = tt
   alone-good (p ∷ ps) h k =
       let a = pattern-first S ns [] (occurrences 0 p) (map lone_pattern ps) k in
@@ -113,12 +123,12 @@ module _ (S : Scope) (L : Language) where
 
   -- what a premise that passes has behind symbols that bind names: well-formed patterns, that it is valid, and these uses
   pub record IsGoodPremise (bs : List patterns.Bound) (q : Headed) : Type 0 where
-    pub has : PremiseHas S (can_read S L ns) (Some q)
-    pub valid : (us : List Use) → us ≡ map bound_use bs → is_valid_extra (callable S) L us (holds (premise_reading S ns (names_bound bs) q)) ≡ true
+    pub has : PremiseHas S (can_read S M ns) (Some q)
+    pub valid : (us : List Use) → us ≡ map bound_use bs → is_valid_extra (callable S) M us (holds (premise_reading S ns (names_bound bs) q)) ≡ true
     pub makes : uses 0 (premise_reading S ns (names_bound bs) q).outputs ≡ map bound_use (bound_by_premise S ns (Some q))
 
   -- a premise that passes
-  pub premise-good : (bs : List patterns.Bound) (d : Sexp) (q : Headed) → PremiseHas S (can_bind ns) (Some q) → ArePassed S ns (premise_stands S ns bs d q) → IsGoodPremise bs q
+  pub premise-good : (bs : List patterns.Bound) (d : Sexp) (q : Headed) → PremiseHas S (bound (BindsWithin ys ns)) (Some q) → ArePassed S ns (premise_stands S ns bs d q) → IsGoodPremise bs q
   premise-good bs d q h k =
       let o = mode_of S (text_of q.head) in
       let a = premise_arguments S q in
@@ -145,9 +155,9 @@ module _ (S : Scope) (L : Language) where
           record { patterns = w.0; readable = h.1.readable },
         );
         valid = λ us e.
-            and_both (fits_mode o p) (list_all (fits F (bound_by us) 0) p.inputs && is_well_formed_in L p.outputs)
+            and_both (fits_mode o p) (list_all (fits F (bound_by us) 0) p.inputs && is_well_formed_in M p.outputs)
             (ap (λ (n : Option Mode). fits_mode n p) m.is ∙ fit)
-            (and_both (list_all (fits F (bound_by us) 0) p.inputs) (is_well_formed_in L p.outputs) (all-fit S ns bs us (templates_in a) e v.1) w.0.well_formed);
+            (and_both (list_all (fits F (bound_by us) 0) p.inputs) (is_well_formed_in M p.outputs) (all-fit S ns bs us (templates_in a) e v.1) w.0.well_formed);
         makes = w.1 ∙ ap (map bound_use) (each-bound ns (patterns_in a));
       }
 
@@ -156,20 +166,20 @@ module _ (S : Scope) (L : Language) where
   -- behind symbols that bind names, extras have well-formed patterns, are valid, and make these uses
   abbrev pub AreGood : ExtraPlace → List patterns.Bound → List Sexp → Type 0
   AreGood k bs ds =
-      ExtrasHave S (can_read S L ns) k ds
-      × (((us : List Use) → us ≡ map bound_use bs → are_valid_extras (callable S) L us (extras_reading k S ns bs ds) ≡ true)
+      ExtrasHave S (can_read S M ns) k ds
+      × (((us : List Use) → us ≡ map bound_use bs → are_valid_extras (callable S) M us (extras_reading k S ns bs ds) ≡ true)
       × (extras_uses (extras_reading k S ns bs ds) ≡ map bound_use (bound_by_extras k S ns ds)))
 
   -- so do they with a premise in front, if there is one
   abbrev AreGoodBehind : ExtraPlace → List patterns.Bound → Option Headed → List Sexp → Type 0
   AreGoodBehind k bs o ds =
-      (PremiseHas S (can_read S L ns) o × ExtrasHave S (can_read S L ns) k ds)
+      (PremiseHas S (can_read S M ns) o × ExtrasHave S (can_read S M ns) k ds)
       × (((us : List Use) → us ≡ map bound_use bs
-      → are_valid_extras (callable S) L us (held_reading S ns (names_bound bs) o ++ extras_reading k S ns (bs ++ bound_by_premise S ns o) ds) ≡ true)
+      → are_valid_extras (callable S) M us (held_reading S ns (names_bound bs) o ++ extras_reading k S ns (bs ++ bound_by_premise S ns o) ds) ≡ true)
       × (extras_uses (held_reading S ns (names_bound bs) o ++ extras_reading k S ns (bs ++ bound_by_premise S ns o) ds)
       ≡ map bound_use (bound_by_premise S ns o ++ bound_by_extras k S ns ds)))
 
-  premise-more : (k : ExtraPlace) (bs : List patterns.Bound) (d : Sexp) (o : Option Headed) (ds : List Sexp) → PremiseHas S (can_bind ns) o
+  premise-more : (k : ExtraPlace) (bs : List patterns.Bound) (d : Sexp) (o : Option Headed) (ds : List Sexp) → PremiseHas S (bound (BindsWithin ys ns)) o
       → ArePassed S ns (held_stands S ns bs d o) → AreGood k (bs ++ bound_by_premise S ns o) ds → AreGoodBehind k bs o ds
   premise-more k bs d None ds h f g = ((tt, g.0), ((λ us e. g.1.0 us (e ∙ ap (map bound_use) (sym (append-nil bs)))), g.1.1))
   premise-more k bs d (Some q) ds h f g =
@@ -179,7 +189,7 @@ module _ (S : Scope) (L : Language) where
         (r.has, g.0),
         (
           (λ us e.
-              and_both (is_valid_extra (callable S) L us (holds p)) (are_valid_extras (callable S) L (us ++ uses 0 p.outputs) (extras_reading k S ns (bs ++ cs) ds)) (r.valid us e)
+              and_both (is_valid_extra (callable S) M us (holds p)) (are_valid_extras (callable S) M (us ++ uses 0 p.outputs) (extras_reading k S ns (bs ++ cs) ds)) (r.valid us e)
               (g.1.0 (us ++ uses 0 p.outputs) (ap₂ (λ (vs ws : List Use). vs ++ ws) e r.makes ∙ sym (map-append bound_use bs cs)))),
           ap₂ (λ (vs ws : List Use). vs ++ ws) r.makes g.1.1 ∙ sym (map-append bound_use cs (bound_by_extras k S ns ds)),
         ),
@@ -189,7 +199,7 @@ module _ (S : Scope) (L : Language) where
   abbrev AreGoodMade : ExtraPlace → List patterns.Bound → List Sexp → List Sexp → Type 0
   AreGoodMade k bs made ds =
       ((us : List Use) → us ≡ map bound_use bs
-      → are_valid_extras (callable S) L us (map (λ d. model.fresh (text_of d)) made ++ extras_reading k S ns (bs ++ map bound_freshly made) ds) ≡ true)
+      → are_valid_extras (callable S) M us (map (λ d. model.fresh (text_of d)) made ++ extras_reading k S ns (bs ++ map bound_freshly made) ds) ≡ true)
       × (extras_uses (map (λ d. model.fresh (text_of d)) made ++ extras_reading k S ns (bs ++ map bound_freshly made) ds)
       ≡ map bound_use (map bound_freshly made ++ bound_by_extras k S ns ds))
 
@@ -206,9 +216,9 @@ module _ (S : Scope) (L : Language) where
       let r = fresh-more k cs made ds p.1 (subst (λ (es : List patterns.Bound). AreGood k es ds) (sym same) g) in
       let u : name_use 0 x ≡ bound_use (bound_freshly d) = fresh-use d p.0.1 in (
         (λ us e.
-            and_both (not (is_used us x)) (are_valid_extras (callable S) L (us ++ name_use 0 x ∷ []) (rest (bs ++ map bound_freshly (d ∷ made))))
+            and_both (not (is_used us x)) (are_valid_extras (callable S) M (us ++ name_use 0 x ∷ []) (rest (bs ++ map bound_freshly (d ∷ made))))
             (ap (λ (vs : List Use). not (is_used vs x)) e ∙ ap not (used-bound d bs ∙ p.0.0))
-            (ap (λ (es : List patterns.Bound). are_valid_extras (callable S) L (us ++ name_use 0 x ∷ []) (rest es)) (sym same)
+            (ap (λ (es : List patterns.Bound). are_valid_extras (callable S) M (us ++ name_use 0 x ∷ []) (rest es)) (sym same)
             ∙ r.0 (us ++ name_use 0 x ∷ []) ((λ i. e i ++ u i ∷ []) ∙ sym (map-append bound_use bs (bound_freshly d ∷ []))))),
         (λ i. u i ∷ (ap (λ (es : List patterns.Bound). extras_uses (rest es)) (sym same) ∙ r.1) i),
       )
@@ -216,13 +226,13 @@ module _ (S : Scope) (L : Language) where
   -- and with one extra in front
   abbrev AreGoodWith : ExtraPlace → List patterns.Bound → ExtraForm → List Sexp → Type 0
   AreGoodWith k bs e ds =
-      (ExtraHas S (can_read S L ns) e × ExtrasHave S (can_read S L ns) k ds)
+      (ExtraHas S (can_read S M ns) e × ExtrasHave S (can_read S M ns) k ds)
       × (((us : List Use) → us ≡ map bound_use bs
-      → are_valid_extras (callable S) L us (extra_reading S ns bs e ++ extras_reading k S ns (bs ++ bound_by_extra S ns e) ds) ≡ true)
+      → are_valid_extras (callable S) M us (extra_reading S ns bs e ++ extras_reading k S ns (bs ++ bound_by_extra S ns e) ds) ≡ true)
       × (extras_uses (extra_reading S ns bs e ++ extras_reading k S ns (bs ++ bound_by_extra S ns e) ds)
       ≡ map bound_use (bound_by_extra S ns e ++ bound_by_extras k S ns ds)))
 
-  one-more : (k : ExtraPlace) (bs : List patterns.Bound) (again : Bool) (d : Sexp) (e : ExtraForm) (ds : List Sexp) → ExtraHas S (can_bind ns) e
+  one-more : (k : ExtraPlace) (bs : List patterns.Bound) (again : Bool) (d : Sexp) (e : ExtraForm) (ds : List Sexp) → ExtraHas S (bound (BindsWithin ys ns)) e
       → ArePassed S ns (extra_stands S ns bs again d e) → AreGood k (bs ++ bound_by_extra S ns e) ds → AreGoodWith k bs e ds
   one-more k bs again d (such_that p t) ds h f g =
       let F = has_metafunction S in
@@ -233,9 +243,9 @@ module _ (S : Scope) (L : Language) where
         ((q.0, h.1), g.0),
         (
           (λ us e.
-              and_both (is_well_formed_in L r && fits F (bound_by us) 0 (template_reading S (names_bound bs) t))
-              (are_valid_extras (callable S) L (us ++ uses 0 r) (extras_reading k S ns (bs ++ bound_by_taken ns (one p)) ds))
-              (and_both (is_well_formed_in L r) (fits F (bound_by us) 0 (template_reading S (names_bound bs) t)) q.0.well_formed (fits-uses S ns bs us t e b.0))
+              and_both (is_well_formed_in M r && fits F (bound_by us) 0 (template_reading S (names_bound bs) t))
+              (are_valid_extras (callable S) M (us ++ uses 0 r) (extras_reading k S ns (bs ++ bound_by_taken ns (one p)) ds))
+              (and_both (is_well_formed_in M r) (fits F (bound_by us) 0 (template_reading S (names_bound bs) t)) q.0.well_formed (fits-uses S ns bs us t e b.0))
               (g.1.0 (us ++ uses 0 r) (ap₂ (λ (vs ws : List Use). vs ++ ws) e q.1 ∙ sym (map-append bound_use bs (bound_by_taken ns (one p)))))),
           ap₂ (λ (vs ws : List Use). vs ++ ws) q.1 g.1.1 ∙ sym (map-append bound_use (bound_by_taken ns (one p)) (bound_by_extras k S ns ds)),
         ),
@@ -246,7 +256,7 @@ module _ (S : Scope) (L : Language) where
         (h, g.0),
         (
           (λ us e.
-              and_both (fits_in F (bound_by us) 0 (host_reading S (names_bound bs) t)) (are_valid_extras (callable S) L (us ++ []) (extras_reading k S ns (bs ++ []) ds))
+              and_both (fits_in F (bound_by us) 0 (host_reading S (names_bound bs) t)) (are_valid_extras (callable S) M (us ++ []) (extras_reading k S ns (bs ++ []) ds))
               (host-uses S ns bs us t e b) (g.1.0 (us ++ []) (append-nil us ∙ e ∙ ap (map bound_use) (sym (append-nil bs))))),
           g.1.1,
         ),
@@ -257,7 +267,7 @@ module _ (S : Scope) (L : Language) where
         (h, g.0),
         (
           (λ us e.
-              and_both (fits F (bound_by us) 0 (template_reading S (names_bound bs) t)) (are_valid_extras (callable S) L (us ++ []) (extras_reading k S ns (bs ++ []) ds))
+              and_both (fits F (bound_by us) 0 (template_reading S (names_bound bs) t)) (are_valid_extras (callable S) M (us ++ []) (extras_reading k S ns (bs ++ []) ds))
               (fits-uses S ns bs us t e b.0) (g.1.0 (us ++ []) (append-nil us ∙ e ∙ ap (map bound_use) (sym (append-nil bs))))),
           g.1.1,
         ),
@@ -267,7 +277,7 @@ module _ (S : Scope) (L : Language) where
   one-more k bs again d name ds h f g = ((tt, g.0), ((λ us e. g.1.0 us (e ∙ ap (map bound_use) (sym (append-nil bs)))), g.1.1))
   one-more k bs again d no_extra ds h f g = ((tt, g.0), ((λ us e. g.1.0 us (e ∙ ap (map bound_use) (sym (append-nil bs)))), g.1.1))
 
-  pub extras-good : (k : ExtraPlace) (bs : List patterns.Bound) (again : Bool) (ds : List Sexp) → ExtrasHave S (can_bind ns) k ds
+  pub extras-good : (k : ExtraPlace) (bs : List patterns.Bound) (again : Bool) (ds : List Sexp) → ExtrasHave S (bound (BindsWithin ys ns)) k ds
       → ArePassed S ns (extras_stand k S ns bs again ds) → AreGood k bs ds
   extras-good k bs again [] h f = (tt, ((λ us e. refl), refl))
   extras-good k bs again (d ∷ ds) h f =

@@ -13,6 +13,7 @@ use Rattle.rdx_lang.specs.Programs.{Clause}
 use Rattle.rdx_lang.specs.Scopes.{bound_by, case_uses}
 use Rattle.rdx_lang.specs.Valid.{are_valid_extras, is_valid_case, is_valid_clause, is_valid_contract, is_valid_rule, is_valid_domain, is_valid_over}
 use Rattle.rdx_lang.specs.WellFormed.{defined, has_known_nonterminals, have_known_nonterminals, is_well_formed_in}
+use Rattle.rdx_grammar.specs.Ends.{crossed_for}
 use Rattle.rdx_grammar.specs.Heads.{Roles, patterns as items_of_list, next, rest}
 use Rattle.rdx_grammar.specs.Nonterminals.{names_of}
 use Rattle.rdx_grammar.specs.Parts.{text_of}
@@ -21,12 +22,11 @@ use Rattle.rdx_grammar.specs.declared.patterns.position.Position.TheVariants.{Qu
 use Rattle.rdx_grammar.proofs.Booleans.{and_true, and_both}
 use Rattle.rdx_grammar.proofs.DepthsRead.{bound_use}
 use Rattle.rdx_grammar.proofs.Firsts.{none_both}
-use Rattle.rdx_grammar.proofs.WellRead.{items_known}
 use Rattle.rdx_defs.specs.ExtraReading.{extras_reading}
 use Rattle.rdx_defs.specs.Inside.Branches.{one, Branch, taken_occurrences, bound_by_taken, taken_reading, bound_by_branch, case_branch, in_case, case_branches, domain_patterns, relation_outline, clause_branch, own_clause, in_clause, clause_branches, pattern_when, patterns_among, contract_patterns, metafunction_outline}
 use Rattle.rdx_defs.specs.Inside.BranchReadings.{branch_rule, branch_rules, branch_clause, branch_clauses}
 use Rattle.rdx_defs.specs.Inside.Contracts.{IsContractIn}
-use Rattle.rdx_defs.specs.Inside.PartsHave.{BranchHas, BranchesHave, AloneHave, OutlineHas, IsPattern, can_bind, can_read}
+use Rattle.rdx_defs.specs.Inside.PartsHave.{BranchHas, BranchesHave, AloneHave, OutlineHas, IsPattern, can_read}
 use Rattle.rdx_defs.specs.MetafunctionForms.{ClauseForm, clause_form, ContractForm, MetafunctionForm}
 use Rattle.rdx_defs.specs.MetafunctionReading.{argument_items, with_clause, clauses_reading, closed_items, contract_reading}
 use Rattle.rdx_defs.specs.MetafunctionStands.{clause_stands, clauses_stand, contract_stands, function_stands}
@@ -37,25 +37,31 @@ use Rattle.rdx_defs.specs.Scope.{Scope, callable, has_metafunction}
 use Rattle.rdx_defs.specs.StandChecks.{bad_name, bad_names}
 use Rattle.rdx_defs.specs.Stands.{misshaped, function, template, names_bound, bound_by_extras, extras_stand}
 use Rattle.rdx_defs.specs.TemplateReading.{template_reading}
+use Rattle.rdx_defs.proofs.AskingParts.{BindsWithin}
 use Rattle.rdx_defs.proofs.BranchRules.{rules-branches}
 use Rattle.rdx_defs.proofs.FormRefusals.{ArePassed}
 use Rattle.rdx_defs.proofs.LoneStands.{branch_stands, contract-lone, domain-lone}
+use Rattle.rdx_defs.proofs.PartsOfForms.{bound}
 use Rattle.rdx_defs.proofs.PassedStands.{passed-both, pattern-first, template-first, arrow-first, fits-uses}
 use Rattle.rdx_defs.proofs.ValidExtras.{taken-passed, alone-good, extras-good}
 
-module _ (S : Scope) (L : Language) where
+-- Forms are read over the names of L and over M, which is L with the cross nonterminals to those of ys that are nonterminals of it.
+module _ (S : Scope) (L : Language) (ys : List (List ℕ)) where
   abbrev ns : List (List ℕ)
   ns = names_of L
+
+  abbrev M : Language
+  M = crossed_for ys L
 
   -- ---- branches
 
   -- what a branch stands for is valid
   abbrev IsValidBranch : Branch → Type 0
   IsValidBranch b =
-      is_valid_case (callable S) L (taken_reading ns b.takes) (extras_reading b.place S ns (bound_by_taken ns b.takes) b.extras)
+      is_valid_case (callable S) M (taken_reading ns b.takes) (extras_reading b.place S ns (bound_by_taken ns b.takes) b.extras)
       (template_reading S (names_bound (bound_by_branch S ns b)) b.result) ≡ true
 
-  branch-good : (again : Bool) (b : Branch) → BranchHas S (can_bind ns) b → ArePassed S ns (branch_stands S ns again b) → BranchHas S (can_read S L ns) b × IsValidBranch b
+  branch-good : (again : Bool) (b : Branch) → BranchHas S (bound (BindsWithin ys ns)) b → ArePassed S ns (branch_stands S ns again b) → BranchHas S (can_read S M ns) b × IsValidBranch b
   branch-good again b h k =
       let F = has_metafunction S in
       let C = callable S in
@@ -66,51 +72,51 @@ module _ (S : Scope) (L : Language) where
       let others = extras_stand b.place S ns (bound_by_taken ns b.takes) again b.extras in
       let a = pattern-first S ns [] (taken_occurrences b.takes) (template (names_bound all) b.result ∷ others) k in
       let c = template-first S ns all b.result others a.1 in
-      let q = taken-passed S L [] b.takes h.takes a.0 in
-      let g = extras-good S L b.place (bound_by_taken ns b.takes) again b.extras h.extras c.1 in
+      let q = taken-passed S L ys [] b.takes h.takes a.0 in
+      let g = extras-good S L ys b.place (bound_by_taken ns b.takes) again b.extras h.extras c.1 in
       let u : case_uses p es ≡ map bound_use all =
       ap₂ (λ (vs ws : List Use). vs ++ ws) q.1 g.1.1 ∙ sym (map-append bound_use (bound_by_taken ns b.takes) (bound_by_extras b.place S ns b.extras)) in (
         record { takes = q.0; result = h.result; extras = g.0 },
-        and_both (is_well_formed_in L p) (are_valid_extras C L (uses 0 p) es && fits F (bound_by (case_uses p es)) 0 t) q.0.well_formed
-            (and_both (are_valid_extras C L (uses 0 p) es) (fits F (bound_by (case_uses p es)) 0 t) (g.1.0 (uses 0 p) q.1) (fits-uses S ns all (case_uses p es) b.result u c.0)),
+        and_both (is_well_formed_in M p) (are_valid_extras C M (uses 0 p) es && fits F (bound_by (case_uses p es)) 0 t) q.0.well_formed
+            (and_both (are_valid_extras C M (uses 0 p) es) (fits F (bound_by (case_uses p es)) 0 t) (g.1.0 (uses 0 p) q.1) (fits-uses S ns all (case_uses p es) b.result u c.0)),
       )
 
   -- ---- relations
 
   -- they are valid
   abbrev AreGoodCases : List Branch → Type 0
-  AreGoodCases bs = BranchesHave S (can_read S L ns) bs × (list_all (is_valid_rule (callable S) L) (branch_rules S ns bs) ≡ true)
+  AreGoodCases bs = BranchesHave S (can_read S M ns) bs × (list_all (is_valid_rule (callable S) M) (branch_rules S ns bs) ≡ true)
 
-  case-first : (d : Sexp) (o : Option CaseForm) (bs : List Branch) → BranchesHave S (can_bind ns) (in_case o ++ bs) → ArePassed S ns (case_stands S ns d o)
-      → (BranchesHave S (can_bind ns) bs → AreGoodCases bs) → AreGoodCases (in_case o ++ bs)
+  case-first : (d : Sexp) (o : Option CaseForm) (bs : List Branch) → BranchesHave S (bound (BindsWithin ys ns)) (in_case o ++ bs) → ArePassed S ns (case_stands S ns d o)
+      → (BranchesHave S (bound (BindsWithin ys ns)) bs → AreGoodCases bs) → AreGoodCases (in_case o ++ bs)
   case-first d None bs h k f = f h
   case-first d (Some c) bs h k f =
       let b = case_branch c in
       let g = branch-good false b h.0 (arrow-first S ns c.arrow (branch_stands S ns false b) k) in
       let r = f h.1 in
-      ((g.0, r.0), and_both (is_valid_rule (callable S) L (branch_rule S ns b)) (list_all (is_valid_rule (callable S) L) (branch_rules S ns bs)) g.1 r.1)
+      ((g.0, r.0), and_both (is_valid_rule (callable S) M (branch_rule S ns b)) (list_all (is_valid_rule (callable S) M) (branch_rules S ns bs)) g.1 r.1)
 
-  cases-good : (ds : List Sexp) → BranchesHave S (can_bind ns) (case_branches ds) → ArePassed S ns (cases_stand S ns ds) → AreGoodCases (case_branches ds)
+  cases-good : (ds : List Sexp) → BranchesHave S (bound (BindsWithin ys ns)) (case_branches ds) → ArePassed S ns (cases_stand S ns ds) → AreGoodCases (case_branches ds)
   cases-good [] h k = (tt, refl)
   cases-good (d ∷ ds) h k =
       let p = passed-both S ns (case_stands S ns d (case_form d)) (cases_stand S ns ds) k in
       case-first d (case_form d) (case_branches ds) h p.0 (λ g. cases-good ds g p.1)
 
   -- the domain is well formed
-  domain-good : (o : Option Sexp) → AloneHave (IsPattern L ns) (domain_patterns o) → is_valid_domain L (option_map (reading ns Query) o) ≡ true
+  domain-good : (o : Option Sexp) → AloneHave (IsPattern M ns) (domain_patterns o) → is_valid_domain M (option_map (reading ns Query) o) ≡ true
   domain-good None h = refl
   domain-good (Some p) h = h.0.well_formed
 
   -- a form
-  pub relation-good : (d : Sexp) (r : RelationForm) (x : List ℕ) → OutlineHas S (can_bind ns) (relation_outline r) → ArePassed S ns (relation_stands S ns d (Some r))
-      → OutlineHas S (can_read S L ns) (relation_outline r) × (is_valid_over (callable S) (Some L) (relation_reading S ns x r) ≡ true)
+  pub relation-good : (d : Sexp) (r : RelationForm) (x : List ℕ) → OutlineHas S (bound (BindsWithin ys ns)) (relation_outline r) → ArePassed S ns (relation_stands S ns d (Some r))
+      → OutlineHas S (can_read S M ns) (relation_outline r) × (is_valid_over (callable S) (Some M) (relation_reading S ns x r) ≡ true)
   relation-good d r x h k =
       let p = passed-both S ns (domain_stands r.domain) (cases_stand S ns r.cases) k in
-      let a = alone-good S L (domain_patterns r.domain) h.alone (subst (ArePassed S ns) (domain-lone r.domain) p.0) in
+      let a = alone-good S L ys (domain_patterns r.domain) h.alone (subst (ArePassed S ns) (domain-lone r.domain) p.0) in
       let c = cases-good r.cases h.branches p.1 in
-      let v : list_all (is_valid_rule (callable S) L) (rules_reading S ns r.cases) ≡ true = ap (list_all (is_valid_rule (callable S) L)) (rules-branches S ns r.cases) ∙ c.1 in (
+      let v : list_all (is_valid_rule (callable S) M) (rules_reading S ns r.cases) ≡ true = ap (list_all (is_valid_rule (callable S) M)) (rules-branches S ns r.cases) ∙ c.1 in (
         record { alone = a; branches = c.0; rules = tt; questions = tt },
-        and_both (is_valid_domain L (option_map (reading ns Query) r.domain)) (list_all (is_valid_rule (callable S) L) (rules_reading S ns r.cases)) (domain-good r.domain a) v,
+        and_both (is_valid_domain M (option_map (reading ns Query) r.domain)) (list_all (is_valid_rule (callable S) M) (rules_reading S ns r.cases)) (domain-good r.domain a) v,
       )
 
   -- ---- clauses
@@ -118,35 +124,35 @@ module _ (S : Scope) (L : Language) where
   -- clauses are valid, and those of the branches
   abbrev AreGoodClauses : List Sexp → List Branch → Type 0
   AreGoodClauses ds bs =
-      BranchesHave S (can_read S L ns) bs
-      × ((list_all (is_valid_clause (callable S) L) (branch_clauses S ns bs) ≡ true) × (clauses_reading S ns ds ≡ branch_clauses S ns bs))
+      BranchesHave S (can_read S M ns) bs
+      × ((list_all (is_valid_clause (callable S) M) (branch_clauses S ns bs) ≡ true) × (clauses_reading S ns ds ≡ branch_clauses S ns bs))
 
   -- a clause that passes is one of this metafunction
-  clause-first : (x : List ℕ) (d : Sexp) (o : Option ClauseForm) (ds : List Sexp) (bs : List Branch) → BranchesHave S (can_bind ns) (in_clause (own_clause x o) ++ bs)
-      → ArePassed S ns (clause_stands S ns x d o) → (BranchesHave S (can_bind ns) bs → AreGoodClauses ds bs)
-      → BranchesHave S (can_read S L ns) (in_clause (own_clause x o) ++ bs)
-      × ((list_all (is_valid_clause (callable S) L) (branch_clauses S ns (in_clause (own_clause x o) ++ bs)) ≡ true)
+  clause-first : (x : List ℕ) (d : Sexp) (o : Option ClauseForm) (ds : List Sexp) (bs : List Branch) → BranchesHave S (bound (BindsWithin ys ns)) (in_clause (own_clause x o) ++ bs)
+      → ArePassed S ns (clause_stands S ns x d o) → (BranchesHave S (bound (BindsWithin ys ns)) bs → AreGoodClauses ds bs)
+      → BranchesHave S (can_read S M ns) (in_clause (own_clause x o) ++ bs)
+      × ((list_all (is_valid_clause (callable S) M) (branch_clauses S ns (in_clause (own_clause x o) ++ bs)) ≡ true)
       × (with_clause S ns o (clauses_reading S ns ds) ≡ branch_clauses S ns (in_clause (own_clause x o) ++ bs)))
   clause-first x d None ds bs h k f = absurd (let e = k.shapes in cc)
   clause-first x d (Some c) ds bs h k f = by_test (bytes_eq (text_of c.function) x) h k
     where
-      by_test : (b : Bool) → BranchesHave S (can_bind ns) (in_clause (if b then Some c else None) ++ bs)
+      by_test : (b : Bool) → BranchesHave S (bound (BindsWithin ys ns)) (in_clause (if b then Some c else None) ++ bs)
           → ArePassed S ns (if b then branch_stands S ns true (clause_branch c) else misshaped d ∷ [])
-          → BranchesHave S (can_read S L ns) (in_clause (if b then Some c else None) ++ bs)
-          × ((list_all (is_valid_clause (callable S) L) (branch_clauses S ns (in_clause (if b then Some c else None) ++ bs)) ≡ true)
+          → BranchesHave S (can_read S M ns) (in_clause (if b then Some c else None) ++ bs)
+          × ((list_all (is_valid_clause (callable S) M) (branch_clauses S ns (in_clause (if b then Some c else None) ++ bs)) ≡ true)
           × (branch_clause S ns (clause_branch c) ∷ clauses_reading S ns ds ≡ branch_clauses S ns (in_clause (if b then Some c else None) ++ bs)))
       by_test true h k =
           let g = branch-good true (clause_branch c) h.0 k in
           let r = f h.1 in (
             (g.0, r.0),
             (
-              and_both (is_valid_clause (callable S) L (branch_clause S ns (clause_branch c))) (list_all (is_valid_clause (callable S) L) (branch_clauses S ns bs)) g.1 r.1.0,
+              and_both (is_valid_clause (callable S) M (branch_clause S ns (clause_branch c))) (list_all (is_valid_clause (callable S) M) (branch_clauses S ns bs)) g.1 r.1.0,
               ap (λ (cs : List Clause). branch_clause S ns (clause_branch c) ∷ cs) r.1.1,
             ),
           )
       by_test false h k = absurd (let e = k.shapes in cc)
 
-  clauses-good : (x : List ℕ) (ds : List Sexp) → BranchesHave S (can_bind ns) (clause_branches x ds) → ArePassed S ns (clauses_stand S ns x ds) → AreGoodClauses ds (clause_branches x ds)
+  clauses-good : (x : List ℕ) (ds : List Sexp) → BranchesHave S (bound (BindsWithin ys ns)) (clause_branches x ds) → ArePassed S ns (clauses_stand S ns x ds) → AreGoodClauses ds (clause_branches x ds)
   clauses-good x [] h k = (tt, (refl, refl))
   clauses-good x (d ∷ ds) h k =
       let p = passed-both S ns (clause_stands S ns x d (clause_form d)) (clauses_stand S ns x ds) k in
@@ -155,35 +161,47 @@ module _ (S : Scope) (L : Language) where
   -- ---- contracts
 
   -- closing changes no nonterminals
-  closed-known : (ps : Items) → have_known_nonterminals (defined L) (closed_items ps) ≡ have_known_nonterminals (defined L) ps
+  closed-known : (ps : Items) → have_known_nonterminals (defined M) (closed_items ps) ≡ have_known_nonterminals (defined M) ps
   closed-known model.nil = refl
-  closed-known (model.one p ps) = ap (λ b. has_known_nonterminals (defined L) p && b) (closed-known ps)
-  closed-known (model.many p n ps) = ap (λ b. has_known_nonterminals (defined L) p && b) (closed-known ps)
+  closed-known (model.one p ps) = ap (λ b. has_known_nonterminals (defined M) p && b) (closed-known ps)
+  closed-known (model.many p n ps) = ap (λ b. has_known_nonterminals (defined M) p && b) (closed-known ps)
 
-  -- the items that are well formed are so when they are closed
-  with-closed : (e : Option (Option (List ℕ))) (p : Pattern) (ps : Items) → has_fitting_names p ≡ true → closed_items_fit (closed_items ps) ≡ true
-      → closed_items_fit (closed_items (with_item (item_slot e p) ps)) ≡ true
-  with-closed None p ps h k = and_both (has_fitting_names p) (closed_items_fit (closed_items ps)) h k
-  with-closed (Some n) p ps h k = and_both (has_fitting_names p) (closed_items_fit (closed_items ps)) h k
+  -- their nonterminals are known, and they fit once they are closed
+  abbrev pub AreWell : Items → Type 0
+  AreWell ps = (have_known_nonterminals (defined M) ps ≡ true) × (closed_items_fit (closed_items ps) ≡ true)
 
-  closed-first : (b : Bool) (d : Sexp) (qs : List Sexp) (e : Option (Option (List ℕ))) (ps : Items) → AloneHave (IsPattern L ns) (pattern_when b d ++ qs)
-      → (AloneHave (IsPattern L ns) qs → closed_items_fit (closed_items ps) ≡ true)
-      → closed_items_fit (closed_items (if b then with_item (item_slot e (reading ns Query d)) ps else ps)) ≡ true
-  closed-first true d qs e ps h f = with-closed e (reading ns Query d) ps (and_true (has_known_nonterminals (defined L) (reading ns Query d)) (has_fitting_names (reading ns Query d)) h.0.well_formed).1 (f h.1)
-  closed-first false d qs e ps h f = f h
+  -- with one more that is well formed they are so
+  pub with-well : (e : Option (Option (List ℕ))) (p : Pattern) (ps : Items) → is_well_formed_in M p ≡ true → AreWell ps → AreWell (with_item (item_slot e p) ps)
+  with-well e p ps h k = by_slot e
+    where
+      known : have_known_nonterminals (defined M) (model.one p ps) ≡ true
+      known = and_both (has_known_nonterminals (defined M) p) (have_known_nonterminals (defined M) ps) (and_true (has_known_nonterminals (defined M) p) (has_fitting_names p) h).0 k.0
 
-  closed-fit : (rs : Roles) (ds : Sexps) (qs : List Sexp) → AloneHave (IsPattern L ns) (patterns_among rs ds ++ qs) → closed_items_fit (closed_items (items_among ns Query rs ds)) ≡ true
-  closed-fit rs nil qs h = refl
-  closed-fit rs (cons d ds) qs h =
-      closed-first (is_pattern (next rs d)) d (patterns_among (rest rs d) ds ++ qs) (ellipsis_behind (rest rs d) ds) (items_among ns Query (rest rs d) ds)
-      (subst (AloneHave (IsPattern L ns)) (append_assoc (pattern_when (is_pattern (next rs d)) d) (patterns_among (rest rs d) ds) qs) h)
-      (λ g. closed-fit (rest rs d) ds qs g)
+      fit : closed_items_fit (closed_items (model.one p ps)) ≡ true
+      fit = and_both (has_fitting_names p) (closed_items_fit (closed_items ps)) (and_true (has_known_nonterminals (defined M) p) (has_fitting_names p) h).1 k.1
+
+      by_slot : (e : Option (Option (List ℕ))) → AreWell (with_item (item_slot e p) ps)
+      by_slot None = (known, fit)
+      by_slot (Some n) = (known, fit)
+
+  well-first : (b : Bool) (d : Sexp) (qs : List Sexp) (e : Option (Option (List ℕ))) (ps : Items) → AloneHave (IsPattern M ns) (pattern_when b d ++ qs)
+      → (AloneHave (IsPattern M ns) qs → AreWell ps) → AreWell (if b then with_item (item_slot e (reading ns Query d)) ps else ps)
+  well-first true d qs e ps h f = with-well e (reading ns Query d) ps h.0.well_formed (f h.1)
+  well-first false d qs e ps h f = f h
+
+  -- so are items each pattern of which is well formed by itself
+  items-well : (rs : Roles) (ds : Sexps) (qs : List Sexp) → AloneHave (IsPattern M ns) (patterns_among rs ds ++ qs) → AreWell (items_among ns Query rs ds)
+  items-well rs nil qs h = (refl, refl)
+  items-well rs (cons d ds) qs h =
+      well-first (is_pattern (next rs d)) d (patterns_among (rest rs d) ds ++ qs) (ellipsis_behind (rest rs d) ds) (items_among ns Query (rest rs d) ds)
+      (subst (AloneHave (IsPattern M ns)) (append_assoc (pattern_when (is_pattern (next rs d)) d) (patterns_among (rest rs d) ds) qs) h)
+      (λ g. items-well (rest rs d) ds qs g)
 
   -- the last of several patterns
-  last-good : (rs : Roles) (ds : Sexps) (p : Sexp) → AloneHave (IsPattern L ns) (patterns_among rs ds ++ p ∷ []) → IsPattern L ns (one p)
+  last-good : (rs : Roles) (ds : Sexps) (p : Sexp) → AloneHave (IsPattern M ns) (patterns_among rs ds ++ p ∷ []) → IsPattern M ns (one p)
   last-good rs ds p h = of_last (patterns_among rs ds) h
     where
-      of_last : (qs : List Sexp) → AloneHave (IsPattern L ns) (qs ++ p ∷ []) → IsPattern L ns (one p)
+      of_last : (qs : List Sexp) → AloneHave (IsPattern M ns) (qs ++ p ∷ []) → IsPattern M ns (one p)
       of_last [] k = k.0
       of_last (q ∷ qs) k = of_last qs k.1
 
@@ -218,54 +236,52 @@ module _ (S : Scope) (L : Language) where
   closed-uses (model.many p (Some x) ps) = ((refl, refl), closed-uses ps)
 
   -- the list pattern of closed items that are well formed by themselves is
-  pub closed-well_formed : (ps : Items) → have_known_nonterminals (defined L) ps ≡ true → closed_items_fit (closed_items ps) ≡ true → is_well_formed_in L (seq (closed_items ps)) ≡ true
+  pub closed-well_formed : (ps : Items) → have_known_nonterminals (defined M) ps ≡ true → closed_items_fit (closed_items ps) ≡ true → is_well_formed_in M (seq (closed_items ps)) ≡ true
   closed-well_formed ps e f =
       let p = seq (closed_items ps) in
       let us = item_uses 0 (closed_items ps) in
-      and_both (have_known_nonterminals (defined L) (closed_items ps)) (has_fitting_names p) (closed-known ps ∙ e)
+      and_both (have_known_nonterminals (defined M) (closed_items ps)) (has_fitting_names p) (closed-known ps ∙ e)
       (and_both (has_one_depth_each p) (closed_items_fit (closed_items ps))
       (and_both (all_agree us) (list_all is_shallow us) (agree-lengths us (closed-uses ps)) (shallow-lengths us (closed-uses ps))) f)
 
   -- the contract of a form is well formed
-  contract-good : (o : Option ContractForm) → AloneHave (IsPattern L ns) (contract_patterns o) → IsContractIn L ns o
+  contract-good : (o : Option ContractForm) → AloneHave (IsPattern M ns) (contract_patterns o) → IsContractIn M ns o
   contract-good None h = tt
   contract-good (Some c) h =
       let v = reading ns Query c.value in
-      let w = (last-good items_of_list (sexps c.arguments) c.value h).well_formed in
-      let f = and_true (has_known_nonterminals (defined L) v) (has_fitting_names v) w in
+      let f = and_true (has_known_nonterminals (defined M) v) (has_fitting_names v) (last-good items_of_list (sexps c.arguments) c.value h).well_formed in
+      let w = items-well items_of_list (sexps c.arguments) (c.value ∷ []) h in
       record {
-        arguments =
-            closed-well_formed (argument_items ns c.arguments) (items_known (defined L) Query items_of_list (sexps c.arguments))
-            (closed-fit items_of_list (sexps c.arguments) (c.value ∷ []) h);
-        value = and_both (has_known_nonterminals (defined L) v) (has_fitting_names (closed v)) f.0 f.1;
+        arguments = closed-well_formed (argument_items ns c.arguments) w.0 w.1;
+        value = and_both (has_known_nonterminals (defined M) v) (has_fitting_names (closed v)) f.0 f.1;
       }
 
-  contract-valid : (o : Option ContractForm) → IsContractIn L ns o → is_valid_contract L (option_map (contract_reading ns) o) ≡ true
+  contract-valid : (o : Option ContractForm) → IsContractIn M ns o → is_valid_contract M (option_map (contract_reading ns) o) ≡ true
   contract-valid None h = refl
-  contract-valid (Some c) h = and_both (is_well_formed_in L (contract_reading ns c).0) (is_well_formed_in L (contract_reading ns c).1) h.arguments h.value
+  contract-valid (Some c) h = and_both (is_well_formed_in M (contract_reading ns c).0) (is_well_formed_in M (contract_reading ns c).1) h.arguments h.value
 
   -- ---- metafunctions
 
   -- what a form that passes has
   pub record IsGoodMetafunction (m : MetafunctionForm) (f : Sexp) : Type 0 where
-    pub branches : BranchesHave S (can_read S L ns) (clause_branches (text_of f) m.clauses)
-    pub contract : IsContractIn L ns m.contract
+    pub branches : BranchesHave S (can_read S M ns) (clause_branches (text_of f) m.clauses)
+    pub contract : IsContractIn M ns m.contract
     pub reading : clauses_reading S ns m.clauses ≡ branch_clauses S ns (clause_branches (text_of f) m.clauses)
-    pub valid_clauses : list_all (is_valid_clause (callable S) L) (clauses_reading S ns m.clauses) ≡ true
-    pub valid_contract : is_valid_contract L (option_map (contract_reading ns) m.contract) ≡ true
+    pub valid_clauses : list_all (is_valid_clause (callable S) M) (clauses_reading S ns m.clauses) ≡ true
+    pub valid_contract : is_valid_contract M (option_map (contract_reading ns) m.contract) ≡ true
 
-  pub metafunction-good : (m : MetafunctionForm) (f : Sexp) → OutlineHas S (can_bind ns) (metafunction_outline m (Some f)) → ArePassed S ns (function_stands S ns m (Some f)) → IsGoodMetafunction m f
+  pub metafunction-good : (m : MetafunctionForm) (f : Sexp) → OutlineHas S (bound (BindsWithin ys ns)) (metafunction_outline m (Some f)) → ArePassed S ns (function_stands S ns m (Some f)) → IsGoodMetafunction m f
   metafunction-good m f h k =
       let cs = clauses_stand S ns (text_of f) m.clauses in
       let b = none_both (bad_name (function f)) (bad_names (contract_stands m.contract ++ cs)) k.names in
       let p = passed-both S ns (contract_stands m.contract) cs (record { shapes = k.shapes; made = k.made; names = b.1; places = k.places; depths = k.depths; known = k.known; driving = k.driving; modes = k.modes }) in
-      let a = alone-good S L (contract_patterns m.contract) h.alone (subst (ArePassed S ns) (contract-lone m.contract) p.0) in
+      let a = alone-good S L ys (contract_patterns m.contract) h.alone (subst (ArePassed S ns) (contract-lone m.contract) p.0) in
       let c = clauses-good (text_of f) m.clauses h.branches p.1 in
       let o = contract-good m.contract a in
       record {
         branches = c.0;
         contract = o;
         reading = c.1.1;
-        valid_clauses = ap (list_all (is_valid_clause (callable S) L)) c.1.1 ∙ c.1.0;
+        valid_clauses = ap (list_all (is_valid_clause (callable S) M)) c.1.1 ∙ c.1.0;
         valid_contract = contract-valid m.contract o;
       }

@@ -15,10 +15,12 @@ use Rattle.rdx_lang.specs.Programs.{Mode, JudgementRule, holds}
 use Rattle.rdx_lang.specs.Scopes.{bound_by, case_uses}
 use Rattle.rdx_lang.specs.Valid.{is_valid_extra, are_valid_extras, is_valid_judgement_rule, is_valid_judgement_contract, is_valid_judgement}
 use Rattle.rdx_lang.specs.WellFormed.{defined, has_known_nonterminals, is_well_formed_in}
+use Rattle.rdx_grammar.specs.Ends.{crossed_for}
 use Rattle.rdx_grammar.specs.Names.{is_bad_name}
 use Rattle.rdx_grammar.specs.Nonterminals.{names_of}
 use Rattle.rdx_grammar.specs.Occurrences.{occurrences}
 use Rattle.rdx_grammar.specs.Parts.{text_of, is_word}
+use Rattle.rdx_grammar.specs.Readable.{IsReadable}
 use Rattle.rdx_grammar.specs.Reading.{reading}
 use Rattle.rdx_grammar.specs.declared.patterns.position.Position.TheVariants.{Query}
 use Rattle.rdx_grammar.proofs.Booleans.{and_true, and_both}
@@ -31,7 +33,7 @@ use Rattle.rdx_defs.specs.Headed.{Headed, headed}
 use Rattle.rdx_defs.specs.Inside.BareStands.{lone_pattern}
 use Rattle.rdx_defs.specs.Inside.Branches.{one, each, RuleBranch, rule_branch, in_rule, rule_branches, given_patterns, option_patterns, options_patterns, judgement_outline, question_outline}
 use Rattle.rdx_defs.specs.Inside.Contracts.{IsJudgementContract}
-use Rattle.rdx_defs.specs.Inside.PartsHave.{PremiseHas, RuleHas, RulesHave, AloneHave, OutlineHas, CanBind, IsPattern, can_bind, can_read}
+use Rattle.rdx_defs.specs.Inside.PartsHave.{PremiseHas, RuleHas, RulesHave, AloneHave, OutlineHas, IsPattern, can_read}
 use Rattle.rdx_defs.specs.JudgementForms.{RuleForm, rule_form, own_rule, OptionForm, JudgementForm, given_by, headed_by, mode_form, contract_form, judgement_in, is_flag, mode_given, own_mode, key_text, is_fit_option}
 use Rattle.rdx_defs.specs.JudgementReading.{rule_reading, with_rule, rules_reading, contract_reading, mode_or_none, judgement_reading}
 use Rattle.rdx_defs.specs.JudgementRefusal.{result_stands, lone_premise_stands}
@@ -42,14 +44,15 @@ use Rattle.rdx_defs.specs.Scope.{Scope, callable, has_metafunction}
 use Rattle.rdx_defs.specs.StandChecks.{bad_names}
 use Rattle.rdx_defs.specs.Stands.{Stand, misshaped, judgement, template, names_bound, bound_by_premise, bound_by_extras, arguments_stand, misfits, held_stands}
 use Rattle.rdx_defs.specs.TemplateReading.{template_reading}
+use Rattle.rdx_defs.proofs.AskingParts.{BindsWithin}
 use Rattle.rdx_defs.proofs.BoundParts.{symbol-name}
 use Rattle.rdx_defs.proofs.FormRefusals.{ArePassed}
+use Rattle.rdx_defs.proofs.PartsOfForms.{IsNamed, HeadedHas, HeadedHasIn, bound}
 use Rattle.rdx_defs.proofs.PassedStands.{mode-fits, passed-both, pattern-first, template-first, arguments-passed, misfits-false, fits-uses, all-fit}
-use Rattle.rdx_defs.proofs.PatternLists.{single-items, inputs-counted, outputs-counted, each-bound, each-known}
-use Rattle.rdx_defs.proofs.ReadableParts.{IsNamed, IsReadableHeaded, IsReadableHeadedIn}
+use Rattle.rdx_defs.proofs.PatternLists.{single-items, inputs-counted, outputs-counted, each-bound}
 use Rattle.rdx_defs.proofs.RepeatedNames.{not_false}
 use Rattle.rdx_defs.proofs.ValidExtras.{taken-passed, premise-good, extras-good}
-use Rattle.rdx_defs.proofs.ValidForms.{closed-well_formed}
+use Rattle.rdx_defs.proofs.ValidForms.{AreWell, with-well, closed-well_formed}
 
 -- ---- keywords
 
@@ -66,9 +69,13 @@ contract-not_mode (list ds s) e = absurd cc
 pub judgement-name : (j : Sexp) → IsNamed j → is_bad_name (text_of j) ≡ false → IsTrue (is_name (text_of j))
 judgement-name j h e = symbol-name j h.symbol h.readable e
 
-module _ (S : Scope) (L : Language) where
+-- Forms are read over the names of L and over M, which is L with the cross nonterminals to those of ys that are nonterminals of it.
+module _ (S : Scope) (L : Language) (ys : List (List ℕ)) where
   abbrev ns : List (List ℕ)
   ns = names_of L
+
+  abbrev M : Language
+  M = crossed_for ys L
 
   -- ---- rules
 
@@ -100,8 +107,8 @@ module _ (S : Scope) (L : Language) where
           record { conclusion = q.0; premises = q.1 }
 
   -- a rule that passes
-  rule-good : (m : Mode) (d : Sexp) (r : RuleForm) → RuleHas S (can_bind ns) (rule_branch (Some m) r) → ArePassed S ns (rule_stands S ns (Some m) d (Some r))
-      → RuleHas S (can_read S L ns) (rule_branch (Some m) r) × (is_valid_judgement_rule (callable S) L m (rule_reading S ns (Some m) r) ≡ true)
+  rule-good : (m : Mode) (d : Sexp) (r : RuleForm) → RuleHas S (bound (BindsWithin ys ns)) (rule_branch (Some m) r) → ArePassed S ns (rule_stands S ns (Some m) d (Some r))
+      → RuleHas S (can_read S M ns) (rule_branch (Some m) r) × (is_valid_judgement_rule (callable S) M m (rule_reading S ns (Some m) r) ≡ true)
   rule-good m d r h k =
       let F = has_metafunction S in
       let o = Some m in
@@ -115,8 +122,8 @@ module _ (S : Scope) (L : Language) where
       let f = mode-fits o ds refl (misfits-false S ns (is_misfit o ds) r.conclusion r.parts.head u.0) in
       let same : f.mode ≡ m = (let e = f.is in cc) in
       let v = arguments-passed S ns [] all a u.1 in
-      let w = taken-passed S L [] (each (patterns_in a)) h.arguments.patterns v.0 in
-      let g = extras-good S L of_rule bs true r.premises h.premises p.premises in
+      let w = taken-passed S L ys [] (each (patterns_in a)) h.arguments.patterns v.0 in
+      let g = extras-good S L ys of_rule bs true r.premises h.premises p.premises in
       let inputs : uses 0 R.inputs ≡ map bound_use bs = w.1 ∙ ap (map bound_use) (each-bound ns (patterns_in a)) in
       let used : case_uses R.inputs R.extras ≡ map bound_use all =
       ap₂ (λ (vs ws : List Use). vs ++ ws) inputs g.1.1 ∙ sym (map-append bound_use bs (bound_by_extras of_rule S ns r.premises)) in
@@ -129,29 +136,29 @@ module _ (S : Scope) (L : Language) where
       (ap (λ n. are_single n (items_reading ns (patterns_in a))) (sym ins) ∙ single-items ns (patterns_in a))
       (eq-eqb (length R.outputs) (output_count m) (length-map (templates_in a) (template_reading S (names_bound all)) ∙ outs)) in
       let fitting_outputs = list_all (fits F (bound_by (case_uses R.inputs R.extras)) 0) R.outputs in
-      let extras = are_valid_extras (callable S) L (uses 0 R.inputs) R.extras in (
+      let extras = are_valid_extras (callable S) M (uses 0 R.inputs) R.extras in (
         record { arguments = record { patterns = w.0; readable = h.arguments.readable }; premises = g.0 },
-        and_both (rule_fits_mode m R) (is_well_formed_in L R.inputs && (extras && fitting_outputs)) fit
-            (and_both (is_well_formed_in L R.inputs) (extras && fitting_outputs) w.0.well_formed
+        and_both (rule_fits_mode m R) (is_well_formed_in M R.inputs && (extras && fitting_outputs)) fit
+            (and_both (is_well_formed_in M R.inputs) (extras && fitting_outputs) w.0.well_formed
             (and_both extras fitting_outputs (g.1.0 (uses 0 R.inputs) inputs) (all-fit S ns all (case_uses R.inputs R.extras) (templates_in a) used v.1))),
       )
 
   -- rules are valid
   abbrev AreGoodRules : Mode → List RuleBranch → List JudgementRule → Type 0
-  AreGoodRules m bs rs = RulesHave S (can_read S L ns) bs × (list_all (is_valid_judgement_rule (callable S) L m) rs ≡ true)
+  AreGoodRules m bs rs = RulesHave S (can_read S M ns) bs × (list_all (is_valid_judgement_rule (callable S) M m) rs ≡ true)
 
   -- a rule before others
-  rule-first : (m : Mode) (d : Sexp) (o : Option RuleForm) (bs : List RuleBranch) (rs : List JudgementRule) → RulesHave S (can_bind ns) (in_rule (Some m) o ++ bs)
-      → ArePassed S ns (rule_stands S ns (Some m) d o) → (RulesHave S (can_bind ns) bs → AreGoodRules m bs rs)
+  rule-first : (m : Mode) (d : Sexp) (o : Option RuleForm) (bs : List RuleBranch) (rs : List JudgementRule) → RulesHave S (bound (BindsWithin ys ns)) (in_rule (Some m) o ++ bs)
+      → ArePassed S ns (rule_stands S ns (Some m) d o) → (RulesHave S (bound (BindsWithin ys ns)) bs → AreGoodRules m bs rs)
       → AreGoodRules m (in_rule (Some m) o ++ bs) (with_rule S ns (Some m) o rs)
   rule-first m d None bs rs h k f = f h
   rule-first m d (Some r) bs rs h k f =
-      let valid = is_valid_judgement_rule (callable S) L m in
+      let valid = is_valid_judgement_rule (callable S) M m in
       let g = rule-good m d r h.0 k in
       let l = f h.1 in
       ((g.0, l.0), and_both (valid (rule_reading S ns (Some m) r)) (list_all valid rs) g.1 l.1)
 
-  rules-good : (j : Option Sexp) (m : Mode) (ds : List Sexp) → RulesHave S (can_bind ns) (rule_branches j (Some m) ds) → ArePassed S ns (rules_stand S ns j (Some m) ds)
+  rules-good : (j : Option Sexp) (m : Mode) (ds : List Sexp) → RulesHave S (bound (BindsWithin ys ns)) (rule_branches j (Some m) ds) → ArePassed S ns (rules_stand S ns j (Some m) ds)
       → AreGoodRules m (rule_branches j (Some m) ds) (rules_reading S ns j (Some m) ds)
   rules-good j m [] h k = (tt, refl)
   rules-good j m (d ∷ ds) h k =
@@ -162,39 +169,39 @@ module _ (S : Scope) (L : Language) where
   -- ---- options
 
   -- patterns that stand by themselves, before others
-  alone-before : (ps qs : List Sexp) → AloneHave (CanBind ns) (ps ++ qs) → ArePassed S ns (map lone_pattern ps)
-      → (AloneHave (CanBind ns) qs → AloneHave (IsPattern L ns) qs) → AloneHave (IsPattern L ns) (ps ++ qs)
+  alone-before : (ps qs : List Sexp) → AloneHave (BindsWithin ys ns) (ps ++ qs) → ArePassed S ns (map lone_pattern ps)
+      → (AloneHave (BindsWithin ys ns) qs → AloneHave (IsPattern M ns) qs) → AloneHave (IsPattern M ns) (ps ++ qs)
   alone-before [] qs h k f = f h
   alone-before (p ∷ ps) qs h k f =
       let a = pattern-first S ns [] (occurrences 0 p) (map lone_pattern ps) k in
-      ((taken-passed S L [] (one p) h.0 a.0).0, alone-before ps qs h.1 a.1 f)
+      ((taken-passed S L ys [] (one p) h.0 a.0).0, alone-before ps qs h.1 a.1 f)
 
   -- what an option gives, before others
-  given-good : (m : Option Mode) (k d : Sexp) (o : Option Headed) (qs : List Sexp) → AloneHave (CanBind ns) (given_patterns k o ++ qs)
-      → ArePassed S ns (given_stands m k d o) → (AloneHave (CanBind ns) qs → AloneHave (IsPattern L ns) qs) → AloneHave (IsPattern L ns) (given_patterns k o ++ qs)
+  given-good : (m : Option Mode) (k d : Sexp) (o : Option Headed) (qs : List Sexp) → AloneHave (BindsWithin ys ns) (given_patterns k o ++ qs)
+      → ArePassed S ns (given_stands m k d o) → (AloneHave (BindsWithin ys ns) qs → AloneHave (IsPattern M ns) qs) → AloneHave (IsPattern M ns) (given_patterns k o ++ qs)
   given-good m k d None qs h p f = f h
   given-good m k d (Some q) qs h p f = by_test (is_keyword (codes "mode") k) h p
     where
-      by_test : (b : Bool) → AloneHave (CanBind ns) ((if b then [] else q.arguments) ++ qs) → ArePassed S ns (if b then mode_stands q else contract_stands m d q)
-          → AloneHave (IsPattern L ns) ((if b then [] else q.arguments) ++ qs)
+      by_test : (b : Bool) → AloneHave (BindsWithin ys ns) ((if b then [] else q.arguments) ++ qs) → ArePassed S ns (if b then mode_stands q else contract_stands m d q)
+          → AloneHave (IsPattern M ns) ((if b then [] else q.arguments) ++ qs)
       by_test true g l = f g
       by_test false g l = alone-before q.arguments qs g (passed-both S ns (misfits (is_misfit m q.arguments) d q.head) (map lone_pattern q.arguments) l).1 f
 
-  option-good : (m : Option Mode) (k : Sexp) (o : Option Sexp) (qs : List Sexp) → AloneHave (CanBind ns) (option_patterns k o ++ qs)
-      → ArePassed S ns (option_stands m k o) → (AloneHave (CanBind ns) qs → AloneHave (IsPattern L ns) qs) → AloneHave (IsPattern L ns) (option_patterns k o ++ qs)
+  option-good : (m : Option Mode) (k : Sexp) (o : Option Sexp) (qs : List Sexp) → AloneHave (BindsWithin ys ns) (option_patterns k o ++ qs)
+      → ArePassed S ns (option_stands m k o) → (AloneHave (BindsWithin ys ns) qs → AloneHave (IsPattern M ns) qs) → AloneHave (IsPattern M ns) (option_patterns k o ++ qs)
   option-good m k None qs h p f = f h
   option-good m k (Some d) qs h p f = given-good m k d (headed d) qs h p f
 
   -- where it has its shape
-  option-when : (b : Bool) (m : Option Mode) (o : OptionForm) (qs : List Sexp) → AloneHave (CanBind ns) ((if b then option_patterns o.key o.given else []) ++ qs)
-      → ArePassed S ns (if b then option_stands m o.key o.given else misshaped o.key ∷ []) → (AloneHave (CanBind ns) qs → AloneHave (IsPattern L ns) qs)
-      → AloneHave (IsPattern L ns) ((if b then option_patterns o.key o.given else []) ++ qs)
+  option-when : (b : Bool) (m : Option Mode) (o : OptionForm) (qs : List Sexp) → AloneHave (BindsWithin ys ns) ((if b then option_patterns o.key o.given else []) ++ qs)
+      → ArePassed S ns (if b then option_stands m o.key o.given else misshaped o.key ∷ []) → (AloneHave (BindsWithin ys ns) qs → AloneHave (IsPattern M ns) qs)
+      → AloneHave (IsPattern M ns) ((if b then option_patterns o.key o.given else []) ++ qs)
   option-when true m o qs h p f = option-good m o.key o.given qs h p f
   option-when false m o qs h p f = f h
 
   -- the patterns of options are well formed
-  options-good : (j : Option Sexp) (m : Option Mode) (seen : List (List ℕ)) (os : List OptionForm) → AloneHave (CanBind ns) (options_patterns j seen os)
-      → ArePassed S ns (options_stand j m seen os) → AloneHave (IsPattern L ns) (options_patterns j seen os)
+  options-good : (j : Option Sexp) (m : Option Mode) (seen : List (List ℕ)) (os : List OptionForm) → AloneHave (BindsWithin ys ns) (options_patterns j seen os)
+      → ArePassed S ns (options_stand j m seen os) → AloneHave (IsPattern M ns) (options_patterns j seen os)
   options-good j m seen [] h k = tt
   options-good j m seen (o ∷ os) h k =
       let b = is_fit_option j seen o in
@@ -242,27 +249,27 @@ module _ (S : Scope) (L : Language) where
   -- ---- contracts
 
   -- the patterns in front, and those behind
-  alone-front : (ps qs : List Sexp) → AloneHave (IsPattern L ns) (ps ++ qs) → AloneHave (IsPattern L ns) ps
+  alone-front : (ps qs : List Sexp) → AloneHave (IsPattern M ns) (ps ++ qs) → AloneHave (IsPattern M ns) ps
   alone-front [] qs h = tt
   alone-front (p ∷ ps) qs h = (h.0, alone-front ps qs h.1)
 
-  alone-behind : (ps qs : List Sexp) → AloneHave (IsPattern L ns) (ps ++ qs) → AloneHave (IsPattern L ns) qs
+  alone-behind : (ps qs : List Sexp) → AloneHave (IsPattern M ns) (ps ++ qs) → AloneHave (IsPattern M ns) qs
   alone-behind [] qs h = h
   alone-behind (p ∷ ps) qs h = alone-behind ps qs h.1
 
   -- a contract fits this mode, and its patterns are well formed
   record IsGoodContract (m : Option Mode) (q : Headed) : Type 0 where
     fits : is_misfit m q.arguments ≡ false
-    patterns : AloneHave (IsPattern L ns) q.arguments
+    patterns : AloneHave (IsPattern M ns) q.arguments
 
   -- so is the one that the first option of its keyword gives
   contract-option : (m : Option Mode) (k : Sexp) (g : Option Sexp) (ps : List Sexp) (q : Headed) → is_keyword (codes "contract") k ≡ true
-      → AloneHave (IsPattern L ns) (option_patterns k g ++ ps) → ArePassed S ns (option_stands m k g) → headed_by g ≡ Some q → IsGoodContract m q
+      → AloneHave (IsPattern M ns) (option_patterns k g ++ ps) → ArePassed S ns (option_stands m k g) → headed_by g ≡ Some q → IsGoodContract m q
   contract-option m k None ps q e h p f = absurd cc
   contract-option m k (Some d) ps q e h p f =
       let n = contract-not_mode k e in
-      let l : AloneHave (IsPattern L ns) (q.arguments ++ ps) =
-      subst (λ (b : Bool). AloneHave (IsPattern L ns) ((if b then [] else q.arguments) ++ ps)) n (subst (λ (x : Option Headed). AloneHave (IsPattern L ns) (given_patterns k x ++ ps)) f h) in
+      let l : AloneHave (IsPattern M ns) (q.arguments ++ ps) =
+      subst (λ (b : Bool). AloneHave (IsPattern M ns) ((if b then [] else q.arguments) ++ ps)) n (subst (λ (x : Option Headed). AloneHave (IsPattern M ns) (given_patterns k x ++ ps)) f h) in
       let r : ArePassed S ns (contract_stands m d q) =
       subst (λ (b : Bool). ArePassed S ns (if b then mode_stands q else contract_stands m d q)) n (subst (λ (x : Option Headed). ArePassed S ns (given_stands m k d x)) f p) in
       let u = passed-both S ns (misfits (is_misfit m q.arguments) d q.head) (map lone_pattern q.arguments) r in
@@ -270,13 +277,13 @@ module _ (S : Scope) (L : Language) where
 
   -- where it is in front of others
   contract-first : (b c : Bool) (m : Option Mode) (k : Sexp) (g others : Option Sexp) (ps : List Sexp) (q : Headed) → is_keyword (codes "contract") k ≡ b
-      → AloneHave (IsPattern L ns) ((if c then option_patterns k g else []) ++ ps) → ArePassed S ns (if c then option_stands m k g else misshaped k ∷ [])
-      → (AloneHave (IsPattern L ns) ps → headed_by others ≡ Some q → IsGoodContract m q) → headed_by (if b then g else others) ≡ Some q → IsGoodContract m q
+      → AloneHave (IsPattern M ns) ((if c then option_patterns k g else []) ++ ps) → ArePassed S ns (if c then option_stands m k g else misshaped k ∷ [])
+      → (AloneHave (IsPattern M ns) ps → headed_by others ≡ Some q → IsGoodContract m q) → headed_by (if b then g else others) ≡ Some q → IsGoodContract m q
   contract-first true true m k g others ps q e h p f l = contract-option m k g ps q e h p l
   contract-first true false m k g others ps q e h p f l = absurd (let z = p.shapes in cc)
   contract-first false c m k g others ps q e h p f l = f (alone-behind (if c then option_patterns k g else []) ps h) l
 
-  contract-passed : (j : Option Sexp) (m : Option Mode) (seen : List (List ℕ)) (os : List OptionForm) (q : Headed) → AloneHave (IsPattern L ns) (options_patterns j seen os)
+  contract-passed : (j : Option Sexp) (m : Option Mode) (seen : List (List ℕ)) (os : List OptionForm) (q : Headed) → AloneHave (IsPattern M ns) (options_patterns j seen os)
       → ArePassed S ns (options_stand j m seen os) → headed_by (given_by (codes "contract") os) ≡ Some q → IsGoodContract m q
   contract-passed j m seen [] q h k e = absurd cc
   contract-passed j m seen (o ∷ os) q h k e =
@@ -292,21 +299,19 @@ module _ (S : Scope) (L : Language) where
   single-closed (d ∷ ds) = single-closed ds
 
   -- each of which is well formed
-  closed-each : (ds : List Sexp) → AloneHave (IsPattern L ns) ds → closed_items_fit (closed_items (items_reading ns ds)) ≡ true
-  closed-each [] h = refl
-  closed-each (d ∷ ds) h =
-      let p = reading ns Query d in
-      and_both (has_fitting_names p) (closed_items_fit (closed_items (items_reading ns ds)))
-      (and_true (has_known_nonterminals (defined L) p) (has_fitting_names p) h.0.well_formed).1 (closed-each ds h.1)
+  each-well : (ds : List Sexp) → AloneHave (IsPattern M ns) ds → AreWell S L ys (items_reading ns ds)
+  each-well [] h = (refl, refl)
+  each-well (d ∷ ds) h = with-well S L ys None (reading ns Query d) (items_reading ns ds) h.0.well_formed (each-well ds h.1)
 
   -- a contract that fits this mode is valid
-  contract-valid : (m : Mode) (q : Headed) → IsGoodContract (Some m) q → IsJudgementContract L ns (Some q) × (is_valid_judgement_contract L m (Some (contract_reading ns q)) ≡ true)
+  contract-valid : (m : Mode) (q : Headed) → IsGoodContract (Some m) q → IsJudgementContract M ns (Some q) × (is_valid_judgement_contract M m (Some (contract_reading ns q)) ≡ true)
   contract-valid m q h =
       let f = mode-fits (Some m) q.arguments refl h.fits in
       let long : length m ≡ length q.arguments = ap (λ (n : Mode). length n) (let e = f.is in let same : m ≡ f.mode = cc in same) ∙ f.long in
-      let formed = closed-well_formed S L (items_reading ns q.arguments) (each-known L q.arguments) (closed-each q.arguments h.patterns) in (
+      let w = each-well q.arguments h.patterns in
+      let formed = closed-well_formed S L ys (items_reading ns q.arguments) w.0 w.1 in (
         formed,
-        and_both (is_list_of (length m) (contract_reading ns q)) (is_well_formed_in L (contract_reading ns q))
+        and_both (is_list_of (length m) (contract_reading ns q)) (is_well_formed_in M (contract_reading ns q))
             (ap (λ n. are_single n (closed_items (items_reading ns q.arguments))) long ∙ single-closed q.arguments) formed,
       )
 
@@ -314,14 +319,14 @@ module _ (S : Scope) (L : Language) where
 
   -- what a form that passes has
   pub record IsValidJudgement (f : JudgementForm) : Type 0 where
-    pub parts : OutlineHas S (can_read S L ns) (judgement_outline f)
-    pub contract : IsJudgementContract L ns (contract_form f)
+    pub parts : OutlineHas S (can_read S M ns) (judgement_outline f)
+    pub contract : IsJudgementContract M ns (contract_form f)
     pub moded : IsSome (own_mode f)
     pub named : IsTrue (is_name (text_in (judgement_in f)))
-    pub valid : is_valid_judgement (callable S) (Some L) (judgement_reading S ns f) ≡ true
+    pub valid : is_valid_judgement (callable S) (Some M) (judgement_reading S ns f) ≡ true
 
   -- by its mode
-  moded-good : (f : JudgementForm) (q : Headed) → mode_form f ≡ Some q → IsReadableHeaded q → OutlineHas S (can_bind ns) (judgement_outline f)
+  moded-good : (f : JudgementForm) (q : Headed) → mode_form f ≡ Some q → HeadedHas IsReadable q → OutlineHas S (bound (BindsWithin ys ns)) (judgement_outline f)
       → ArePassed S ns (options_stand (judgement_in f) (own_mode f) [] f.options) → ArePassed S ns (rules_stand S ns (judgement_in f) (own_mode f) f.rules) → IsValidJudgement f
   moded-good f q e r h options rules =
       let j = judgement_in f in
@@ -332,7 +337,7 @@ module _ (S : Scope) (L : Language) where
       let alone = options-good j (own_mode f) [] f.options h.alone options in
       let good : AreGoodRules m (rule_branches j (own_mode f) f.rules) (rules_reading S ns j (own_mode f) f.rules) =
       subst (λ (o : Option Mode). AreGoodRules m (rule_branches j o f.rules) (rules_reading S ns j o f.rules)) (sym own)
-      (rules-good j m f.rules (subst (λ (o : Option Mode). RulesHave S (can_bind ns) (rule_branches j o f.rules)) own h.rules)
+      (rules-good j m f.rules (subst (λ (o : Option Mode). RulesHave S (bound (BindsWithin ys ns)) (rule_branches j o f.rules)) own h.rules)
       (subst (λ (o : Option Mode). ArePassed S ns (rules_stand S ns j o f.rules)) own rules)) in
       let contract = by_contract m own alone (contract_form f) refl in
       record {
@@ -341,17 +346,17 @@ module _ (S : Scope) (L : Language) where
         moded = subst (λ (o : Option Mode). IsSome o) (sym own) refl;
         named = subst (λ (o : Option Headed). IsTrue (is_name (text_in (option_map (λ h. h.head) o)))) (sym e) (judgement-name q.head r.head name.0);
         valid =
-            ap (λ (n : Mode). is_valid_judgement_contract L n (option_map (contract_reading ns) (contract_form f)) && list_all (is_valid_judgement_rule C L n) (rules_reading S ns j (own_mode f) f.rules)) (ap mode_or_none own)
-            ∙ and_both (is_valid_judgement_contract L m (option_map (contract_reading ns) (contract_form f))) (list_all (is_valid_judgement_rule C L m) (rules_reading S ns j (own_mode f) f.rules)) contract.1 good.1;
+            ap (λ (n : Mode). is_valid_judgement_contract M n (option_map (contract_reading ns) (contract_form f)) && list_all (is_valid_judgement_rule C M n) (rules_reading S ns j (own_mode f) f.rules)) (ap mode_or_none own)
+            ∙ and_both (is_valid_judgement_contract M m (option_map (contract_reading ns) (contract_form f))) (list_all (is_valid_judgement_rule C M m) (rules_reading S ns j (own_mode f) f.rules)) contract.1 good.1;
       }
     where
-      by_contract : (m : Mode) → own_mode f ≡ Some m → AloneHave (IsPattern L ns) (options_patterns (judgement_in f) [] f.options) → (c : Option Headed) → contract_form f ≡ c
-          → IsJudgementContract L ns c × (is_valid_judgement_contract L m (option_map (contract_reading ns) c) ≡ true)
+      by_contract : (m : Mode) → own_mode f ≡ Some m → AloneHave (IsPattern M ns) (options_patterns (judgement_in f) [] f.options) → (c : Option Headed) → contract_form f ≡ c
+          → IsJudgementContract M ns c × (is_valid_judgement_contract M m (option_map (contract_reading ns) c) ≡ true)
       by_contract m own alone None g = (tt, refl)
       by_contract m own alone (Some c) g =
           contract-valid m c (subst (λ (o : Option Mode). IsGoodContract o c) own (contract-passed (judgement_in f) (own_mode f) [] f.options c alone options g))
 
-  pub judgement-good : (d : Sexp) (f : JudgementForm) → IsReadableHeadedIn (mode_form f) → OutlineHas S (can_bind ns) (judgement_outline f)
+  pub judgement-good : (d : Sexp) (f : JudgementForm) → HeadedHasIn IsReadable (mode_form f) → OutlineHas S (bound (BindsWithin ys ns)) (judgement_outline f)
       → ArePassed S ns (judgement_stands S ns d (Some f)) → IsValidJudgement f
   judgement-good d f r h k = by_mode (mode_form f) refl
     where
@@ -370,7 +375,7 @@ module _ (S : Scope) (L : Language) where
           absurd (let z = (subst (λ (o : Option Headed). ArePassed S ns (missing_mode d o)) e p).modes in cc)
       by_mode (Some q) e =
           let p = passed-both S ns (missing ++ options) rules k in
-          moded-good f q e (subst IsReadableHeadedIn e r) h (passed-both S ns missing options p.0).1 p.1
+          moded-good f q e (subst (HeadedHasIn IsReadable) e r) h (passed-both S ns missing options p.0).1 p.1
 
   -- ---- premises by themselves
 
@@ -378,12 +383,12 @@ module _ (S : Scope) (L : Language) where
   pub record IsValidQuestion (d : Sexp) (t : Option Sexp) : Type 0 where
     pub form : Headed
     pub is_form : headed d ≡ Some form
-    pub parts : OutlineHas S (can_read S L ns) (question_outline d t)
-    pub valid : is_valid_extra (callable S) L [] (holds (premise_reading S ns [] form)) ≡ true
+    pub parts : OutlineHas S (can_read S M ns) (question_outline d t)
+    pub valid : is_valid_extra (callable S) M [] (holds (premise_reading S ns [] form)) ≡ true
     pub result : (x : Sexp) → t ≡ Some x
         → fits (has_metafunction S) (bound_by (uses 0 (premise_reading S ns [] form).outputs)) 0 (template_reading S (names_bound (bound_by_premise S ns (Some form))) x) ≡ true
 
-  pub question-good : (d : Sexp) (t : Option Sexp) → OutlineHas S (can_bind ns) (question_outline d t) → ArePassed S ns (lone_premise_stands S ns d t) → IsValidQuestion d t
+  pub question-good : (d : Sexp) (t : Option Sexp) → OutlineHas S (bound (BindsWithin ys ns)) (question_outline d t) → ArePassed S ns (lone_premise_stands S ns d t) → IsValidQuestion d t
   question-good d t h k = by_form (headed d) refl
     where
       held : List Stand
@@ -398,7 +403,7 @@ module _ (S : Scope) (L : Language) where
           absurd (let z = (subst (λ (o : Option Headed). ArePassed S ns (held_stands S ns [] d o)) e p).shapes in cc)
       by_form (Some q) e =
           let p = passed-both S ns held behind k in
-          let g = premise-good S L [] d q (subst (λ (o : Option Headed). PremiseHas S (can_bind ns) o) e h.questions.0.premise)
+          let g = premise-good S L ys [] d q (subst (λ (o : Option Headed). PremiseHas S (bound (BindsWithin ys ns)) o) e h.questions.0.premise)
           (subst (λ (o : Option Headed). ArePassed S ns (held_stands S ns [] d o)) e p.0) in
           let bs = bound_by_premise S ns (Some q) in
           record {
@@ -408,7 +413,7 @@ module _ (S : Scope) (L : Language) where
               alone = tt;
               branches = tt;
               rules = tt;
-              questions = (record { premise = subst (λ (o : Option Headed). PremiseHas S (can_read S L ns) o) (sym e) g.has; result = h.questions.0.result }, tt);
+              questions = (record { premise = subst (λ (o : Option Headed). PremiseHas S (can_read S M ns) o) (sym e) g.has; result = h.questions.0.result }, tt);
             };
             valid = g.valid [] refl;
             result = λ x f.

@@ -13,6 +13,7 @@
 
 mod arguments;
 mod branches;
+mod crosses;
 mod extras;
 mod judgements;
 pub mod laws;

@@ -3,6 +3,7 @@ ghost use Rattle.std.specs.Prelude.{◌≡◌, [], IfOk, IfSome, option_map};
 ghost use Rattle.rdx_lang.specs.Checked.{language_in};
 ghost use Rattle.rdx_lang.specs.ProgramView.{premise_of};
 ghost use Rattle.rdx_lang.specs.TemplateView.{template_of};
+ghost use Rattle.rdx_grammar.specs.Ends.{Gained, ends_in};
 ghost use Rattle.rdx_grammar.specs.Nonterminals.{names_of};
 ghost use Rattle.rdx_grammar.specs.Readable.{IsReadable};
 ghost use Rattle.rdx_defs.specs.Answers.{ReadsPremise};
@@ -15,6 +16,7 @@ ghost use Rattle.rdx_defs.specs.TemplateReading.{template_reading};
 
 use crate::Scope;
 use crate::arguments::headed_list;
+use crate::crosses::add_asked;
 use crate::judgements::refusals::refuse_question;
 use crate::stands::names::lone_names;
 use crate::stands::readings;
@@ -96,13 +98,15 @@ pub fn read_premise(
     requires behind { IfSome behind (λ d. IsReadable d.now) }
     ensures reads { ReadsPremise (scope_of scope.now) (names_of (language_in language.old))
         premise.now (option_map (λ d. d.now) behind.entry) result }
-    ensures same { language_in language.new ≡ language_in language.old }
+    ensures gains { Gained (language_in language.old) (ends_in premise.now) result
+        (language_in language.new) }
 {
     let all = language_names(alloc, language)?;
     let names = Names::new(alloc, &all)?;
     if let Some(refusal) = refuse_question(alloc, scope, &names, premise, behind)? {
         return Err(DefFault::Refused(refusal));
     }
+    add_asked(alloc, language, premise)?;
     let Some(asked) = read_alone(alloc, scope, language, &names, premise)? else {
         unreachable!()
     };

@@ -3,6 +3,7 @@ ghost use Rattle.std.specs.Prelude.{◌≡◌, None, Some, IfOk, IsTrue, option_
 ghost use Rattle.rdx_lang.specs.Checked.{language_in};
 ghost use Rattle.rdx_lang.specs.ProgramView.{judgement_of};
 ghost use Rattle.rdx_lang.specs.Valid.{is_valid_judgement};
+ghost use Rattle.rdx_grammar.specs.Ends.{Gained, ends_in};
 ghost use Rattle.rdx_grammar.specs.Nonterminals.{names_of};
 ghost use Rattle.rdx_grammar.specs.Readable.{IsReadable};
 ghost use Rattle.rdx_defs.specs.Answers.{ReadsJudgement};
@@ -10,6 +11,7 @@ ghost use Rattle.rdx_defs.specs.JudgementForms as forms;
 ghost use Rattle.rdx_defs.specs.Scope.{callable, scope_of};
 
 use crate::Scope;
+use crate::crosses::add_asked;
 use crate::judgements::forms::{judgement_form, judgement_in, own_mode};
 use crate::judgements::readings::read_parts;
 use crate::judgements::refusals::refuse_judgement;
@@ -42,7 +44,8 @@ pub fn read_judgement(
     requires { IsReadable form.now }
     ensures reads { ReadsJudgement (scope_of scope.now) (names_of (language_in language.old))
         form.now result }
-    ensures same { language_in language.new ≡ language_in language.old }
+    ensures gains { Gained (language_in language.old) (ends_in form.now) result
+        (language_in language.new) }
     ensures valid { IfOk result (λ j.
         IsTrue (is_valid_judgement (callable (scope_of scope.now))
         (Some (language_in language.new)) (judgement_of j))) }
@@ -63,5 +66,6 @@ pub fn read_judgement(
         unreachable!()
     };
     let Some(mode) = mode else { unreachable!() };
+    add_asked(alloc, language, form)?;
     Ok(read_parts(alloc, scope, language, &names, parts, name, mode)?)
 }

@@ -3,12 +3,14 @@ ghost use Rattle.std.specs.Prelude.{◌≡◌, Some, IfOk, IsTrue};
 ghost use Rattle.rdx_lang.specs.Checked.{language_in};
 ghost use Rattle.rdx_lang.specs.ProgramView.{metafunction_of};
 ghost use Rattle.rdx_lang.specs.Valid.{is_valid_metafunction};
+ghost use Rattle.rdx_grammar.specs.Ends.{Gained, ends_in};
 ghost use Rattle.rdx_grammar.specs.Nonterminals.{names_of};
 ghost use Rattle.rdx_grammar.specs.Readable.{IsReadable};
 ghost use Rattle.rdx_defs.specs.Answers.{ReadsMetafunction};
 ghost use Rattle.rdx_defs.specs.Scope.{callable, scope_of};
 
 use crate::Scope;
+use crate::crosses::add_asked;
 use crate::metafunctions::forms::{function_in, metafunction_form};
 use crate::metafunctions::readings::read_parts;
 use crate::metafunctions::stands::{function_stands, metafunction_outline};
@@ -31,7 +33,8 @@ pub fn read_metafunction(
     requires { IsReadable form.now }
     ensures reads { ReadsMetafunction (scope_of scope.now) (names_of (language_in language.old))
         form.now result }
-    ensures same { language_in language.new ≡ language_in language.old }
+    ensures gains { Gained (language_in language.old) (ends_in form.now) result
+        (language_in language.new) }
     ensures valid { IfOk result (λ f.
         IsTrue (is_valid_metafunction (callable (scope_of scope.now))
         (Some (language_in language.new)) (metafunction_of f))) }
@@ -50,8 +53,7 @@ pub fn read_metafunction(
     if let Some(refusal) = refuse_parts(alloc, scope, &names, &found, &outline)? {
         return Err(DefFault::Refused(refusal));
     }
-    match function {
-        Some(name) => Ok(read_parts(alloc, scope, language, &names, parts, name, &outline)?),
-        None => unreachable!(),
-    }
+    let Some(name) = function else { unreachable!() };
+    add_asked(alloc, language, form)?;
+    Ok(read_parts(alloc, scope, language, &names, parts, name, &outline)?)
 }

@@ -3,12 +3,14 @@ ghost use Rattle.std.specs.Prelude.{◌≡◌, Some, IfOk, IsTrue};
 ghost use Rattle.rdx_lang.specs.Checked.{language_in};
 ghost use Rattle.rdx_lang.specs.ProgramView.{relation_of};
 ghost use Rattle.rdx_lang.specs.Valid.{is_valid_over};
+ghost use Rattle.rdx_grammar.specs.Ends.{Gained, ends_in};
 ghost use Rattle.rdx_grammar.specs.Nonterminals.{names_of};
 ghost use Rattle.rdx_grammar.specs.Readable.{IsReadable};
 ghost use Rattle.rdx_defs.specs.Answers.{ReadsRelation};
 ghost use Rattle.rdx_defs.specs.Scope.{callable, scope_of};
 
 use crate::Scope;
+use crate::crosses::add_asked;
 use crate::relations::forms::relation_form;
 use crate::relations::readings::read_parts;
 use crate::relations::stands::{relation_outline, relation_stands};
@@ -33,7 +35,8 @@ pub fn read_relation(
     requires { IsReadable form.now }
     ensures reads { ReadsRelation (scope_of scope.now) (names_of (language_in language.old))
         name.now form.now result }
-    ensures same { language_in language.new ≡ language_in language.old }
+    ensures gains { Gained (language_in language.old) (ends_in form.now) result
+        (language_in language.new) }
     ensures valid { IfOk result (λ r.
         IsTrue (is_valid_over (callable (scope_of scope.now))
         (Some (language_in language.new)) (relation_of r))) }
@@ -51,5 +54,6 @@ pub fn read_relation(
     if let Some(refusal) = refuse_parts(alloc, scope, &names, &found, &outline)? {
         return Err(DefFault::Refused(refusal));
     }
+    add_asked(alloc, language, form)?;
     Ok(read_parts(alloc, scope, language, &names, name, parts, &outline)?)
 }

@@ -1,6 +1,7 @@
 use Rattle.std.proofs.Common.{◌≡◌, ◌∙◌, ℕ, List, [], Some, None, sym, ap, subst}
 use Rattle.std.specs.Prelude.{Option, option_map}
 use Rattle.rdx_lang.specs.Checked.{language_in}
+use Rattle.rdx_lang.specs.Patterns.{Language}
 use Rattle.rdx_lang.specs.ProgramView.{premise_of}
 use Rattle.rdx_lang.specs.TemplateView.{template_of}
 use Rattle.rdx_grammar.specs.Nonterminals.{names_of}
@@ -16,7 +17,7 @@ use Rattle.rdx_defs.specs.Stands.{names_bound, bound_by_premise}
 use Rattle.rdx_defs.specs.TemplateReading.{template_reading}
 use Rattle.rdx_defs.proofs.NamesBound as names
 use Rattle.rdx_defs.proofs.PartsAt.{premise-weaker}
-use Rattle.rdx_defs.proofs.PassedForms.{question-valid}
+use Rattle.rdx_defs.proofs.PassedForms.{gained, question-valid}
 use Rattle.rdx_defs.proofs.ReadJudgements.{readable-behind, read-some}
 use Rattle.rdx_defs.proofs.judgements.premises.read_premise.Goals as goal
 
@@ -43,7 +44,9 @@ read_alone-requires c =
     let e : premise_refusal S (names_of L) d t ≡ None =
     (λ i. premise_refusal S (sym n i) d t) ∙ sym c.in_ok-refusal.ensures ∙ ap (option_map refusal_of) c.in_default.is in
     let v = question-valid S L d t c.requires.premise (readable-behind c.args.behind c.requires.behind) e in
-    subst (λ (xs : List (List ℕ)). PremiseHas S (can_read S L xs) (headed d)) (sym n) v.parts.questions.0.premise
+    let w : language_in c.add_asked.new.language ≡ gained L d = c.in_ok-add_asked.ensures.added in
+    subst (λ (xs : List (List ℕ)). PremiseHas S (can_read S (language_in c.add_asked.new.language) xs) (headed d)) (sym n)
+    (subst (λ (M : Language). PremiseHas S (can_read S M (names_of L)) (headed d)) (sym w) v.parts.questions.0.premise)
 
 pub read_behind-requires : goal.read_behind-requires
 read_behind-requires c =
@@ -58,7 +61,7 @@ read_behind-requires c =
     (λ i. premise_refusal S (sym n i) d t) ∙ sym c.in_ok-refusal.ensures ∙ ap (option_map refusal_of) c.in_default.is in
     let v = question-valid S L d t c.requires.premise (readable-behind c.args.behind c.requires.behind) e in
     subst (λ (xs : List (List ℕ)). PremiseHas S (can_bind xs) (headed d)) (sym n)
-    (premise-weaker S (can_read S L (names_of L)) (can_bind (names_of L)) (λ w h. h.binds) (λ q h. tt) (λ ds h. h) (headed d) v.parts.questions.0.premise)
+    (premise-weaker S (can_read S (gained L d) (names_of L)) (can_bind (names_of L)) (λ w h. h.binds) (λ q h. tt) (λ ds h. h) (headed d) v.parts.questions.0.premise)
 
 pub returns-clause-reads : goal.returns-clause-reads
 returns-clause-reads c =

@@ -3,6 +3,7 @@ use Rattle.std.specs.Prelude.{Option, option_map}
 use Rattle.rdx_sexp.specs.Sexp.{Sexp}
 use Rattle.rdx_term.specs.Spelling.{is_name}
 use Rattle.rdx_lang.specs.Checked.{language_in}
+use Rattle.rdx_lang.specs.Patterns.{Language}
 use Rattle.rdx_lang.specs.ProgramView.{judgement_of}
 use Rattle.rdx_lang.specs.Programs.{Judgement}
 use Rattle.rdx_lang.specs.Valid.{is_valid_judgement}
@@ -11,18 +12,20 @@ use Rattle.rdx_grammar.specs.Parts.{text_of}
 use Rattle.rdx_grammar.specs.Refusal.{refusal_of, unnamed}
 use Rattle.rdx_grammar.specs.Unbuilt.{unbuilt_at}
 use Rattle.rdx_grammar.specs.declared.shape.fault.DefKind.TheVariants.{Unbuilt}
+use Rattle.rdx_grammar.specs.Readable.{IsReadable}
 use Rattle.rdx_defs.specs.Inside.Branches.{judgement_outline}
 use Rattle.rdx_defs.specs.Inside.Contracts.{IsJudgementContract}
 use Rattle.rdx_defs.specs.Inside.FormViews.{judgement_form_of}
-use Rattle.rdx_defs.specs.Inside.PartsHave.{RulesHave, can_read}
+use Rattle.rdx_defs.specs.Inside.PartsHave.{RulesHave, can_read, IsReadableTaken}
 use Rattle.rdx_defs.specs.JudgementForms.{judgement_form, judgement_in, contract_form, own_mode}
 use Rattle.rdx_defs.specs.JudgementReading.{judgement_reading}
 use Rattle.rdx_defs.specs.JudgementRefusal.{judgement_refusal}
 use Rattle.rdx_defs.specs.MetafunctionReading.{text_in}
 use Rattle.rdx_defs.specs.Scope.{scope_of, callable}
-use Rattle.rdx_defs.proofs.PassedForms.{judgement-valid}
+use Rattle.rdx_defs.proofs.PassedForms.{gained, judgement-valid}
 use Rattle.rdx_defs.proofs.ReadJudgements.{no-name, no-mode}
-use Rattle.rdx_defs.proofs.ReadableParts.{judgement-readable}
+use Rattle.rdx_defs.proofs.InheritedParts.{judgement-has}
+use Rattle.rdx_defs.proofs.ReadableParts.{readable-inherited}
 use Rattle.rdx_defs.proofs.judgements.reader.read_judgement.Goals as goal
 
 pub returns-in-Some-2-clause-reads : goal.returns-in-Some-2-clause-reads
@@ -78,7 +81,9 @@ read_parts-requires-clause-rules c =
     let e : judgement_refusal S (names_of L) d ≡ None =
     (λ i. judgement_refusal S (sym n i) d) ∙ sym c.in_ok-refusal.ensures ∙ ap (option_map refusal_of) c.in_default-2.is in
     let v = judgement-valid S L d f c.requires g e in
-    subst (λ (xs : List (List ℕ)). RulesHave S (can_read S L xs) (judgement_outline f).rules) (sym n) v.parts.rules
+    let w : language_in c.add_asked.new.language ≡ gained L d = c.in_ok-add_asked.ensures.added in
+    subst (λ (xs : List (List ℕ)). RulesHave S (can_read S (language_in c.add_asked.new.language) xs) (judgement_outline f).rules) (sym n)
+    (subst (λ (M : Language). RulesHave S (can_read S M (names_of L)) (judgement_outline f).rules) (sym w) v.parts.rules)
 
 pub read_parts-requires-clause-contract : goal.read_parts-requires-clause-contract
 read_parts-requires-clause-contract c =
@@ -93,14 +98,16 @@ read_parts-requires-clause-contract c =
     let e : judgement_refusal S (names_of L) d ≡ None =
     (λ i. judgement_refusal S (sym n i) d) ∙ sym c.in_ok-refusal.ensures ∙ ap (option_map refusal_of) c.in_default-2.is in
     let v = judgement-valid S L d f c.requires g e in
-    subst (λ (xs : List (List ℕ)). IsJudgementContract L xs (contract_form f)) (sym n) v.contract
+    let w : language_in c.add_asked.new.language ≡ gained L d = c.in_ok-add_asked.ensures.added in
+    subst (λ (xs : List (List ℕ)). IsJudgementContract (language_in c.add_asked.new.language) xs (contract_form f)) (sym n)
+    (subst (λ (M : Language). IsJudgementContract M (names_of L) (contract_form f)) (sym w) v.contract)
 
 pub read_parts-requires-clause-language : goal.read_parts-requires-clause-language
 read_parts-requires-clause-language c =
     let d = c.args.form.now in
     let f = judgement_form_of c.in-Some.parts in
     let g : judgement_form d ≡ Some f = sym c.judgement_form.ensures ∙ ap (option_map judgement_form_of) c.in-Some.is in
-    (judgement-readable d f c.requires g).language
+    (judgement-has IsReadable IsReadableTaken readable-inherited d f c.requires g).language
 
 pub read_parts-requires-clause-name : goal.read_parts-requires-clause-name
 read_parts-requires-clause-name c =
@@ -151,4 +158,6 @@ returns-clause-valid c =
     let v = judgement-valid S L d f c.requires g e in
     let r : judgement_of c.in_ok-read_parts.field-0 ≡ judgement_reading S (names_of L) f =
     c.in_ok-read_parts.ensures ∙ (λ i. judgement_reading S (n i) f) in
-    subst (λ (J : Judgement). is_valid_judgement (callable S) (Some L) J ≡ true) (sym r) v.valid
+    let w : language_in c.add_asked.new.language ≡ gained L d = c.in_ok-add_asked.ensures.added in
+    subst (λ (J : Judgement). is_valid_judgement (callable S) (Some (language_in c.add_asked.new.language)) J ≡ true) (sym r)
+    (subst (λ (M : Language). is_valid_judgement (callable S) (Some M) (judgement_reading S (names_of L) f) ≡ true) (sym w) v.valid)

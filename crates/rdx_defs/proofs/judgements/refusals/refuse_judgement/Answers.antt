@@ -1,15 +1,17 @@
 use Rattle.std.proofs.Common.{◌≡◌, ◌∙◌, ap, sym, subst}
 use Rattle.std.specs.Prelude.{IfOk, Option, option_map}
 use Rattle.rdx_grammar.specs.Refusal.{Refusal, refusal_of}
+use Rattle.rdx_grammar.specs.Readable.{IsReadable}
 use Rattle.rdx_defs.specs.Inside.BareStands as bare_stands
 use Rattle.rdx_defs.specs.Inside.Branches.{Outline, judgement_outline}
 use Rattle.rdx_defs.specs.Inside.FormRefusals.{form_refusal}
 use Rattle.rdx_defs.specs.Inside.FormViews.{judgement_form_of, outline_of, stands_of}
-use Rattle.rdx_defs.specs.Inside.PartsHave.{OutlineHas, can_bind}
+use Rattle.rdx_defs.specs.Inside.PartsHave.{OutlineHas, can_bind, IsReadableTaken}
 use Rattle.rdx_defs.specs.Scope.{scope_of}
 use Rattle.rdx_defs.proofs.FormRefusals.{judgement-refused}
 use Rattle.rdx_defs.proofs.PassedForms.{judgement-early}
-use Rattle.rdx_defs.proofs.ReadableParts.{judgement-readable, judgement_outline-readable}
+use Rattle.rdx_defs.proofs.InheritedParts.{judgement-has, judgement_outline-has}
+use Rattle.rdx_defs.proofs.ReadableParts.{readable-inherited}
 use Rattle.rdx_defs.proofs.judgements.refusals.refuse_judgement.Goals as goal
 
 pub judgement_outline-requires : goal.judgement_outline-requires
@@ -21,7 +23,7 @@ judgement_stands-requires-clause-mode c = c.requires.mode
 pub judgement_stands-requires-clause-parts : goal.judgement_stands-requires-clause-parts
 judgement_stands-requires-clause-parts c =
     let f = judgement_form_of c.args.form in
-    judgement_outline-readable (scope_of c.args.scope.now) f (judgement-readable c.args.d.now f c.requires.readable c.requires.form)
+    judgement_outline-has IsReadable IsReadableTaken readable-inherited (scope_of c.args.scope.now) f (judgement-has IsReadable IsReadableTaken readable-inherited c.args.d.now f c.requires.readable c.requires.form)
 
 pub refuse_parts-requires : goal.refuse_parts-requires
 refuse_parts-requires c =

@@ -1,6 +1,9 @@
+use Rattle.rdx_grammar.specs.Readable.{IsReadable}
+use Rattle.rdx_defs.specs.Inside.PartsHave.{IsReadableTaken}
 use Rattle.rdx_defs.specs.Scope.{scope_of}
-use Rattle.rdx_defs.proofs.ReadableParts.{premise-readable}
+use Rattle.rdx_defs.proofs.InheritedParts.{premise-has}
+use Rattle.rdx_defs.proofs.ReadableParts.{readable-inherited}
 use Rattle.rdx_defs.proofs.judgements.stands.question_stands.Goals as goal
 
 pub add_held-requires : goal.add_held-requires
-add_held-requires c = premise-readable (scope_of c.args.scope.now) c.args.premise.now c.requires
+add_held-requires c = premise-has IsReadable IsReadableTaken readable-inherited (scope_of c.args.scope.now) c.args.premise.now c.requires

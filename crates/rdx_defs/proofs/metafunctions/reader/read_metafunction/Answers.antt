@@ -1,6 +1,7 @@
 use Rattle.std.proofs.Common.{◌≡◌, ◌∙◌, ℕ, List, Some, None, true, sym, ap, subst, if◌then◌else◌}
 use Rattle.std.specs.Prelude.{option_map}
 use Rattle.rdx_lang.specs.Checked.{language_in}
+use Rattle.rdx_lang.specs.Patterns.{Language}
 use Rattle.rdx_lang.specs.ProgramView.{metafunction_of}
 use Rattle.rdx_lang.specs.Programs.{Metafunction}
 use Rattle.rdx_lang.specs.Valid.{is_valid_metafunction}
@@ -9,20 +10,22 @@ use Rattle.rdx_grammar.specs.Parts.{text_of}
 use Rattle.rdx_grammar.specs.Refusal.{refusal_of, unnamed}
 use Rattle.rdx_grammar.specs.Unbuilt.{unbuilt_at}
 use Rattle.rdx_grammar.specs.declared.shape.fault.DefKind.TheVariants.{Unbuilt}
+use Rattle.rdx_grammar.specs.Readable.{IsReadable}
 use Rattle.rdx_defs.specs.Inside.BareStands.{function_stands}
-use Rattle.rdx_defs.specs.Inside.Branches.{Branch, Outline, clause_branches, metafunction_outline}
+use Rattle.rdx_defs.specs.Inside.Branches.{Branch, Outline, clause_branches, contract_patterns, metafunction_outline}
 use Rattle.rdx_defs.specs.Inside.BranchReadings.{branch_metafunction}
 use Rattle.rdx_defs.specs.Inside.Contracts.{IsContractIn}
 use Rattle.rdx_defs.specs.Inside.FormRefusals.{form_refusal}
 use Rattle.rdx_defs.specs.Inside.FormViews.{metafunction_form_of, outline_of, stands_of}
-use Rattle.rdx_defs.specs.Inside.PartsHave.{AreReadable, BranchesHave, OutlineHas, can_bind, can_read}
+use Rattle.rdx_defs.specs.Inside.PartsHave.{AreReadable, BranchesHave, OutlineHas, can_bind, can_read, IsReadableTaken}
 use Rattle.rdx_defs.specs.MetafunctionForms.{metafunction_form, function_in}
 use Rattle.rdx_defs.specs.MetafunctionReading.{metafunction_reading}
 use Rattle.rdx_defs.specs.MetafunctionRefusal.{metafunction_refusal}
 use Rattle.rdx_defs.specs.Scope.{scope_of, callable}
 use Rattle.rdx_defs.proofs.FormRefusals.{metafunction-refused}
-use Rattle.rdx_defs.proofs.PassedForms.{metafunction-early, has-function, metafunction-valid}
-use Rattle.rdx_defs.proofs.ReadableParts.{metafunction-readable, contract-readable}
+use Rattle.rdx_defs.proofs.PassedForms.{gained, metafunction-early, has-function, metafunction-valid}
+use Rattle.rdx_defs.proofs.InheritedParts.{metafunction-has, contract-has}
+use Rattle.rdx_defs.proofs.ReadableParts.{readable-inherited, are-readable}
 use Rattle.rdx_defs.proofs.metafunctions.reader.read_metafunction.Goals as goal
 
 pub function_stands-requires-clause-alone : goal.function_stands-requires-clause-alone
@@ -32,14 +35,14 @@ function_stands-requires-clause-alone c =
     let f : metafunction_form d ≡ Some m = sym c.metafunction_form.ensures ∙ ap (option_map metafunction_form_of) c.in-Some.is in
     let k : option_map (λ x. x.now) c.function_in-function.result ≡ function_in m = c.function_in-function.ensures in
     let o : outline_of c.in_ok-outline.outline ≡ metafunction_outline m (function_in m) = c.in_ok-outline.ensures ∙ ap (metafunction_outline m) k in
-    subst AreReadable (sym (ap (λ (z : Outline). z.alone) o)) (contract-readable m.contract (metafunction-readable d m c.requires f).contract)
+    subst AreReadable (sym (ap (λ (z : Outline). z.alone) o)) (are-readable (contract_patterns m.contract) (contract-has IsReadable IsReadableTaken readable-inherited m.contract (metafunction-has IsReadable IsReadableTaken readable-inherited d m c.requires f).contract))
 
 pub function_stands-requires-clause-clauses : goal.function_stands-requires-clause-clauses
 function_stands-requires-clause-clauses c =
     let d = c.args.form.now in
     let m = metafunction_form_of c.in-Some.parts in
     let f : metafunction_form d ≡ Some m = sym c.metafunction_form.ensures ∙ ap (option_map metafunction_form_of) c.in-Some.is in
-    (metafunction-readable d m c.requires f).clauses
+    are-readable m.clauses (metafunction-has IsReadable IsReadableTaken readable-inherited d m c.requires f).clauses
 
 pub refuse_parts-requires : goal.refuse_parts-requires
 refuse_parts-requires c =
@@ -91,8 +94,10 @@ read_parts-requires-clause-branches c =
     let p : function_in m ≡ Some x = sym k ∙ ap (option_map (λ y. y.now)) c.in-Some-function.is in
     let v = metafunction-valid S L d m x c.requires f p e in
     let b : (outline_of c.in_ok-outline.outline).branches ≡ clause_branches (text_of x) m.clauses = ap (λ (z : Outline). z.branches) (o ∙ ap (metafunction_outline m) p) in
-    subst (λ (xs : List (List ℕ)). BranchesHave S (can_read S L xs) (outline_of c.in_ok-outline.outline).branches) (sym n)
-    (subst (λ (bs : List Branch). BranchesHave S (can_read S L (names_of L)) bs) (sym b) v.good.branches)
+    let w : language_in c.add_asked.new.language ≡ gained L d = c.in_ok-add_asked.ensures.added in
+    subst (λ (xs : List (List ℕ)). BranchesHave S (can_read S (language_in c.add_asked.new.language) xs) (outline_of c.in_ok-outline.outline).branches) (sym n)
+    (subst (λ (bs : List Branch). BranchesHave S (can_read S (language_in c.add_asked.new.language) (names_of L)) bs) (sym b)
+    (subst (λ (M : Language). BranchesHave S (can_read S M (names_of L)) (clause_branches (text_of x) m.clauses)) (sym w) v.good.branches))
 
 pub read_parts-requires-clause-contract : goal.read_parts-requires-clause-contract
 read_parts-requires-clause-contract c =
@@ -114,14 +119,16 @@ read_parts-requires-clause-contract c =
     let x = c.in-Some-function.name.now in
     let p : function_in m ≡ Some x = sym k ∙ ap (option_map (λ y. y.now)) c.in-Some-function.is in
     let v = metafunction-valid S L d m x c.requires f p e in
-    subst (λ (xs : List (List ℕ)). IsContractIn L xs m.contract) (sym n) v.good.contract
+    let w : language_in c.add_asked.new.language ≡ gained L d = c.in_ok-add_asked.ensures.added in
+    subst (λ (xs : List (List ℕ)). IsContractIn (language_in c.add_asked.new.language) xs m.contract) (sym n)
+    (subst (λ (M : Language). IsContractIn M (names_of L) m.contract) (sym w) v.good.contract)
 
 pub read_parts-requires-clause-language : goal.read_parts-requires-clause-language
 read_parts-requires-clause-language c =
     let d = c.args.form.now in
     let m = metafunction_form_of c.in-Some.parts in
     let f : metafunction_form d ≡ Some m = sym c.metafunction_form.ensures ∙ ap (option_map metafunction_form_of) c.in-Some.is in
-    (metafunction-readable d m c.requires f).language
+    (metafunction-has IsReadable IsReadableTaken readable-inherited d m c.requires f).language
 
 pub read_parts-requires-clause-name : goal.read_parts-requires-clause-name
 read_parts-requires-clause-name c =
@@ -162,7 +169,7 @@ unreachable-requires c =
     let n : c.in_ok-names.names ≡ names_of L = cc in
     let e : metafunction_refusal S (names_of L) d ≡ None =
     metafunction-refused S (names_of L) d m u f ∙ (λ i. form_refusal S (sym n i) (sym q i) (sym o i)) ∙ sym c.in_ok-refusal.ensures ∙ ap (option_map refusal_of) c.in_default-2.is in
-    has-function S (names_of L) d m c.requires f e (sym k ∙ ap (option_map (λ y. y.now)) c.in-None.is)
+    has-function S (names_of L) d m c.requires f e (sym k ∙ ap (option_map (λ y. y.now)) c.in_default-function.is)
 
 pub returns-clause-reads : goal.returns-clause-reads
 returns-clause-reads c =
@@ -185,8 +192,8 @@ returns-clause-reads c =
     let p : function_in m ≡ Some x = sym k ∙ ap (option_map (λ y. y.now)) c.in-Some-function.is in
     let v = metafunction-valid S L d m x c.requires f p e in
     let b : (outline_of c.in_ok-outline.outline).branches ≡ clause_branches (text_of x) m.clauses = ap (λ (z : Outline). z.branches) (o ∙ ap (metafunction_outline m) p) in
-    let g : metafunction_of c.in_ok-read_parts-in-Some-function.field-0 ≡ metafunction_reading S (names_of L) m =
-    c.in_ok-read_parts-in-Some-function.ensures ∙ (λ i. branch_metafunction S (n i) m x (b i)) ∙ v.reading in
+    let g : metafunction_of c.in_ok-read_parts.field-0 ≡ metafunction_reading S (names_of L) m =
+    c.in_ok-read_parts.ensures ∙ (λ i. branch_metafunction S (n i) m x (b i)) ∙ v.reading in
     record { passes = e; parts = m; is_form = f; is_read = g }
 
 pub returns-clause-valid : goal.returns-clause-valid
@@ -210,6 +217,8 @@ returns-clause-valid c =
     let p : function_in m ≡ Some x = sym k ∙ ap (option_map (λ y. y.now)) c.in-Some-function.is in
     let v = metafunction-valid S L d m x c.requires f p e in
     let b : (outline_of c.in_ok-outline.outline).branches ≡ clause_branches (text_of x) m.clauses = ap (λ (z : Outline). z.branches) (o ∙ ap (metafunction_outline m) p) in
-    let g : metafunction_of c.in_ok-read_parts-in-Some-function.field-0 ≡ metafunction_reading S (names_of L) m =
-    c.in_ok-read_parts-in-Some-function.ensures ∙ (λ i. branch_metafunction S (n i) m x (b i)) ∙ v.reading in
-    subst (λ (M : Metafunction). is_valid_metafunction (callable S) (Some L) M ≡ true) (sym g) v.valid
+    let g : metafunction_of c.in_ok-read_parts.field-0 ≡ metafunction_reading S (names_of L) m =
+    c.in_ok-read_parts.ensures ∙ (λ i. branch_metafunction S (n i) m x (b i)) ∙ v.reading in
+    let w : language_in c.add_asked.new.language ≡ gained L d = c.in_ok-add_asked.ensures.added in
+    subst (λ (F : Metafunction). is_valid_metafunction (callable S) (Some (language_in c.add_asked.new.language)) F ≡ true) (sym g)
+    (subst (λ (M : Language). is_valid_metafunction (callable S) (Some M) (metafunction_reading S (names_of L) m) ≡ true) (sym w) v.valid)

@@ -1,6 +1,7 @@
 use Rattle.std.proofs.Common.{◌≡◌, ◌∙◌, ℕ, List, [], Some, None, true, sym, ap, subst, if◌then◌else◌}
 use Rattle.std.specs.Prelude.{option_map}
 use Rattle.rdx_lang.specs.Checked.{language_in}
+use Rattle.rdx_lang.specs.Patterns.{Language}
 use Rattle.rdx_lang.specs.ProgramView.{relation_of}
 use Rattle.rdx_lang.specs.Programs.{Relation}
 use Rattle.rdx_lang.specs.Valid.{is_valid_over}
@@ -8,27 +9,31 @@ use Rattle.rdx_grammar.specs.Nonterminals.{names_of}
 use Rattle.rdx_grammar.specs.Refusal.{refusal_of, unnamed}
 use Rattle.rdx_grammar.specs.Unbuilt.{unbuilt_at}
 use Rattle.rdx_grammar.specs.declared.shape.fault.DefKind.TheVariants.{Unbuilt}
+use Rattle.rdx_grammar.specs.Readable.{IsReadable}
 use Rattle.rdx_defs.specs.Inside.BareStands.{relation_stands}
-use Rattle.rdx_defs.specs.Inside.Branches.{Outline, relation_outline}
+use Rattle.rdx_defs.specs.Inside.Branches.{Outline, domain_patterns, relation_outline}
 use Rattle.rdx_defs.specs.Inside.FormRefusals.{form_refusal}
 use Rattle.rdx_defs.specs.Inside.FormViews.{relation_form_of, outline_of, stands_of}
-use Rattle.rdx_defs.specs.Inside.PartsHave.{OutlineHas, can_bind, can_read}
+use Rattle.rdx_defs.specs.Inside.PartsHave.{OutlineHas, can_bind, can_read, IsReadableTaken}
 use Rattle.rdx_defs.specs.RelationForms.{relation_form}
 use Rattle.rdx_defs.specs.RelationReading.{relation_reading}
 use Rattle.rdx_defs.specs.RelationRefusal.{relation_refusal}
 use Rattle.rdx_defs.specs.Scope.{scope_of, callable}
 use Rattle.rdx_defs.proofs.FormRefusals.{relation-refused}
-use Rattle.rdx_defs.proofs.PassedForms.{relation-early, relation-valid}
-use Rattle.rdx_defs.proofs.ReadableParts.{relation-readable}
+use Rattle.rdx_defs.proofs.PassedForms.{gained, relation-early, relation-valid}
+use Rattle.rdx_defs.proofs.InheritedParts.{relation-has}
+use Rattle.rdx_defs.proofs.ReadableParts.{readable-inherited, are-readable}
 use Rattle.rdx_defs.proofs.relations.reader.read_relation.Goals as goal
 
 pub relation_stands-requires-clause-domain : goal.relation_stands-requires-clause-domain
 relation_stands-requires-clause-domain c =
-    (relation-readable c.args.form.now (relation_form_of c.in-Some.parts) c.requires (sym c.relation_form.ensures ∙ ap (option_map relation_form_of) c.in-Some.is)).domain
+    are-readable (domain_patterns (relation_form_of c.in-Some.parts).domain)
+    (relation-has IsReadable IsReadableTaken readable-inherited c.args.form.now (relation_form_of c.in-Some.parts) c.requires (sym c.relation_form.ensures ∙ ap (option_map relation_form_of) c.in-Some.is)).domain
 
 pub relation_stands-requires-clause-cases : goal.relation_stands-requires-clause-cases
 relation_stands-requires-clause-cases c =
-    (relation-readable c.args.form.now (relation_form_of c.in-Some.parts) c.requires (sym c.relation_form.ensures ∙ ap (option_map relation_form_of) c.in-Some.is)).cases
+    are-readable (relation_form_of c.in-Some.parts).cases
+    (relation-has IsReadable IsReadableTaken readable-inherited c.args.form.now (relation_form_of c.in-Some.parts) c.requires (sym c.relation_form.ensures ∙ ap (option_map relation_form_of) c.in-Some.is)).cases
 
 pub refuse_parts-requires : goal.refuse_parts-requires
 refuse_parts-requires c =
@@ -70,12 +75,14 @@ read_parts-requires-clause-parts c =
     let o : outline_of c.in_ok-outline.outline ≡ relation_outline r = c.in_ok-outline.ensures in
     let e : relation_refusal S (names_of L) d ≡ None =
     relation-refused S (names_of L) d r u f ∙ (λ i. form_refusal S (sym n i) (sym q i) (sym o i)) ∙ sym c.in_ok-refusal.ensures ∙ ap (option_map refusal_of) c.in_default-2.is in
-    subst (λ (xs : List (List ℕ)). OutlineHas S (can_read S L xs) (outline_of c.in_ok-outline.outline)) (sym n)
-    (subst (λ (p : Outline). OutlineHas S (can_read S L (names_of L)) p) (sym o) (relation-valid S L d r [] c.requires f e).0)
+    let w : language_in c.add_asked.new.language ≡ gained L d = c.in_ok-add_asked.ensures.added in
+    subst (λ (xs : List (List ℕ)). OutlineHas S (can_read S (language_in c.add_asked.new.language) xs) (outline_of c.in_ok-outline.outline)) (sym n)
+    (subst (λ (p : Outline). OutlineHas S (can_read S (language_in c.add_asked.new.language) (names_of L)) p) (sym o)
+    (subst (λ (M : Language). OutlineHas S (can_read S M (names_of L)) (relation_outline r)) (sym w) (relation-valid S L d r [] c.requires f e).0))
 
 pub read_parts-requires-clause-named : goal.read_parts-requires-clause-named
 read_parts-requires-clause-named c =
-    (relation-readable c.args.form.now (relation_form_of c.in-Some.parts) c.requires (sym c.relation_form.ensures ∙ ap (option_map relation_form_of) c.in-Some.is)).language
+    (relation-has IsReadable IsReadableTaken readable-inherited c.args.form.now (relation_form_of c.in-Some.parts) c.requires (sym c.relation_form.ensures ∙ ap (option_map relation_form_of) c.in-Some.is)).language
 
 pub returns-clause-reads : goal.returns-clause-reads
 returns-clause-reads c =
@@ -113,4 +120,7 @@ returns-clause-valid c =
     relation-refused S (names_of L) d r u f ∙ (λ i. form_refusal S (sym n i) (sym q i) (sym o i)) ∙ sym c.in_ok-refusal.ensures ∙ ap (option_map refusal_of) c.in_default-2.is in
     let g : relation_of c.in_ok-read_parts.field-0 ≡ relation_reading S (names_of L) c.args.name.now r =
     c.in_ok-read_parts.ensures ∙ ap (λ xs. relation_reading S xs c.args.name.now r) n in
-    subst (λ (R : Relation). is_valid_over (callable S) (Some L) R ≡ true) (sym g) (relation-valid S L d r c.args.name.now c.requires f e).1
+    let w : language_in c.add_asked.new.language ≡ gained L d = c.in_ok-add_asked.ensures.added in
+    subst (λ (R : Relation). is_valid_over (callable S) (Some (language_in c.add_asked.new.language)) R ≡ true) (sym g)
+    (subst (λ (M : Language). is_valid_over (callable S) (Some M) (relation_reading S (names_of L) c.args.name.now r) ≡ true) (sym w)
+    (relation-valid S L d r c.args.name.now c.requires f e).1)

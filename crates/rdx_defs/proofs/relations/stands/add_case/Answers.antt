@@ -1,13 +1,15 @@
 use Rattle.std.proofs.Common.{◌∙◌, sym, ap, subst}
 use Rattle.std.specs.Prelude.{option_map}
+use Rattle.rdx_grammar.specs.Readable.{IsReadable}
 use Rattle.rdx_defs.specs.Inside.Branches.{Branch}
 use Rattle.rdx_defs.specs.Inside.FormViews.{case_form_of}
-use Rattle.rdx_defs.specs.Inside.PartsHave.{BranchHas, readable}
+use Rattle.rdx_defs.specs.Inside.PartsHave.{BranchHas, readable, IsReadableTaken}
 use Rattle.rdx_defs.specs.Scope.{scope_of}
-use Rattle.rdx_defs.proofs.ReadableParts.{case-readable}
+use Rattle.rdx_defs.proofs.InheritedParts.{case-has}
+use Rattle.rdx_defs.proofs.ReadableParts.{readable-inherited}
 use Rattle.rdx_defs.proofs.relations.stands.add_case.Goals as goal
 
 pub add_branch-requires : goal.add_branch-requires
 add_branch-requires c =
     subst (λ (b : Branch). BranchHas (scope_of c.args.scope.now) readable b) (sym c.case_branch.ensures)
-    (case-readable (scope_of c.args.scope.now) c.args.d.now (case_form_of c.in-Some.case) c.requires (sym c.case_form.ensures ∙ ap (option_map case_form_of) c.in-Some.is))
+    (case-has IsReadable IsReadableTaken readable-inherited (scope_of c.args.scope.now) c.args.d.now (case_form_of c.in-Some.case) c.requires (sym c.case_form.ensures ∙ ap (option_map case_form_of) c.in-Some.is))

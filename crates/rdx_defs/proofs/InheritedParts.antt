@@ -1,0 +1,658 @@
+-- What each datum of a form has, where that passes from a list to its items, the parts of the form have.
+use Rattle.std.proofs.Common.{◌≡◌, ◌++◌, ◌<◌, ◌+◌, ℕ, suc, Bool, true, false, List, [], ◌∷◌, IsTrue, refl, sym, ap, subst, arith, if◌then◌else◌}
+use Rattle.std.proofs.Math.Nat.{le-max_left, le-max_right}
+use Rattle.std.proofs.lemmas.List.{append_assoc}
+use Rattle.std.specs.List.{list_all}
+use Rattle.std.specs.Prelude.{◌&&◌, Option, Some, None, option_map, codes, bytes_eq}
+use Rattle.rdx_sexp.specs.Sexp.{Sexp, Sexps, leaf, list, nil, cons, sexps, integer, truth, text, symbol, keyword}
+use Rattle.rdx_sexp.specs.Size.{sexp_depth, sexps_depth, AreSpelled}
+use Rattle.rdx_term.specs.Spelling.{is_name}
+use Rattle.rdx_lang.specs.Programs.{Mode}
+use Rattle.rdx_grammar.specs.Heads.{Roles, patterns as items_of_list, next, rest}
+use Rattle.rdx_grammar.specs.Names.{is_one_of, begins_with_dots}
+use Rattle.rdx_grammar.specs.Parts.{listed, parts, text_of, is_symbol, is_word}
+use Rattle.rdx_grammar.specs.Readable.{IsReadable}
+use Rattle.rdx_grammar.specs.Reading.{is_pattern}
+use Rattle.rdx_grammar.proofs.Booleans.{and_true, not_true, or_false}
+use Rattle.rdx_grammar.proofs.NamedForms.{name-spelled}
+use Rattle.rdx_defs.specs.Arguments.{Arguments, patterns_in, data_at, data_by}
+use Rattle.rdx_defs.specs.ExtraForms.{ExtraForm, such_that, provided, confirmed, holding, freshly, name, no_extra, ExtraPlace, of_case, of_clause, of_rule, condition_behind, fresh_names, extra_among, extra_form, is_extra_head, extra_behind, premise_among, form_at}
+use Rattle.rdx_defs.specs.Headed.{Headed, headed_among, headed}
+use Rattle.rdx_defs.specs.Inside.Branches.{Takes, several, Branch, case_branch, in_case, case_branches, domain_patterns, relation_outline, clause_branch, in_clause, own_clause, clause_branches, pattern_when, patterns_among, contract_patterns, metafunction_outline, RuleBranch, rule_branch, in_rule, rule_branches, given_patterns, option_patterns, options_patterns, judgement_outline, question_outline}
+use Rattle.rdx_defs.specs.Inside.PartsHave.{AreReadable, AreReadableSymbols, AreReadableItems, IsReadableIn, ArgumentsHave, PremiseHas, ExtraHas, ExtrasHave, BranchHas, BranchesHave, RuleHas, RulesHave, AloneHave, OutlineHas, readable}
+use Rattle.rdx_defs.specs.JudgementForms.{RuleForm, is_line, cut_at_line, is_label, concluded, rule_behind, cut_name, rule_ahead, rule_cut, rule_among, rule_form, OptionForm, JudgementForm, is_any_keyword, with_option, cut_options, judgement_among, judgement_form, given_by, headed_by, mode_form, contract_form, judgement_in, own_mode, is_named_so, key_text, is_fit_option, own_rule}
+use Rattle.rdx_defs.specs.MetafunctionForms.{ClauseForm, clause_behind, clause_among, clause_form, ContractForm, cut_at_arrow, MetafunctionForm, with_clauses, contracted, metafunction_over, metafunction_among, metafunction_form, function_or, clauses_function, function_by, function_in}
+use Rattle.rdx_defs.specs.RelationForms.{CaseForm, case_among, case_form, RelationForm, is_keyword, relation_over, may_name, relation_among, relation_form}
+use Rattle.rdx_defs.specs.Scope.{Scope}
+use Rattle.rdx_defs.specs.StandChecks.{is_bad_function}
+use Rattle.rdx_defs.specs.Stands.{premise_arguments}
+use Rattle.rdx_base.specs.declared.place.Span.{Span}
+use Rattle.rdx_defs.proofs.PartsOfForms.{IsNamed, IsNamedIn, Each, HasIn, EachIn, SidesHave, HeadedHasIn, RelationHas, RelationHasIn, ContractHasIn, MetafunctionHas, MetafunctionHasIn, RuleFormHas, RuleFormHasIn, OptionsHave, JudgementHas, JudgementHasIn, CutHas, IsInherited, wanted}
+
+-- ---- readable data
+
+-- the data of a list
+pub items-readable : (ds : Sexps) → sexps_depth ds < 4294967296 → AreSpelled ds → AreReadable (listed ds)
+items-readable nil l h = tt
+items-readable (cons d ds) l h =
+    let a = le-max_left (sexp_depth d) (sexps_depth ds) in
+    let b = le-max_right (sexp_depth d) (sexps_depth ds) in
+    (record { nested = omega (arith, a, l); spelled = h.0 }, items-readable ds (omega (arith, b, l)) h.1)
+
+-- the data of a list are those that stand in it
+sexps-listed : (ds : Sexps) → sexps (listed ds) ≡ ds
+sexps-listed nil = refl
+sexps-listed (cons d ds) = ap (cons d) (sexps-listed ds)
+
+-- behind the first of them, as items
+behind-readable : (d : Sexp) (ds : Sexps) → suc (sexps_depth (cons d ds)) < 4294967296 → AreSpelled (cons d ds) → AreReadableItems (listed ds)
+behind-readable d ds l h =
+    let b = le-max_right (sexp_depth d) (sexps_depth ds) in
+    let m : sexps_depth ds + 1 < 4294967296 = omega (arith, b, l) in
+    record {
+      nested = subst (λ (es : Sexps). sexps_depth es + 1 < 4294967296) (sym (sexps-listed ds)) m;
+      spelled = subst AreSpelled (sym (sexps-listed ds)) h.1;
+      each = items-readable ds (omega (arith, m)) h.1;
+    }
+
+-- where each has what readable data alone have, all are readable
+pub all-readable : (P : Sexp → Type 0) → ((d : Sexp) → P d → IsReadable d) → (ds : List Sexp) → Each P ds → AreReadable ds
+all-readable P f [] h = tt
+all-readable P f (d ∷ ds) h = (f d h.0, all-readable P f ds h.1)
+
+-- symbols among them
+symbols-readable : (ds : List Sexp) → list_all is_symbol ds ≡ true → AreReadable ds → AreReadableSymbols ds
+symbols-readable [] e h = tt
+symbols-readable (d ∷ ds) e h =
+    let k = and_true (is_symbol d) (list_all is_symbol ds) e in
+    ((k.0, h.0), symbols-readable ds k.1 h.1)
+
+-- ---- names
+
+-- what may name a language has a name
+may_name-name : (l : Sexp) → may_name l ≡ true → IsReadable l → IsTrue (is_name (text_of l))
+may_name-name (leaf (integer n) s) e r = absurd cc
+may_name-name (leaf (truth b) s) e r = absurd cc
+may_name-name (leaf (text x) s) e r = absurd cc
+may_name-name (leaf (symbol x) s) e r = name-spelled x r.spelled (not_true (bytes_eq x (codes "hole")) e)
+may_name-name (leaf (keyword k) s) e r = absurd cc
+may_name-name (list ds s) e r = absurd cc
+
+-- a symbol that a metafunction may have for its name is a name
+pub function-name : (f : Sexp) → IsNamed f → is_bad_function (text_of f) ≡ false → IsTrue (is_name (text_of f))
+function-name (leaf (integer n) s) h e = absurd (let g = h.symbol in cc)
+function-name (leaf (truth b) s) h e = absurd (let g = h.symbol in cc)
+function-name (leaf (text x) s) h e = absurd (let g = h.symbol in cc)
+function-name (leaf (symbol x) s) h e =
+    let a = or_false (is_one_of (codes "in-hole" ∷ codes "hole" ∷ codes "unquote" ∷ codes "unquote-splicing" ∷ []) x) (begins_with_dots x) e in
+    let b = or_false (bytes_eq x (codes "in-hole")) (is_one_of (codes "hole" ∷ codes "unquote" ∷ codes "unquote-splicing" ∷ []) x) a.0 in
+    let c = or_false (bytes_eq x (codes "hole")) (is_one_of (codes "unquote" ∷ codes "unquote-splicing" ∷ []) x) b.1 in
+    name-spelled x h.readable.spelled c.0
+function-name (leaf (keyword k) s) h e = absurd (let g = h.symbol in cc)
+function-name (list ds s) h e = absurd (let g = h.symbol in cc)
+
+-- that of a clause
+abbrev ClauseNamed : Option ClauseForm → Type 0
+ClauseNamed None = Unit {0}
+ClauseNamed (Some c) = IsNamed c.function
+
+module _ (P : Sexp → Type 0) (T : Takes → Type 0) (H : IsInherited P T) where
+  -- ---- lists of data
+
+  -- the parts of a datum
+  parts-has : (d : Sexp) → P d → EachIn P (parts d)
+  parts-has (leaf a s) r = tt
+  parts-has (list ds s) r = H.items ds s r
+
+  -- those of two lists
+  append-has : (ds es : List Sexp) → Each P ds → Each P es → Each P (ds ++ es)
+  append-has [] es h k = k
+  append-has (d ∷ ds) es h k = (h.0, append-has ds es h.1 k)
+
+  -- ---- cuts
+
+  -- one datum more before it
+  one_more-has : (d : Sexp) (o : Option (List Sexp × List Sexp)) → P d → SidesHave P o → SidesHave P (option_map (λ c. (d ∷ c.0, c.1)) o)
+  one_more-has d None h k = tt
+  one_more-has d (Some c) h k = ((h, k.0), k.1)
+
+  -- at a datum, where a test of it holds, or behind it
+  cut-when : (b : Bool) (d : Sexp) (ds : List Sexp) (o : Option (List Sexp × List Sexp)) → P d → Each P ds → SidesHave P o
+      → SidesHave P (if b then Some ([], ds) else option_map (λ c. (d ∷ c.0, c.1)) o)
+  cut-when true d ds o h k l = (tt, k)
+  cut-when false d ds o h k l = one_more-has d o h l
+
+  -- ---- names, and lists headed by them
+
+  -- among parts
+  headed_among-has : (o : Option (List Sexp)) → EachIn P o → HeadedHasIn P (headed_among o)
+  headed_among-has None h = tt
+  headed_among-has (Some []) h = tt
+  headed_among-has (Some (x ∷ ds)) h = by_test (is_symbol x) refl
+    where
+      by_test : (b : Bool) → is_symbol x ≡ b → HeadedHasIn P (if b then Some (record { head = x; arguments = ds }) else None)
+      by_test true e = record { head = record { symbol = e; readable = H.readable x h.0 }; arguments = h.1 }
+      by_test false e = tt
+
+  -- a datum as one
+  pub headed-has : (d : Sexp) → P d → HeadedHasIn P (headed d)
+  headed-has d r = headed_among-has (parts d) (parts-has d r)
+
+  -- ---- arguments
+
+  -- the data at which a flag is set
+  data_at-has : (bs : List Bool) (ds : List Sexp) → Each P ds → Each P (data_at bs ds)
+  data_at-has [] ds h = tt
+  data_at-has (b ∷ bs) [] h = tt
+  data_at-has (true ∷ bs) (d ∷ ds) h = (h.0, data_at-has bs ds h.1)
+  data_at-has (false ∷ bs) (d ∷ ds) h = data_at-has bs ds h.1
+
+  -- where there are flags
+  data_by-has : (o : Option (List Bool)) (ds : List Sexp) → Each P ds → Each P (data_by o ds)
+  data_by-has None ds h = tt
+  data_by-has (Some bs) ds h = data_at-has bs ds h
+
+  module _ (S : Scope) where
+    -- all of them
+    pub arguments-has : (a : Arguments) → Each P a.items → ArgumentsHave S (wanted T) a
+    arguments-has a h = record { patterns = H.taken_each (patterns_in a) (data_by-has a.flags a.items h); readable = all-readable P H.readable a.items h }
+
+    -- those of a premise
+    premise_with-has : (o : Option Headed) → HeadedHasIn P o → PremiseHas S (wanted T) o
+    premise_with-has None h = tt
+    premise_with-has (Some q) h = (tt, arguments-has (premise_arguments S q) h.arguments)
+
+    -- a datum as one
+    pub premise-has : (d : Sexp) → P d → PremiseHas S (wanted T) (headed d)
+    premise-has d r = premise_with-has (headed d) (headed-has d r)
+
+    -- ---- extras
+
+    -- one extra or another
+    extra-when : (b : Bool) (e f : ExtraForm) → ExtraHas S (wanted T) e → ExtraHas S (wanted T) f → ExtraHas S (wanted T) (if b then e else f)
+    extra-when true e f h k = h
+    extra-when false e f h k = k
+
+    -- behind the head of an extra of a clause
+    condition_behind-has : (w : Sexp) (ds : List Sexp) → Each P ds → ExtraHas S (wanted T) (condition_behind w ds)
+    condition_behind-has w [] h = tt
+    condition_behind-has w (x ∷ []) h =
+        extra-when (is_word (codes "side-condition") w) (provided x) (if is_word (codes "judgment-holds") w then holding x else no_extra) (H.readable x h.0)
+        (extra-when (is_word (codes "judgment-holds") w) (holding x) no_extra (premise-has x h.0) tt)
+    condition_behind-has w (p ∷ t ∷ []) h = extra-when (is_word (codes "where") w) (such_that p t) no_extra (H.taken_one p h.0, H.readable t h.1.0) tt
+    condition_behind-has w (p ∷ t ∷ x ∷ xs) h = tt
+
+    -- names to be made
+    fresh_names-has : (ds : List Sexp) → Each P ds → ExtraHas S (wanted T) (fresh_names ds)
+    fresh_names-has ds h = by_test (list_all is_symbol ds) refl
+      where
+        by_test : (b : Bool) → list_all is_symbol ds ≡ b → ExtraHas S (wanted T) (if b then freshly ds else no_extra)
+        by_test true e = symbols-readable ds e (all-readable P H.readable ds h)
+        by_test false e = tt
+
+    -- among parts, of a case or a clause
+    extra_among-has : (case : Bool) (o : Option (List Sexp)) → EachIn P o → ExtraHas S (wanted T) (extra_among case o)
+    extra_among-has case None h = tt
+    extra_among-has case (Some []) h = tt
+    extra_among-has case (Some (w ∷ ds)) h =
+        extra-when (case && is_word (codes "fresh") w) (fresh_names ds) (condition_behind w ds) (fresh_names-has ds h.1) (condition_behind-has w ds h.1)
+
+    -- a datum as one
+    extra-has : (case : Bool) (d : Sexp) → P d → ExtraHas S (wanted T) (extra_form case d)
+    extra-has case (leaf (integer n) s) r = tt
+    extra-has case (leaf (truth b) s) r = tt
+    extra-has case (leaf (text x) s) r = tt
+    extra-has case (leaf (symbol x) s) r = tt
+    extra-has case (leaf (keyword k) s) r = tt
+    extra-has case (list ds s) r = extra_among-has case (parts (list ds s)) (parts-has (list ds s) r)
+
+    -- in rules, behind a head that gives a list another meaning
+    behind_head-has : (w : Sexp) (ds : List Sexp) → Each P ds → ExtraHas S (wanted T) (extra_behind w ds)
+    behind_head-has w [] h = tt
+    behind_head-has w (x ∷ []) h =
+        extra-when (is_word (codes "side-condition") w) (confirmed x) (if is_word (codes "judgment-holds") w then holding x else no_extra) (H.readable x h.0)
+        (extra-when (is_word (codes "judgment-holds") w) (holding x) no_extra (premise-has x h.0) tt)
+    behind_head-has w (p ∷ t ∷ []) h = extra-when (is_word (codes "where") w) (such_that p t) no_extra (H.taken_one p h.0, H.readable t h.1.0) tt
+    behind_head-has w (p ∷ t ∷ x ∷ xs) h = tt
+
+    -- the list d with these parts
+    premise_among-has : (d : Sexp) (o : Option (List Sexp)) → P d → EachIn P o → ExtraHas S (wanted T) (premise_among d o)
+    premise_among-has d None r h = tt
+    premise_among-has d (Some []) r h = tt
+    premise_among-has d (Some (w ∷ ds)) r h =
+        extra-when (is_extra_head w) (extra_behind w ds) (if is_symbol w then holding d else no_extra) (behind_head-has w ds h.1)
+        (extra-when (is_symbol w) (holding d) no_extra (premise-has d r) tt)
+
+    -- a datum as an extra at such a place
+    form-has : (k : ExtraPlace) (d : Sexp) → P d → ExtraHas S (wanted T) (form_at k d)
+    form-has of_case d r = extra-has true d r
+    form-has of_clause d r = extra-has false d r
+    form-has of_rule d r = premise_among-has d (parts d) r (parts-has d r)
+
+    -- several
+    pub extras-has : (k : ExtraPlace) (ds : List Sexp) → Each P ds → ExtrasHave S (wanted T) k ds
+    extras-has k [] r = tt
+    extras-has k (d ∷ ds) r = (form-has k d r.0, extras-has k ds r.1)
+
+    -- ---- cases
+
+    -- where there is a case, its branch has such parts
+    abbrev CaseIn : Option CaseForm → Type 0
+    CaseIn None = Unit {0}
+    CaseIn (Some c) = BranchHas S (wanted T) (case_branch c)
+
+    -- a case, where a test holds
+    case-when : (b : Bool) (c : CaseForm) → BranchHas S (wanted T) (case_branch c) → CaseIn (if b then Some c else None)
+    case-when true c h = h
+    case-when false c h = tt
+
+    -- among parts
+    case_among-has : (o : Option (List Sexp)) → EachIn P o → CaseIn (case_among o)
+    case_among-has None h = tt
+    case_among-has (Some []) h = tt
+    case_among-has (Some (a ∷ [])) h = tt
+    case_among-has (Some (a ∷ p ∷ [])) h = tt
+    case_among-has (Some (a ∷ p ∷ t ∷ es)) h =
+        case-when (is_symbol a) (record { arrow = a; pattern = p; result = t; extras = es })
+        (record { takes = H.taken_one p h.1.0; result = H.readable t h.1.1.0; extras = extras-has of_case es h.1.1.1 })
+
+    -- the case that a datum is
+    pub case-has : (d : Sexp) (c : CaseForm) → P d → case_form d ≡ Some c → BranchHas S (wanted T) (case_branch c)
+    case-has d c r e = subst CaseIn e (case_among-has (parts d) (parts-has d r))
+
+    -- the branch, where there is one
+    in_case-has : (o : Option CaseForm) (bs : List Branch) → CaseIn o → BranchesHave S (wanted T) bs → BranchesHave S (wanted T) (in_case o ++ bs)
+    in_case-has None bs h k = k
+    in_case-has (Some c) bs h k = (h, k)
+
+    -- several
+    cases-has : (ds : List Sexp) → Each P ds → BranchesHave S (wanted T) (case_branches ds)
+    cases-has [] r = tt
+    cases-has (d ∷ ds) r =
+        in_case-has (case_form d) (case_branches ds) (case_among-has (parts d) (parts-has d r.0)) (cases-has ds r.1)
+
+    -- ---- clauses
+
+    -- where there is a clause, its branch has such parts
+    abbrev ClauseIn : Option ClauseForm → Type 0
+    ClauseIn None = Unit {0}
+    ClauseIn (Some c) = BranchHas S (wanted T) (clause_branch c)
+
+    -- a clause, where a test holds
+    clause-when : (b : Bool) (c : ClauseForm) → BranchHas S (wanted T) (clause_branch c) → ClauseIn (if b then Some c else None)
+    clause-when true c h = h
+    clause-when false c h = tt
+
+    -- what stands behind the name of a clause
+    arguments-taken : (f : Sexp) (ps : Sexps) (s : Span) → P (list (cons f ps) s) → T (several (listed ps))
+    arguments-taken f ps s r =
+        let d = list (cons f ps) s in
+        H.taken_several (listed ps) (behind-readable f ps (H.readable d r).nested (H.readable d r).spelled) (H.items (cons f ps) s r).1
+
+    -- behind its name and its arguments
+    behind-head : (h t : Sexp) (es : List Sexp) → P h → P t → Each P es → ClauseIn (clause_behind (parts h) t es)
+    behind-head (leaf a s) t es r k l = tt
+    behind-head (list nil s) t es r k l = tt
+    behind-head (list (cons f ps) s) t es r k l =
+        clause-when (is_symbol f) (record { function = f; arguments = listed ps; result = t; extras = es })
+        (record { takes = arguments-taken f ps s r; result = H.readable t k; extras = extras-has of_clause es l })
+
+    -- among parts
+    clause_among-has : (o : Option (List Sexp)) → EachIn P o → ClauseIn (clause_among o)
+    clause_among-has None h = tt
+    clause_among-has (Some []) h = tt
+    clause_among-has (Some (a ∷ [])) h = tt
+    clause_among-has (Some (a ∷ t ∷ es)) h = behind-head a t es h.0 h.1.0 h.1.1
+
+    -- where it is one of this metafunction
+    own-has : (x : List ℕ) (o : Option ClauseForm) → ClauseIn o → ClauseIn (own_clause x o)
+    own-has x None h = tt
+    own-has x (Some c) h = clause-when (bytes_eq (text_of c.function) x) c h
+
+    -- the clause that a datum is
+    pub clause-has : (x : List ℕ) (d : Sexp) (c : ClauseForm) → P d → own_clause x (clause_form d) ≡ Some c → BranchHas S (wanted T) (clause_branch c)
+    clause-has x d c r e = subst ClauseIn e (own-has x (clause_form d) (clause_among-has (parts d) (parts-has d r)))
+
+    -- the branch, where there is one
+    in_clause-has : (o : Option ClauseForm) (bs : List Branch) → ClauseIn o → BranchesHave S (wanted T) bs → BranchesHave S (wanted T) (in_clause o ++ bs)
+    in_clause-has None bs h k = k
+    in_clause-has (Some c) bs h k = (h, k)
+
+    -- several
+    clauses-has : (x : List ℕ) (ds : List Sexp) → Each P ds → BranchesHave S (wanted T) (clause_branches x ds)
+    clauses-has x [] r = tt
+    clauses-has x (d ∷ ds) r =
+        in_clause-has (own_clause x (clause_form d)) (clause_branches x ds)
+        (own-has x (clause_form d) (clause_among-has (parts d) (parts-has d r.0))) (clauses-has x ds r.1)
+
+  -- ---- relations
+
+  -- a domain and cases, or cases alone
+  over-has : (l : Sexp) (ds : List Sexp) → may_name l ≡ true → P l → Each P ds → RelationHas P (relation_over l ds)
+  over-has l [] e r h = record { domain = tt; cases = tt; language = may_name-name l e (H.readable l r) }
+  over-has l (k ∷ []) e r h = record { domain = tt; cases = h; language = may_name-name l e (H.readable l r) }
+  over-has l (k ∷ p ∷ cs) e r h = by_test (is_keyword (codes "domain") k)
+    where
+      by_test : (b : Bool) → RelationHas P (if b then record { language = l; domain = Some p; cases = cs } else record { language = l; domain = None; cases = k ∷ p ∷ cs })
+      by_test true = record { domain = (h.1.0, tt); cases = h.1.1; language = may_name-name l e (H.readable l r) }
+      by_test false = record { domain = tt; cases = h; language = may_name-name l e (H.readable l r) }
+
+  -- among parts
+  relation_among-has : (o : Option (List Sexp)) → EachIn P o → RelationHasIn P (relation_among o)
+  relation_among-has None h = tt
+  relation_among-has (Some []) h = tt
+  relation_among-has (Some (x ∷ [])) h = tt
+  relation_among-has (Some (x ∷ l ∷ ds)) h = by_test (may_name l) refl
+    where
+      by_test : (b : Bool) → may_name l ≡ b → RelationHasIn P (if b then Some (relation_over l ds) else None)
+      by_test true e = over-has l ds e h.1.0 h.1.1
+      by_test false e = tt
+
+  -- the parts of a form that has it
+  pub relation-has : (d : Sexp) (r : RelationForm) → P d → relation_form d ≡ Some r → RelationHas P r
+  relation-has d r h e = subst (RelationHasIn P) e (relation_among-has (parts d) (parts-has d h))
+
+  -- patterns that stand by themselves
+  alone-has : (ps : List Sexp) → Each P ps → AloneHave T ps
+  alone-has [] h = tt
+  alone-has (p ∷ ps) h = (H.taken_one p h.0, alone-has ps h.1)
+
+  -- its outline
+  pub relation_outline-has : (S : Scope) (r : RelationForm) → RelationHas P r → OutlineHas S (wanted T) (relation_outline r)
+  relation_outline-has S r h = record {
+    alone = alone-has (domain_patterns r.domain) h.domain;
+    branches = cases-has S r.cases h.cases;
+    rules = tt;
+    questions = tt;
+  }
+
+  -- ---- metafunctions
+
+  -- both sides of the arrow
+  cut-has : (ds : List Sexp) → Each P ds → SidesHave P (cut_at_arrow ds)
+  cut-has [] h = tt
+  cut-has (d ∷ ds) h = cut-when (is_word (codes "->") d) d ds (cut_at_arrow ds) h.0 h.1 (cut-has ds h.1)
+
+  module _ (l : Sexp) (e : may_name l ≡ true) (r : IsReadable l) where
+    -- with clauses
+    with_clauses-has : (c : Option ContractForm) (ds : List Sexp) → ContractHasIn P c → Each P ds → MetafunctionHasIn P (with_clauses l c ds)
+    with_clauses-has c [] k h = tt
+    with_clauses-has c (d ∷ ds) k h = record { contract = k; clauses = h; some = λ f. not_none f; language = may_name-name l e r }
+      where
+        not_none : d ∷ ds ≡ [] → ⊥
+        not_none f = absurd cc
+
+    -- behind a contract's name
+    contracted-has : (f : Sexp) (o : Option (List Sexp × List Sexp)) → IsNamed f → SidesHave P o → MetafunctionHasIn P (contracted l f o)
+    contracted-has f None k h = tt
+    contracted-has f (Some (ps, [])) k h = tt
+    contracted-has f (Some (ps, v ∷ cs)) k h =
+        with_clauses-has (Some (record { function = f; arguments = ps; value = v })) cs (record { function = k; arguments = h.0; value = h.1.0 }) h.1.1
+
+    -- with or without a contract
+    metafunction_over-has : (ds : List Sexp) → Each P ds → MetafunctionHasIn P (metafunction_over l ds)
+    metafunction_over-has [] h = tt
+    metafunction_over-has (f ∷ []) h = with_clauses-has None (f ∷ []) tt h
+    metafunction_over-has (f ∷ c ∷ ds) h = by_test (is_symbol f && is_word (codes ":") c) refl
+      where
+        by_test : (b : Bool) → (is_symbol f && is_word (codes ":") c) ≡ b → MetafunctionHasIn P (if b then contracted l f (cut_at_arrow ds) else with_clauses l None (f ∷ c ∷ ds))
+        by_test true g =
+            contracted-has f (cut_at_arrow ds) (record { symbol = (and_true (is_symbol f) (is_word (codes ":") c) g).0; readable = H.readable f h.0 }) (cut-has ds h.1.1)
+        by_test false g = with_clauses-has None (f ∷ c ∷ ds) tt h
+
+  -- among parts
+  metafunction_among-has : (o : Option (List Sexp)) → EachIn P o → MetafunctionHasIn P (metafunction_among o)
+  metafunction_among-has None h = tt
+  metafunction_among-has (Some []) h = tt
+  metafunction_among-has (Some (x ∷ [])) h = tt
+  metafunction_among-has (Some (x ∷ l ∷ ds)) h = by_test (may_name l) refl
+    where
+      by_test : (b : Bool) → may_name l ≡ b → MetafunctionHasIn P (if b then metafunction_over l ds else None)
+      by_test true e = metafunction_over-has l e (H.readable l h.1.0) ds h.1.1
+      by_test false e = tt
+
+  -- the parts of a form that has it
+  pub metafunction-has : (d : Sexp) (m : MetafunctionForm) → P d → metafunction_form d ≡ Some m → MetafunctionHas P m
+  metafunction-has d m h e = subst (MetafunctionHasIn P) e (metafunction_among-has (parts d) (parts-has d h))
+
+  -- a datum that may be a pattern, before others
+  pattern_when-has : (b : Bool) (d : Sexp) (ps : List Sexp) → P d → Each P ps → Each P (pattern_when b d ++ ps)
+  pattern_when-has true d ps r h = (r, h)
+  pattern_when-has false d ps r h = h
+
+  -- the patterns among items, before others
+  patterns_among-has : (rs : Roles) (ds qs : List Sexp) → Each P ds → Each P qs → Each P (patterns_among rs (sexps ds) ++ qs)
+  patterns_among-has rs [] qs h k = k
+  patterns_among-has rs (d ∷ ds) qs h k =
+      subst (Each P) (sym (append_assoc (pattern_when (is_pattern (next rs d)) d) (patterns_among (rest rs d) (sexps ds)) qs))
+      (pattern_when-has (is_pattern (next rs d)) d (patterns_among (rest rs d) (sexps ds) ++ qs) h.0 (patterns_among-has (rest rs d) ds qs h.1 k))
+
+  -- the patterns of a contract
+  pub contract-has : (o : Option ContractForm) → ContractHasIn P o → Each P (contract_patterns o)
+  contract-has None h = tt
+  contract-has (Some c) h = patterns_among-has items_of_list c.arguments (c.value ∷ []) h.arguments (h.value, tt)
+
+  -- its outline
+  pub metafunction_outline-has : (S : Scope) (m : MetafunctionForm) (f : Option Sexp) → MetafunctionHas P m → OutlineHas S (wanted T) (metafunction_outline m f)
+  metafunction_outline-has S m f h = record {
+    alone = alone-has (contract_patterns m.contract) (contract-has m.contract h.contract);
+    branches = clauses-has S _ m.clauses h.clauses;
+    rules = tt;
+    questions = tt;
+  }
+
+  -- ---- the name that it goes by
+
+  behind-named : (h t : Sexp) (es : List Sexp) → P h → ClauseNamed (clause_behind (parts h) t es)
+  behind-named (leaf a s) t es r = tt
+  behind-named (list nil s) t es r = tt
+  behind-named (list (cons f ps) s) t es r = by_test (is_symbol f) refl
+    where
+      by_test : (b : Bool) → is_symbol f ≡ b → ClauseNamed (if b then Some (record { function = f; arguments = listed ps; result = t; extras = es }) else None)
+      by_test true e = record { symbol = e; readable = H.readable f (parts-has (list (cons f ps) s) r).0 }
+      by_test false e = tt
+
+  among-named : (o : Option (List Sexp)) → EachIn P o → ClauseNamed (clause_among o)
+  among-named None h = tt
+  among-named (Some []) h = tt
+  among-named (Some (a ∷ [])) h = tt
+  among-named (Some (a ∷ t ∷ es)) h = behind-named a t es h.0
+
+  -- that of the first clause
+  or-named : (o : Option ClauseForm) (f : Option Sexp) → ClauseNamed o → IsNamedIn f → IsNamedIn (function_or o f)
+  or-named None f h k = k
+  or-named (Some c) f h k = h
+
+  clauses-named : (ds : List Sexp) → Each P ds → IsNamedIn (clauses_function ds)
+  clauses-named [] h = tt
+  clauses-named (d ∷ ds) h = or-named (clause_form d) (clauses_function ds) (among-named (parts d) (parts-has d h.0)) (clauses-named ds h.1)
+
+  -- that of the form
+  pub function-named : (m : MetafunctionForm) → MetafunctionHas P m → IsNamedIn (function_in m)
+  function-named m h = by_contract m.contract h.contract
+    where
+      by_contract : (o : Option ContractForm) → ContractHasIn P o → IsNamedIn (function_by o m.clauses)
+      by_contract None k = clauses-named m.clauses h.clauses
+      by_contract (Some c) k = k.function
+
+  -- ---- rules
+
+  -- a rule, where a test holds
+  rule-when : (b : Bool) (o : Option RuleForm) → RuleFormHasIn P o → RuleFormHasIn P (if b then o else None)
+  rule-when true o h = h
+  rule-when false o h = tt
+
+  -- where c is a conclusion
+  concluded-has : (ps : List Sexp) (n : Option Sexp) (c : Sexp) (b : Bool) → Each P ps → HasIn P n → P c → RuleFormHasIn P (concluded ps n c b)
+  concluded-has ps n c b h k r = by_head (headed c) (headed-has c r)
+    where
+      by_head : (o : Option Headed) → HeadedHasIn P o
+          → RuleFormHasIn P (option_map (λ q. record { conclusion = c; parts = q; premises = ps; name = n; is_last = b }) o)
+      by_head None l = tt
+      by_head (Some q) l = record { conclusion = r; parts = l; premises = h; name = k }
+
+  -- behind a line
+  rule_behind-has : (ps ds : List Sexp) → Each P ps → Each P ds → RuleFormHasIn P (rule_behind ps ds)
+  rule_behind-has ps [] h k = tt
+  rule_behind-has ps (c ∷ []) h k = concluded-has ps None c true h tt k.0
+  rule_behind-has ps (n ∷ c ∷ []) h k = rule-when (is_label n) (concluded ps (Some n) c true) (concluded-has ps (Some n) c true h k.0 k.1.0)
+  rule_behind-has ps (n ∷ c ∷ d ∷ ds) h k = tt
+
+  -- premises, and the name behind them
+  cut_name-has : (ds : List Sexp) → Each P ds → Each P (cut_name ds).0 × HasIn P (cut_name ds).1
+  cut_name-has [] h = (tt, tt)
+  cut_name-has (d ∷ []) h = by_test (is_label d)
+    where
+      by_test : (b : Bool) → (let c : List Sexp × Option Sexp = if b then ([], Some d) else (d ∷ [], None) in Each P c.0 × HasIn P c.1)
+      by_test true = (tt, h.0)
+      by_test false = (h, tt)
+  cut_name-has (d ∷ e ∷ ds) h = let k = cut_name-has (e ∷ ds) h.1 in ((h.0, k.0), k.1)
+
+  -- a conclusion first
+  rule_ahead-has : (ds : List Sexp) → Each P ds → RuleFormHasIn P (rule_ahead ds)
+  rule_ahead-has [] h = tt
+  rule_ahead-has (c ∷ ds) h = let k = cut_name-has ds h.1 in concluded-has (cut_name ds).0 (cut_name ds).1 c false k.0 k.1 h.0
+
+  -- at a line
+  cut_at_line-has : (ds : List Sexp) → Each P ds → SidesHave P (cut_at_line ds)
+  cut_at_line-has [] h = tt
+  cut_at_line-has (d ∷ ds) h = cut-when (is_line d) d ds (cut_at_line ds) h.0 h.1 (cut_at_line-has ds h.1)
+
+  -- in either layout
+  rule_cut-has : (ds : List Sexp) (o : Option (List Sexp × List Sexp)) → Each P ds → SidesHave P o → RuleFormHasIn P (rule_cut ds o)
+  rule_cut-has ds None h k = rule_ahead-has ds h
+  rule_cut-has ds (Some c) h k = rule_behind-has c.0 c.1 k.0 k.1
+
+  -- among parts
+  rule_among-has : (o : Option (List Sexp)) → EachIn P o → RuleFormHasIn P (rule_among o)
+  rule_among-has None h = tt
+  rule_among-has (Some ds) h = rule_cut-has ds (cut_at_line ds) h (cut_at_line-has ds h)
+
+  -- where it is one of the judgement of this name
+  own_rule-has : (j : Option Sexp) (o : Option RuleForm) → RuleFormHasIn P o → RuleFormHasIn P (own_rule j o)
+  own_rule-has j None h = tt
+  own_rule-has j (Some r) h = rule-when (is_named_so j r.parts) (Some r) h
+
+  -- the rule that a datum is, where it is one
+  rule_in-has : (j : Option Sexp) (d : Sexp) → P d → RuleFormHasIn P (own_rule j (rule_form d))
+  rule_in-has j d r = own_rule-has j (rule_form d) (rule_among-has (parts d) (parts-has d r))
+
+  -- the rule that a datum is
+  pub rule-has : (j : Option Sexp) (d : Sexp) (r : RuleForm) → P d → own_rule j (rule_form d) ≡ Some r → RuleFormHas P r
+  rule-has j d r h e = subst (RuleFormHasIn P) e (rule_in-has j d h)
+
+  module _ (S : Scope) where
+    -- its branch
+    pub rule_branch-has : (m : Option Mode) (r : RuleForm) → RuleFormHas P r → RuleHas S (wanted T) (rule_branch m r)
+    rule_branch-has m r h = record {
+      arguments = arguments-has S (rule_branch m r).arguments h.parts.arguments;
+      premises = extras-has S of_rule r.premises h.premises;
+    }
+
+    -- where there is one, before others
+    in_rule-has : (m : Option Mode) (o : Option RuleForm) (rs : List RuleBranch) → RuleFormHasIn P o → RulesHave S (wanted T) rs → RulesHave S (wanted T) (in_rule m o ++ rs)
+    in_rule-has m None rs h k = k
+    in_rule-has m (Some r) rs h k = (rule_branch-has m r h, k)
+
+    -- several
+    pub rules-has : (j : Option Sexp) (m : Option Mode) (ds : List Sexp) → Each P ds → RulesHave S (wanted T) (rule_branches j m ds)
+    rules-has j m [] h = tt
+    rules-has j m (d ∷ ds) h = in_rule-has m (own_rule j (rule_form d)) (rule_branches j m ds) (rule_in-has j d h.0) (rules-has j m ds h.1)
+
+  -- ---- judgements
+
+  cut_options-has : (ds : List Sexp) → Each P ds → CutHas P (cut_options ds)
+  cut_options-has [] h = (tt, tt)
+  cut_options-has (k ∷ []) h = by_test (is_any_keyword k)
+    where
+      by_test : (b : Bool) → CutHas P (if b then with_option k None ([], []) else ([], k ∷ []))
+      by_test true = ((record { key = h.0; given = tt }, tt), tt)
+      by_test false = (tt, h)
+  cut_options-has (k ∷ v ∷ ds) h = by_test (is_any_keyword k) (cut_options ds) (cut_options-has ds h.1.1)
+    where
+      by_test : (b : Bool) (c : List OptionForm × List Sexp) → CutHas P c → CutHas P (if b then with_option k (Some v) c else ([], k ∷ v ∷ ds))
+      by_test true c l = ((record { key = h.0; given = h.1.0 }, l.0), l.1)
+      by_test false c l = (tt, h)
+
+  -- among parts
+  judgement_among-has : (o : Option (List Sexp)) → EachIn P o → JudgementHasIn P (judgement_among o)
+  judgement_among-has None h = tt
+  judgement_among-has (Some []) h = tt
+  judgement_among-has (Some (x ∷ [])) h = tt
+  judgement_among-has (Some (x ∷ l ∷ ds)) h = by_test (may_name l) refl
+    where
+      by_test : (b : Bool) → may_name l ≡ b
+          → JudgementHasIn P (if b then Some (record { language = l; options = (cut_options ds).0; rules = (cut_options ds).1 }) else None)
+      by_test true e = let c = cut_options-has ds h.1.1 in record { options = c.0; rules = c.1; language = may_name-name l e (H.readable l h.1.0) }
+      by_test false e = tt
+
+  -- the parts of a form that has it
+  pub judgement-has : (d : Sexp) (f : JudgementForm) → P d → judgement_form d ≡ Some f → JudgementHas P f
+  judgement-has d f h e = subst (JudgementHasIn P) e (judgement_among-has (parts d) (parts-has d h))
+
+  -- what an option gives
+  given_by-has : (k : List ℕ) (os : List OptionForm) → OptionsHave P os → HasIn P (given_by k os)
+  given_by-has k [] h = tt
+  given_by-has k (o ∷ os) h = by_test (is_keyword k o.key) (given_by-has k os h.1)
+    where
+      by_test : (b : Bool) → HasIn P (given_by k os) → HasIn P (if b then o.given else given_by k os)
+      by_test true l = h.0.given
+      by_test false l = l
+
+  headed_by-has : (o : Option Sexp) → HasIn P o → HeadedHasIn P (headed_by o)
+  headed_by-has None h = tt
+  headed_by-has (Some d) h = headed-has d h
+
+  -- its mode
+  pub mode-has : (f : JudgementForm) → JudgementHas P f → HeadedHasIn P (mode_form f)
+  mode-has f h = headed_by-has (given_by (codes "mode") f.options) (given_by-has (codes "mode") f.options h.options)
+
+  -- its contract
+  pub contract_form-has : (f : JudgementForm) → JudgementHas P f → HeadedHasIn P (contract_form f)
+  contract_form-has f h = headed_by-has (given_by (codes "contract") f.options) (given_by-has (codes "contract") f.options h.options)
+
+  -- the patterns that an option gives
+  given-has : (k : Sexp) (o : Option Headed) → HeadedHasIn P o → Each P (given_patterns k o)
+  given-has k None h = tt
+  given-has k (Some q) h = by_test (is_keyword (codes "mode") k)
+    where
+      by_test : (b : Bool) → Each P (if b then [] else q.arguments)
+      by_test true = tt
+      by_test false = h.arguments
+
+  option-has : (k : Sexp) (o : Option Sexp) → HasIn P o → Each P (option_patterns k o)
+  option-has k None h = tt
+  option-has k (Some d) h = given-has k (headed d) (headed-has d h)
+
+  -- data, where a test holds
+  data-when : (b : Bool) (ds : List Sexp) → Each P ds → Each P (if b then ds else [])
+  data-when true ds h = h
+  data-when false ds h = tt
+
+  -- those of options
+  pub options-has : (j : Option Sexp) (seen : List (List ℕ)) (os : List OptionForm) → OptionsHave P os → Each P (options_patterns j seen os)
+  options-has j seen [] h = tt
+  options-has j seen (o ∷ os) h =
+      append-has (if is_fit_option j seen o then option_patterns o.key o.given else []) (options_patterns j (key_text o.key ∷ seen) os)
+      (data-when (is_fit_option j seen o) (option_patterns o.key o.given) (option-has o.key o.given h.0.given))
+      (options-has j (key_text o.key ∷ seen) os h.1)
+
+  -- its outline
+  pub judgement_outline-has : (S : Scope) (f : JudgementForm) → JudgementHas P f → OutlineHas S (wanted T) (judgement_outline f)
+  judgement_outline-has S f h = record {
+    alone = alone-has (options_patterns (judgement_in f) [] f.options) (options-has (judgement_in f) [] f.options h.options);
+    branches = tt;
+    rules = rules-has S (judgement_in f) (own_mode f) f.rules h.rules;
+    questions = tt;
+  }
+
+  -- ---- premises by themselves
+
+  -- the outline of one
+  pub question_outline-has : (S : Scope) (d : Sexp) (t : Option Sexp) → P d → IsReadableIn t → OutlineHas S (wanted T) (question_outline d t)
+  question_outline-has S d t h k = record {
+    alone = tt;
+    branches = tt;
+    rules = tt;
+    questions = (record { premise = premise-has S d h; result = k }, tt);
+  }

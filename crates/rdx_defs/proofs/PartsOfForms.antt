@@ -1,0 +1,151 @@
+-- What the parts of a form have by what each datum has, where that passes from a list to its items.
+use Rattle.std.proofs.Common.{◌≡◌, true, List, [], ◌∷◌, IsTrue}
+use Rattle.std.specs.Prelude.{Option, Some, None}
+use Rattle.rdx_sexp.specs.Sexp.{Sexp, Sexps, list, symbol}
+use Rattle.rdx_term.specs.Spelling.{is_name}
+use Rattle.rdx_grammar.specs.Parts.{listed, parts, text_of, is_symbol}
+use Rattle.rdx_grammar.specs.Readable.{IsReadable}
+use Rattle.rdx_defs.specs.ExtraForms.{name}
+use Rattle.rdx_defs.specs.Headed.{Headed, headed}
+use Rattle.rdx_defs.specs.Inside.Branches.{Takes, one, several, each, domain_patterns}
+use Rattle.rdx_defs.specs.Inside.PartsHave.{Wanted, AreReadableItems, AreReadableSymbols, AreNames}
+use Rattle.rdx_defs.specs.JudgementForms.{RuleForm, OptionForm, JudgementForm}
+use Rattle.rdx_defs.specs.MetafunctionForms.{ContractForm, MetafunctionForm}
+use Rattle.rdx_defs.specs.RelationForms.{RelationForm}
+use Rattle.rdx_base.specs.declared.place.Span.{Span}
+
+-- ---- names
+
+-- a symbol that is readable
+pub record IsNamed (f : Sexp) : Type 0 where
+  pub symbol : is_symbol f ≡ true
+  pub readable : IsReadable f
+
+-- where there is one
+abbrev pub IsNamedIn : Option Sexp → Type 0
+IsNamedIn None = Unit {0}
+IsNamedIn (Some f) = IsNamed f
+
+-- ---- several data
+
+-- each of these has P
+abbrev pub Each : (Sexp → Type 0) → List Sexp → Type 0
+Each P [] = Unit {0}
+Each P (d ∷ ds) = P d × Each P ds
+
+module _ (P : Sexp → Type 0) where
+  -- a datum has it, where there is one
+  abbrev pub HasIn : Option Sexp → Type 0
+  HasIn None = Unit {0}
+  HasIn (Some d) = P d
+
+  -- ---- forms
+
+  -- where there are any, all have it
+  abbrev pub EachIn : Option (List Sexp) → Type 0
+  EachIn None = Unit {0}
+  EachIn (Some ds) = Each P ds
+
+  -- both sides of a cut
+  abbrev pub SidesHave : Option (List Sexp × List Sexp) → Type 0
+  SidesHave None = Unit {0}
+  SidesHave (Some c) = Each P c.0 × Each P c.1
+
+  -- a list headed by a symbol whose parts have it
+  pub record HeadedHas (q : Headed) : Type 0 where
+    pub head : IsNamed q.head
+    pub arguments : Each P q.arguments
+
+  -- where there is one
+  abbrev pub HeadedHasIn : Option Headed → Type 0
+  HeadedHasIn None = Unit {0}
+  HeadedHasIn (Some q) = HeadedHas q
+
+  -- what a form of a relation is to have: such parts, and the name of a language
+  pub record RelationHas (r : RelationForm) : Type 0 where
+    pub domain : Each P (domain_patterns r.domain)
+    pub cases : Each P r.cases
+    pub language : IsTrue (is_name (text_of r.language))
+
+  -- where there is one
+  abbrev pub RelationHasIn : Option RelationForm → Type 0
+  RelationHasIn None = Unit {0}
+  RelationHasIn (Some r) = RelationHas r
+
+  -- what a contract is to have
+  pub record ContractHas (c : ContractForm) : Type 0 where
+    pub function : IsNamed c.function
+    pub arguments : Each P c.arguments
+    pub value : P c.value
+
+  -- where there is one
+  abbrev pub ContractHasIn : Option ContractForm → Type 0
+  ContractHasIn None = Unit {0}
+  ContractHasIn (Some c) = ContractHas c
+
+  -- what a form of a metafunction is to have
+  pub record MetafunctionHas (m : MetafunctionForm) : Type 0 where
+    pub contract : ContractHasIn m.contract
+    pub clauses : Each P m.clauses
+    pub some : m.clauses ≡ [] → ⊥
+    pub language : IsTrue (is_name (text_of m.language))
+
+  -- where there is one
+  abbrev pub MetafunctionHasIn : Option MetafunctionForm → Type 0
+  MetafunctionHasIn None = Unit {0}
+  MetafunctionHasIn (Some m) = MetafunctionHas m
+
+  -- what a rule is to have
+  pub record RuleFormHas (r : RuleForm) : Type 0 where
+    pub conclusion : P r.conclusion
+    pub parts : HeadedHas r.parts
+    pub premises : Each P r.premises
+    pub name : HasIn r.name
+
+  -- where there is one
+  abbrev pub RuleFormHasIn : Option RuleForm → Type 0
+  RuleFormHasIn None = Unit {0}
+  RuleFormHasIn (Some r) = RuleFormHas r
+
+  -- an option and what it gives have it
+  pub record OptionHas (o : OptionForm) : Type 0 where
+    pub key : P o.key
+    pub given : HasIn o.given
+
+  -- so it is with each of these
+  abbrev pub OptionsHave : List OptionForm → Type 0
+  OptionsHave [] = Unit {0}
+  OptionsHave (o ∷ os) = OptionHas o × OptionsHave os
+
+  -- what a form of a judgement is to have: such parts, and the name of a language
+  pub record JudgementHas (f : JudgementForm) : Type 0 where
+    pub options : OptionsHave f.options
+    pub rules : Each P f.rules
+    pub language : IsTrue (is_name (text_of f.language))
+
+  -- where there is one
+  abbrev pub JudgementHasIn : Option JudgementForm → Type 0
+  JudgementHasIn None = Unit {0}
+  JudgementHasIn (Some f) = JudgementHas f
+
+  -- options and rules behind them
+  abbrev pub CutHas : List OptionForm × List Sexp → Type 0
+  CutHas c = OptionsHave c.0 × Each P c.1
+
+-- ---- what passes on
+
+-- P passes from a list to its items, and is had by readable data alone; where what is taken has it, T holds of that
+pub record IsInherited (P : Sexp → Type 0) (T : Takes → Type 0) : Type 0 where
+  pub readable : (d : Sexp) → P d → IsReadable d
+  pub items : (ds : Sexps) (s : Span) → P (list ds s) → Each P (listed ds)
+  pub taken_one : (p : Sexp) → P p → T (one p)
+  pub taken_several : (ds : List Sexp) → AreReadableItems ds → Each P ds → T (several ds)
+  pub taken_each : (ds : List Sexp) → Each P ds → T (each ds)
+
+-- what is wanted of what is taken, and of names to be made that they are symbols
+abbrev pub wanted : (Takes → Type 0) → Wanted
+wanted T = record { taken = T; asked = λ q. Unit {0}; made = AreReadableSymbols }
+
+-- the same, and that they are names
+abbrev pub bound : (Takes → Type 0) → Wanted
+bound R = record { taken = R; asked = λ q. Unit {0}; made = AreNames }
