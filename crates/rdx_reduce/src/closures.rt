@@ -17,10 +17,34 @@ use rdx_term::{Name, NoMemory};
 use std::alloc::Global;
 use std::rc::RcStr;
 
+/// How many closures may stand in one another: patterns are copied, checked and dropped by
+/// recursion along them.
+const DEEPEST: usize = 1_000;
+
+// Whether at most so many contexts stand around what is innermost in the pattern.
+fn are_few_contexts(pattern: &Pat, most: usize) -> bool {
+    match pattern {
+        Pat::InHole(_, part) => most > 0 && are_few_contexts(part, most - 1),
+        Pat::Wild
+        | Pat::Kind(_)
+        | Pat::Except(_)
+        | Pat::Prefix(_)
+        | Pat::Hole
+        | Pat::Lit(_)
+        | Pat::Nt(_)
+        | Pat::Named(_, _)
+        | Pat::HideHole(_)
+        | Pat::Closed(_)
+        | Pat::Seq(_) => true,
+    }
+}
+
 // The pattern, which is well formed in the language.
 fn checked(alloc: Global, language: &CheckedLang, pattern: Pat) -> Result<CheckedPat, NoMemory>
     requires { IsTrue (is_well_formed_in (language_in language.now) (pattern_of pattern)) }
-    ensures { IfOk result (λ c. pattern_in c ≡ pattern_of pattern) }
+    ensures same { IfOk result (λ c. pattern_in c ≡ pattern_of pattern) }
+    ensures formed { IfOk result
+        (λ c. IsTrue (is_well_formed_in (language_in language.now) (pattern_in c))) }
 {
     match CheckedPat::new(alloc, language, pattern)? {
         Some(pattern) => Ok(pattern),
@@ -84,9 +108,14 @@ fn closed_rule(
     requires by { IsTrue (is_well_formed_in (language_in language.now) (pattern_in by.now)) }
     requires rule { IsTrue (is_well_formed_in (language_in language.now)
         (rule_of rule.now).pattern) }
-    ensures { IfOk result (λ r. rule_of r
+    ensures closed { IfOk result (λ r. rule_of r
         ≡ model.closed_rule (pattern_in by.now) (rule_of rule.now)) }
+    ensures formed { IfOk result (λ r.
+        IsTrue (is_well_formed_in (language_in language.now) (rule_of r).pattern)) }
 {
+    if !are_few_contexts(rule.pattern.pat(), DEEPEST) {
+        return Err(NoMemory);
+    }
     let context = context_name(alloc, rule)?;
     let pattern = pattern_in_context(alloc, &context, by.pat(), rule.pattern.pat())?;
     Ok(Rule {
@@ -107,8 +136,11 @@ fn closed_rules(
     requires by { IsTrue (is_well_formed_in (language_in language.now) (pattern_in by.now)) }
     requires rules { IsTrue (list_all (λ r. is_well_formed_in (language_in language.now) r.pattern)
         (map rule_of rules.now)) }
-    ensures { IfOk result (λ closed. map rule_of closed.items
+    ensures closed { IfOk result (λ closed. map rule_of closed.items
         ≡ map (model.closed_rule (pattern_in by.now)) (map rule_of rules.now)) }
+    ensures formed { IfOk result (λ closed.
+        IsTrue (list_all (λ r. is_well_formed_in (language_in language.now) r.pattern)
+        (map rule_of closed.items))) }
 {
     let mut closed = Vec::new(alloc);
     for rule in rules {
@@ -130,8 +162,10 @@ pub fn context_closure(
     requires by { IsTrue (is_well_formed_in (language_in language.now) (pattern_in by.now)) }
     requires rules { IsTrue (model.has_well_formed_patterns (language_in language.now)
         (relation_of relation.now)) }
-    ensures { IfOk result (λ r. relation_of r
+    ensures closed { IfOk result (λ r. relation_of r
         ≡ model.context_closure (pattern_in by.now) name.now (relation_of relation.now)) }
+    ensures formed { IfOk result (λ r.
+        IsTrue (model.has_well_formed_patterns (language_in language.now) (relation_of r))) }
 {
     Ok(Relation {
         name: name.share()?,
@@ -153,8 +187,10 @@ pub fn compatible_closure(
     requires crosses { IsTrue (is_among (Cross e.now e.now) (defined (language_in language.now))) }
     requires rules { IsTrue (model.has_well_formed_patterns (language_in language.now)
         (relation_of relation.now)) }
-    ensures { IfOk result (λ r. relation_of r
+    ensures closed { IfOk result (λ r. relation_of r
         ≡ model.compatible_closure e.now name.now (relation_of relation.now)) }
+    ensures formed { IfOk result (λ r.
+        IsTrue (model.has_well_formed_patterns (language_in language.now) (relation_of r))) }
 {
     let contexts = Pat::Nt(Ref::Cross(e.share()?, e.share()?));
     let by = checked(alloc, language, contexts)?;

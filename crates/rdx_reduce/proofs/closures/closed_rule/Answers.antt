@@ -16,5 +16,5 @@ checked-requires c =
     let r : Rule = rule_of c.args.rule.now in
     let x : List ℕ = c.in_ok-context.context in
     let e : pattern_of c.in_ok-pattern.pattern ≡ in_hole (named x (closed p)) r.pattern =
-    c.in_ok-pattern.ensures ∙ (λ i. in_hole (named x (closed (c.pat.ensures i))) (c.pat-2.ensures i)) in
+    c.in_ok-pattern.ensures ∙ (λ i. in_hole (named x (closed (c.pat-2.ensures i))) (c.pat-3.ensures i)) in
     ap (is_well_formed_in L) e ∙ rule_in_context-well_formed L p r x c.requires.by c.requires.rule c.in_ok-context.ensures.free

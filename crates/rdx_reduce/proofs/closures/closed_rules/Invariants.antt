@@ -10,4 +10,5 @@ abbrev pub invariant-loop-rule : goal.invariant-loop-rule
 invariant-loop-rule l =
     (map rule_of l.closed.items ++ map (model.closed_rule (pattern_in l.by)) (map rule_of (drop l.rule-index l.rules))
     ≡ map (model.closed_rule (pattern_in l.by)) (map rule_of l.rules))
-    × (list_all (λ r. is_well_formed_in (language_in l.language) r.pattern) (map rule_of (drop l.rule-index l.rules)) ≡ true)
+    × ((list_all (λ r. is_well_formed_in (language_in l.language) r.pattern) (map rule_of (drop l.rule-index l.rules)) ≡ true)
+    × (list_all (λ r. is_well_formed_in (language_in l.language) r.pattern) (map rule_of l.closed.items) ≡ true))
