@@ -141,9 +141,9 @@ sample_first =
 abbrev sample_second : Sexp
 sample_second = asks sample (word sample (codes "L")) (number sample 1) (number sample 1)
 
--- what is known before the first form: none of them defines a metafunction or a judgement
+-- what is known before the first form: none of them defines a metafunction or a judgement, or asks for cross nonterminals
 abbrev start : Known
-start = nothing_in (record { metafunctions = []; judgements = [] }) []
+start = nothing_in (record { metafunctions = []; judgements = [] }) [] []
 
 -- what is known behind it
 abbrev behind : Option Defined → Known

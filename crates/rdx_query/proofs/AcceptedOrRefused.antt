@@ -1,18 +1,22 @@
 -- Each form of a file is accepted or refused, and so is the file.
 use Rattle.std.proofs.Common.{◌≡◌, ◌++◌, ℕ, ◌⊎◌, inl, inr, List, [], ◌∷◌, Option, Some, None, refl, ◌∙◌, ap, subst}
-use Rattle.std.specs.Prelude.{option_map}
 use Rattle.rdx_sexp.specs.Sexp.{Sexp}
+use Rattle.rdx_lang.specs.Closures.{context_closure, compatible_closure}
 use Rattle.rdx_lang.specs.Edges.{IsFree}
 use Rattle.rdx_lang.specs.Laws.{HasFirstRecursive, FreeOrRecursive}
 use Rattle.rdx_lang.specs.Patterns.{Language}
 use Rattle.rdx_lang.specs.Programs.{Relation}
 use Rattle.rdx_grammar.specs.Forms.{GrammarForm, language_form, extension_form}
 use Rattle.rdx_grammar.specs.Languages.{empty_language, language_over}
+use Rattle.rdx_grammar.specs.Occurrences.{occurrences}
 use Rattle.rdx_grammar.specs.Parts.{text_of}
-use Rattle.rdx_grammar.specs.Refusal.{Refusal, unnamed, or_else}
+use Rattle.rdx_grammar.specs.PatternRefusal.{keyword_at, bad_binder_at, bad_occurrence_at, depth_clash_at, escape_at}
+use Rattle.rdx_grammar.specs.Reading.{reading}
+use Rattle.rdx_grammar.specs.Refusal.{Refusal, unnamed, or_else, first_refusal}
 use Rattle.rdx_grammar.specs.Unbuilt.{unbuilt_at}
 use Rattle.rdx_grammar.specs.Refused.{recursion_at}
 use Rattle.rdx_grammar.specs.declared.shape.fault.DefKind.TheVariants.{Shape, RacketEscape}
+use Rattle.rdx_grammar.specs.declared.patterns.position.Position.TheVariants as position
 use Rattle.rdx_defs.specs.Headed.{Headed, headed}
 use Rattle.rdx_defs.specs.JudgementForms.{JudgementForm, judgement_form}
 use Rattle.rdx_defs.specs.JudgementReading.{judgement_reading}
@@ -22,9 +26,10 @@ use Rattle.rdx_defs.specs.MetafunctionReading.{metafunction_reading}
 use Rattle.rdx_defs.specs.RelationForms.{RelationForm, relation_form}
 use Rattle.rdx_defs.specs.RelationReading.{relation_reading}
 use Rattle.rdx_defs.specs.RelationStands.{relation_stands}
-use Rattle.rdx_defs.specs.Scope.{Scope}
-use Rattle.rdx_defs.specs.Scopes.{languages_in}
 use Rattle.rdx_defs.specs.Stands.{held_stands, bound_by_premise}
+use Rattle.rdx_query.specs.ClosureForms.{closed_relation, closure_names, closure_language_at, unknown_closed_at, closure_shape_at, no_nonterminal_at, misshaped_refusal, context_refusal_by, context_relation_by, compatible_refusal_by, compatible_relation_by}
+use Rattle.rdx_query.specs.DefineForms.{define_refusal_by, defined_relation, kind_refusal, kind_relation, relation_by}
+use Rattle.rdx_query.specs.DefineParts.{DefineKind, by_cases, by_contexts, by_crosses, DefineParts, ClosureParts, define_parts, closure_parts, with_symbol}
 use Rattle.rdx_query.specs.Definitions.{Defined, language, metafunction, judgement, relation, IsSound}
 use Rattle.rdx_query.specs.File.{Defines, Asks, IsPassedOver, IsRefusedForm, by_check, by_recursion, by_late_check, Accepts, accepts_none, accepts_definition, accepts_query, accepts_passed, Refuses, refuses_here, refuses_behind_definition, refuses_behind_query, refuses_behind_passed, known_before, IsFile}
 use Rattle.rdx_query.specs.FormKinds.{DefinitionKind, QueryKind, FormKind, defines, asks, passes, to_come, form_kind}
@@ -34,24 +39,16 @@ use Rattle.rdx_query.specs.HoldsForms.{HoldsParts, holds_parts, asked_names, hol
 use Rattle.rdx_query.specs.HostForms.{host_of_datum, value_query}
 use Rattle.rdx_query.specs.JudgementForms.{form_names, judgement_refusal_by, defined_judgement}
 use Rattle.rdx_query.specs.Known.{Known, with_definition}
-use Rattle.rdx_query.specs.LanguageForms.{base_name, named_base, language_refusal, plain_language, extended_language}
+use Rattle.rdx_query.specs.LanguageForms.{base_name, named_base, name_taken_at, language_refusal, plain_language, extended_language}
 use Rattle.rdx_query.specs.Laws.{AreAccepted, AreRefused}
 use Rattle.rdx_query.specs.MatchForms.{QueryParts, query_parts, query_refusal, query_over}
 use Rattle.rdx_query.specs.MetafunctionForms.{function_names, function_refusal_by, defined_function}
 use Rattle.rdx_query.specs.Queries.{Query, matches, whether, splits, reducts, tagged}
-use Rattle.rdx_query.specs.RelationForms as forms
-use Rattle.rdx_query.specs.RelationForms.{DefineParts, define_parts, relation_names, define_refusal_over, define_refusal_by, defined_relation}
+use Rattle.rdx_query.specs.RelationForms.{relation_names, cases_refusal_over, bad_relation_at}
 use Rattle.rdx_query.specs.StepForms.{StepParts, step_parts, steps_refusal}
-use Rattle.rdx_query.proofs.OneReading.{accepts-scope, accepts-languages}
-
--- there is a value
-record HasValue (A : Type 0) (o : Option A) : Type 0 where
-  pub value : A
-  pub is : o ≡ Some value
-
--- what a function gives, where there is a value
-mapped : {A B : Type 0} (f : A → B) (o : Option A) → HasValue A o → HasValue B (option_map f o)
-mapped f o h = record { value = f h.value; is = ap (option_map f) h.is }
+use Rattle.rdx_query.proofs.CheckNumbers.{none-at}
+use Rattle.rdx_query.proofs.FoundByName.{HasValue, mapped, relation-found}
+use Rattle.rdx_query.proofs.OneReading.{accepts-scope, accepts-languages, accepts-ends}
 
 -- ---- what passes has its parts
 
@@ -65,19 +62,56 @@ language-parts : (K : Known) (base : Language) (l0 : Option Sexp) (d : Sexp) (g 
 language-parts K base l0 d None e = absurd (not_passed (unbuilt_at d) (unnamed Shape d) e)
 language-parts K base l0 d (Some g) e = record { value = g; is = refl }
 
--- a form that defines a relation has the parts of one, and so has its list
-list-parts : (K : Known) (d : Sexp) (q : DefineParts) (ns : List (List ℕ)) (o : Option RelationForm) → define_refusal_over K d q ns (relation_stands K.scope ns q.body o) ≡ None → HasValue RelationForm o
+-- a form that defines a relation by cases has a list with the parts of one
+list-parts : (K : Known) (d : Sexp) (q : DefineParts) (ns : List (List ℕ)) (o : Option RelationForm) → cases_refusal_over K d q ns (relation_stands K.scope ns q.body o) ≡ None → HasValue RelationForm o
 list-parts K d q ns None e = by_rest q.rest e
   where
-    by_rest : (ds : List Sexp) → define_refusal_over K d (record { name = q.name; body = q.body; rest = ds }) ns (relation_stands K.scope ns q.body None) ≡ None → HasValue RelationForm None
+    by_rest : (ds : List Sexp) → cases_refusal_over K d (record { kind = q.kind; name = q.name; body = q.body; rest = ds }) ns (relation_stands K.scope ns q.body None) ≡ None → HasValue RelationForm None
     by_rest [] f = absurd (not_passed (unbuilt_at d) (unnamed Shape q.body) f)
     by_rest (c ∷ ds) f = absurd (not_passed (unbuilt_at d) (unnamed Shape d) f)
 list-parts K d q ns (Some r) e = record { value = r; is = refl }
 
-relation-parts : (K : Known) (d : Sexp) (o : Option DefineParts) → define_refusal_by K d o ≡ None → HasValue Relation (forms.relation_among K o)
-relation-parts K d None e = absurd (not_passed (unbuilt_at d) (unnamed RacketEscape d) e)
-relation-parts K d (Some q) e =
+-- one that defines a closure has the parts of one
+has_parts : (d : Sexp) (q : DefineParts) → misshaped_refusal d q ≡ None → ⊥
+has_parts d q e = by_rest q.rest e
+  where
+    by_rest : (ds : List Sexp) → first_refusal (unbuilt_at d ∷ closure_shape_at d q.body ds None ∷ []) ≡ None → ⊥
+    by_rest [] f = not_passed (unbuilt_at d) (unnamed Shape q.body) f
+    by_rest (c ∷ ds) f = not_passed (unbuilt_at d) (unnamed Shape d) f
+
+-- and closes a relation that is known
+context-parts : (K : Known) (d : Sexp) (q : DefineParts) (o : Option ClosureParts) → context_refusal_by K d q o ≡ None → HasValue Relation (context_relation_by K q o)
+context-parts K d q None e = absurd (has_parts d q e)
+context-parts K d q (Some c) e =
+    let ns = closure_names K c in
+    let os = occurrences 0 c.by in
+    let checks : List (Option Refusal) =
+    unbuilt_at d ∷ closure_shape_at d q.body q.rest (Some c) ∷ keyword_at os ∷ closure_language_at K c ∷ name_taken_at K q.name ∷ bad_relation_at q.name
+    ∷ bad_binder_at os ∷ bad_occurrence_at ns os ∷ depth_clash_at ns os ∷ unknown_closed_at K c ∷ escape_at os ∷ []
+    in
+    mapped (context_closure (reading ns position.Query c.by) (text_of q.name)) (closed_relation K c)
+    (relation-found (closed_relation K c) c.relation (none-at 9 checks e))
+
+compatible-parts : (K : Known) (d : Sexp) (q : DefineParts) (o : Option ClosureParts) → compatible_refusal_by K d q o ≡ None → HasValue Relation (compatible_relation_by K q o)
+compatible-parts K d q None e = absurd (has_parts d q e)
+compatible-parts K d q (Some c) e =
+    let checks : List (Option Refusal) =
+    unbuilt_at d ∷ closure_shape_at d q.body q.rest (Some c) ∷ closure_language_at K c ∷ name_taken_at K q.name ∷ bad_relation_at q.name
+    ∷ no_nonterminal_at (closure_names K c) c.by ∷ unknown_closed_at K c ∷ []
+    in
+    mapped (compatible_closure (text_of c.by) (text_of q.name)) (closed_relation K c)
+    (relation-found (closed_relation K c) c.relation (none-at 6 checks e))
+
+-- so a form that defines a relation has the parts of one, whatever its list says
+kind-parts : (K : Known) (d : Sexp) (q : DefineParts) (k : DefineKind) → kind_refusal K d q k ≡ None → HasValue Relation (kind_relation K q k)
+kind-parts K d q by_cases e =
     mapped (relation_reading K.scope (relation_names K q) (text_of q.name)) (relation_form q.body) (list-parts K d q (relation_names K q) (relation_form q.body) e)
+kind-parts K d q by_contexts e = context-parts K d q (closure_parts q.body) e
+kind-parts K d q by_crosses e = compatible-parts K d q (with_symbol (closure_parts q.body)) e
+
+relation-parts : (K : Known) (d : Sexp) (o : Option DefineParts) → define_refusal_by K d o ≡ None → HasValue Relation (relation_by K o)
+relation-parts K d None e = absurd (not_passed (unbuilt_at d) (unnamed RacketEscape d) e)
+relation-parts K d (Some q) e = kind-parts K d q q.kind e
 
 -- so does one that defines a metafunction
 function-parts : (K : Known) (d : Sexp) (o : Option MetafunctionForm) → function_refusal_by K d o ≡ None → HasValue MetafunctionForm o
@@ -195,8 +229,9 @@ by_outcome K d ds (refused r a) f = inr (record { refusal = r; refused = refuses
 -- what is accepted is a file
 is_file : (ds : List Sexp) (J : Known) (qs : List Query) → Accepts (known_before ds) ds J qs → IsFile ds J.program qs
 is_file ds J qs a =
-    subst (λ (S : Scope). Accepts (known_before ds) ds (record { scope = S; languages = languages_in ds; program = J.program }) qs) (accepts-scope (known_before ds) ds J qs a)
-    (subst (λ (ls : List (List ℕ × List ℕ)). Accepts (known_before ds) ds (record { scope = J.scope; languages = ls; program = J.program }) qs) (accepts-languages (known_before ds) ds J qs a) a)
+    let K : Known = known_before ds in
+    subst (λ (I : Known). Accepts K ds I qs)
+    (λ i. record { scope = accepts-scope K ds J qs a i; languages = accepts-languages K ds J qs a i; ends = accepts-ends K ds J qs a i; program = J.program }) a
 
 -- ---- what becomes of a form and of a file, where each language is free of left recursion or has a first recursive nonterminal
 

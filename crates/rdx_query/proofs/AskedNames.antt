@@ -3,52 +3,73 @@ use Rattle.std.proofs.Common.{◌≡◌, ◌⊎◌, ◌++◌, ℕ, Bool, true, f
 use Rattle.std.specs.Prelude.{bytes_eq, flat_map, is_some, IsSome, if◌then◌else◌}
 use Rattle.rdx_sexp.specs.Sexp.{Sexp}
 use Rattle.rdx_lang.proofs.Collecting.{only}
+use Rattle.rdx_lang.proofs.FreeWithCrosses.{known_crosses_free}
+use Rattle.rdx_lang.proofs.KnownCrosses.{KnowsAll, crosses_known}
 use Rattle.rdx_lang.proofs.MemberLaws.{in-append}
 use Rattle.rdx_lang.specs.Edges.{IsFree}
-use Rattle.rdx_lang.specs.Members.{In, here, there}
+use Rattle.rdx_lang.specs.Members.{In}
 use Rattle.rdx_lang.specs.Patterns.{Language}
-use Rattle.rdx_lang.specs.Programs.{Mode, language_among, judgement_named}
+use Rattle.rdx_lang.specs.Programs.{Judgement, Mode, Program, judgement_among, judgement_named}
+use Rattle.rdx_grammar.specs.Nonterminals.{names_of}
 use Rattle.rdx_defs.specs.Scope.{mode_among, mode_of}
 use Rattle.rdx_defs.specs.Scopes.{defined_judgements}
 use Rattle.rdx_eval.specs.Laws.{AreFree}
 use Rattle.rdx_query.specs.Definitions.{Defined, language, metafunction, judgement, relation}
 use Rattle.rdx_query.specs.File.{Defines, Accepts, accepts_none, accepts_definition, accepts_query, accepts_passed, known_before}
-use Rattle.rdx_query.specs.Known.{Known, with_definition}
+use Rattle.rdx_grammar.specs.Ends.{known_ends, crossed_for}
+use Rattle.rdx_query.specs.Known.{Known, known_as, with_definition}
 use Rattle.rdx_query.specs.Queries.{Query, NamesKnown}
 use Rattle.rdx_query.specs.Views.{AllNamesKnown}
-use Rattle.rdx_query.proofs.DefinedJudgements.{HasMode, no-mode, defines-moded, asks-moded, passed-moded}
-use Rattle.rdx_query.proofs.NamesKnown.{IsAwaited, awaited-more, awaited-known, LanguagesKnown, languages_known-nothing, languages_known-more, JudgementsKnown, judgements_known-nothing, judgements_known-more, judgement-more, judgement-new, asks-awaited, defines-known}
+use Rattle.rdx_query.proofs.DefinedJudgements.{judgements_in, HasMode, no-mode, defines-moded, asks-moded, passed-moded}
+use Rattle.rdx_query.proofs.KnownLanguages.{KnowAll, defines-knows}
+use Rattle.rdx_query.proofs.NamesKnown.{IsGrounded, IsAwaited, awaited-more, awaited-known, LanguagesKnown, languages_known-nothing, languages_known-more, JudgementsKnown, judgements_known-nothing, judgements_known-more, judgement-more, judgement-new, asks-awaited, defines-known}
 
 -- ---- what is known
 
--- the first language, or one behind it
-found-by : (b : Bool) (L M : Language) (Ls : List Language) (o : Option Language) → (o ≡ Some M → In M Ls) → (if b then Some L else o) ≡ Some M → In M (L ∷ Ls)
-found-by true L M Ls o f e = here (let g : L ≡ M = cc in sym g)
-found-by false L M Ls o f e = there (f e)
-
--- what is found by its name is one of those among which it is found
-pub language-among : (Ls : List Language) (x : List ℕ) (M : Language) → language_among Ls x ≡ Some M → In M Ls
-language-among [] x M e = absurd cc
-language-among (L ∷ Ls) x M e = found-by (bytes_eq L.name x) L M Ls (language_among Ls x) (language-among Ls x M) e
-
--- behind forms that define K, and before these: each language is free of left recursion, those of relations and judgements are known, and each
--- judgement that the scope has is defined, or the scope has it by these forms
+-- behind forms that define K, and before these: each language is free of left recursion and speaks of its own nonterminals alone, those of
+-- relations and judgements are known, and each judgement that the scope has is defined, or the scope has it by these forms
 pub record IsFit (K : Known) (ds : List Sexp) : Type 0 where
   pub free : AreFree K.program
+  pub know : KnowAll K.program.languages
   pub languages : LanguagesKnown K.program
   pub judgements : JudgementsKnown K.program
   pub found : (x : List ℕ) → IsSome (mode_of K.scope x) → IsSome (judgement_named K.program x) ⊎ HasMode (flat_map defined_judgements ds) x
 
 -- so it is before the first form of a file
 pub fit-before : (ds : List Sexp) → IsFit (known_before ds) ds
-fit-before ds = record { free = λ L i. elim i [ ]; languages = languages_known-nothing; judgements = judgements_known-nothing; found = λ x m. inr m }
+fit-before ds = record { free = λ L i. elim i [ ]; know = λ L i. elim i [ ]; languages = languages_known-nothing; judgements = judgements_known-nothing; found = λ x m. inr m }
 
--- and behind what is defined
-free-more : (K : Known) (d : Sexp) (x : Defined) → AreFree K.program → Defines K d x → AreFree (with_definition K x).program
-free-more K d (language L) f a M i = elim (in-append K.program.languages (L ∷ []) M i) [ inl j ↦ f M j | inr j ↦ subst IsFree (sym (only j)) a.sound ]
-free-more K d (metafunction F) f a M i = f M i
-free-more K d (judgement J) f a M i = f M i
-free-more K d (relation R) f a M i = f M i
+-- and behind what is defined: a language stays free with the cross nonterminals that it is given
+free-more : (K : Known) (d : Sexp) (x : Defined) → KnowAll K.program.languages → AreFree K.program → Defines K d x → AreFree (with_definition K x).program
+free-more K d (language L) k f a M i = elim (in-append K.program.languages (crossed_for K.ends L ∷ []) M i) [
+  | inl j ↦ f M j
+  | inr j ↦ subst IsFree (sym (only j)) (known_crosses_free L (known_ends (names_of L) K.ends) (defines-knows K d L k a) a.sound)
+]
+free-more K d (metafunction F) k f a M i = f M i
+free-more K d (judgement J) k f a M i = f M i
+free-more K d (relation R) k f a M i = f M i
+
+know-more : (K : Known) (d : Sexp) (x : Defined) → KnowAll K.program.languages → Defines K d x → KnowAll (with_definition K x).program.languages
+know-more K d (language L) k a M i = elim (in-append K.program.languages (crossed_for K.ends L ∷ []) M i) [
+  | inl j ↦ k M j
+  | inr j ↦ subst KnowsAll (sym (only j)) (crosses_known L (known_ends (names_of L) K.ends) (defines-knows K d L k a))
+]
+know-more K d (metafunction F) k a M i = k M i
+know-more K d (judgement J) k a M i = k M i
+know-more K d (relation R) k a M i = k M i
+
+-- as it is known behind its form, what is defined has the same judgements, and its language is known
+judgements-as : (ys : List (List ℕ)) (x : Defined) → judgements_in (known_as ys x) ≡ judgements_in x
+judgements-as ys (language L) = refl
+judgements-as ys (metafunction F) = refl
+judgements-as ys (judgement J) = refl
+judgements-as ys (relation R) = refl
+
+grounded-as : (P : Program) (ys : List (List ℕ)) (x : Defined) → IsGrounded P x → IsGrounded P (known_as ys x)
+grounded-as P ys (language L) g = g
+grounded-as P ys (metafunction F) g = g
+grounded-as P ys (judgement J) g = g
+grounded-as P ys (relation R) g = g
 
 -- the mode of a name is among the ones, or among the others
 mode-by : (b : Bool) (m : Mode) (o p q : Option Mode) → (is_some q ≡ true → (is_some o ≡ true) ⊎ (is_some p ≡ true)) → is_some (if b then Some m else q) ≡ true
@@ -66,21 +87,25 @@ found-more : (K : Known) (d : Sexp) (ds : List Sexp) (x : Defined) → IsFit K (
     → IsSome (judgement_named (with_definition K x).program y) ⊎ HasMode (flat_map defined_judgements ds) y
 found-more K d ds x f a y m =
     elim (f.found y m) [
-      | inl i ↦ inl (judgement-more K.program x y i)
+      | inl i ↦ inl (judgement-more K.program (known_as K.ends x) y i)
       | inr i ↦ by_front (mode-append (defined_judgements d) (flat_map defined_judgements ds) y i)
     ]
   where
     by_front : HasMode (defined_judgements d) y ⊎ HasMode (flat_map defined_judgements ds) y → IsSome (judgement_named (with_definition K x).program y) ⊎ HasMode (flat_map defined_judgements ds) y
-    by_front (inl i) = inl (judgement-new K.program x y (defines-moded K d x y a i))
+    by_front (inl i) =
+        inl (judgement-new K.program (known_as K.ends x) y
+        (subst (λ (js : List Judgement). IsSome (judgement_among js y)) (sym (judgements-as K.ends x)) (defines-moded K d x y a i)))
     by_front (inr i) = inr i
 
 fit-more : (K : Known) (d : Sexp) (ds : List Sexp) (x : Defined) → IsFit K (d ∷ ds) → Defines K d x → IsFit (with_definition K x) ds
 fit-more K d ds x f a =
-    let g = defines-known K d x a in
+    let z = known_as K.ends x in
+    let g : IsGrounded K.program z = grounded-as K.program K.ends x (defines-known K d x a) in
     record {
-      free = free-more K d x f.free a;
-      languages = languages_known-more K.program x g f.languages;
-      judgements = judgements_known-more K.program x g f.judgements;
+      free = free-more K d x f.know f.free a;
+      know = know-more K d x f.know a;
+      languages = languages_known-more K.program z g f.languages;
+      judgements = judgements_known-more K.program z g f.judgements;
       found = found-more K d ds x f a;
     }
 
@@ -88,6 +113,7 @@ fit-more K d ds x f a =
 fit-behind : (K : Known) (d : Sexp) (ds : List Sexp) → IsFit K (d ∷ ds) → defined_judgements d ≡ [] → IsFit K ds
 fit-behind K d ds f e = record {
   free = f.free;
+  know = f.know;
   languages = f.languages;
   judgements = f.judgements;
   found = λ x m. subst (λ (js : List (List ℕ × Mode)). IsSome (judgement_named K.program x) ⊎ HasMode (js ++ flat_map defined_judgements ds) x) e (f.found x m);

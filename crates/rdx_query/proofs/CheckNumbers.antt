@@ -1,10 +1,11 @@
 -- Which of several refusals is reported, by the numbers of their checks.
-use Rattle.std.proofs.Common.{◌≡◌, ℕ, ◌<◌, ◌≤◌, Bool, true, false, List, [], ◌∷◌, Option, Some, None, refl, sym, ap, ◌∙◌, arith, if◌then◌else◌}
+use Rattle.std.proofs.Common.{◌≡◌, ℕ, zero, suc, get_or, ◌<◌, ◌≤◌, Bool, true, false, List, [], ◌∷◌, Option, Some, None, refl, sym, ap, ◌∙◌, arith, if◌then◌else◌}
 use Rattle.std.proofs.lemmas.Bool.{lt-ltb, le-ltb, ltb-true, ltb-false}
 use Rattle.std.specs.Prelude.{nat_lt, option_map}
 use Rattle.rdx_sexp.specs.Sexp.{Sexp}
-use Rattle.rdx_grammar.specs.Refusal.{Refusal, unnamed, named, or_else}
+use Rattle.rdx_grammar.specs.Refusal.{Refusal, unnamed, named, or_else, first_refusal}
 use Rattle.rdx_grammar.specs.declared.shape.fault.DefKind.{DefKind}
+use Rattle.rdx_grammar.proofs.Firsts.{none_of}
 use Rattle.rdx_query.specs.Inside.Earlier.{number, earlier_of, earlier}
 
 -- ---- two refusals
@@ -21,6 +22,14 @@ earlier_of-first r q h = ap (λ (b : Bool). if b then q else r) (le-ltb (number 
 -- the second is where it has one
 earlier_of-second : (r q : Refusal) → number q.kind < number r.kind → earlier_of r q ≡ q
 earlier_of-second r q h = ap (λ (b : Bool). if b then q else r) (lt-ltb (number q.kind) (number r.kind) h)
+
+-- ---- checks that refuse nothing
+
+-- where all refuse nothing, each does
+pub none-at : (i : ℕ) (os : List (Option Refusal)) → first_refusal os ≡ None → get_or os i None ≡ None
+none-at i [] e = refl
+none-at zero (o ∷ os) e = (none_of o os e).0
+none-at (suc i) (o ∷ os) e = none-at i os (none_of o os e).1
 
 -- ---- checks with their numbers
 

@@ -13,6 +13,7 @@ use Rattle.rdx_defs.specs.JudgementReading.{judgement_reading}
 use Rattle.rdx_defs.specs.MetafunctionReading.{text_in}
 use Rattle.rdx_defs.specs.Scope.{mode_among}
 use Rattle.rdx_defs.specs.Scopes.{is_rule_of, with_mode, judgement_by as judgement_in_scope, judgement_moded, begins_with, defined_judgements}
+use Rattle.rdx_query.specs.DefineForms.{defined_relation}
 use Rattle.rdx_query.specs.Definitions.{Defined, language, metafunction, judgement, relation}
 use Rattle.rdx_query.specs.File.{Defines, Asks, IsPassedOver}
 use Rattle.rdx_query.specs.FormKinds as kind
@@ -23,7 +24,6 @@ use Rattle.rdx_query.specs.Known.{Known}
 use Rattle.rdx_query.specs.LanguageForms.{plain_language, extended_language}
 use Rattle.rdx_query.specs.MetafunctionForms.{defined_function}
 use Rattle.rdx_query.specs.Queries.{Query}
-use Rattle.rdx_query.specs.RelationForms.{defined_relation}
 
 -- ---- which forms define a judgement
 

@@ -2,6 +2,8 @@
 use Rattle.std.proofs.Common.{◌≡◌, ◌++◌, ℕ, zero, suc, ◌+◌, ◌<◌, ◌≤◌, length, drop, get_or, List, [], ◌∷◌, refl, sym, subst, append_assoc, append-nil, arith}
 use Rattle.rdx_sexp.specs.Sexp.{Sexp}
 use Rattle.rdx_sexp.specs.Size.{IsOfFileSize}
+use Rattle.rdx_lang.proofs.MemberLaws.{flat_map-in}
+use Rattle.rdx_lang.specs.Members.{In, here, there}
 use Rattle.rdx_lang.specs.Programs.{Program}
 use Rattle.rdx_grammar.specs.Readable.{IsReadable}
 use Rattle.rdx_grammar.specs.Refusal.{Refusal, refusal_of}
@@ -10,8 +12,10 @@ use Rattle.rdx_grammar.specs.declared.shape.fault.DefFault.TheVariants.{Refused,
 use Rattle.rdx_defs.specs.Scope.{Scope}
 use Rattle.rdx_defs.specs.Scopes.{languages_in, scope_in}
 use Rattle.rdx_query.specs.Definitions.{Defined}
+use Rattle.rdx_query.specs.Ends.{form_ends, file_ends}
 use Rattle.rdx_query.specs.File.{Defines, Asks, IsPassedOver, Accepts, accepts_none, accepts_definition, accepts_query, accepts_passed, Refuses, refuses_here, refuses_behind_definition, refuses_behind_query, refuses_behind_passed, known_before, IsFile, IsFileRefusal}
 use Rattle.rdx_query.specs.Inside.Defining.{IsFormFault}
+use Rattle.rdx_grammar.specs.Inside.Among.{AreAmong}
 use Rattle.rdx_query.specs.Inside.Steps.{Step, step_defines, step_asks, step_passes}
 use Rattle.rdx_query.specs.Known.{Known, nothing_in, with_definition}
 use Rattle.rdx_query.specs.Queries.{Query}
@@ -25,6 +29,7 @@ use Rattle.rdx_query.proofs.AskedNames.{fit-before, can_answer}
 pub record SoFar (all rest : List Sexp) (K : Known) (qs : List Query) : Type 0 where
   pub scope : K.scope ≡ scope_in all
   pub languages : K.languages ≡ languages_in all
+  pub ends : K.ends ≡ file_ends all
   pub accepted : (J : Known) (rs : List Query) → Accepts K rest J rs → Accepts (known_before all) all J (qs ++ rs)
   pub refused : (r : Refusal) → Refuses K rest r → IsFileRefusal all r
 
@@ -33,6 +38,7 @@ behind_definition : (all more : List Sexp) (d : Sexp) (K : Known) (qs : List Que
 behind_definition all more d K qs x f s = record {
   scope = s.scope;
   languages = s.languages;
+  ends = s.ends;
   accepted = λ J rs a. s.accepted J rs (accepts_definition f a);
   refused = λ r a. s.refused r (refuses_behind_definition f a);
 }
@@ -42,6 +48,7 @@ behind_query : (all more : List Sexp) (d : Sexp) (K : Known) (qs : List Query) (
 behind_query all more d K qs q f s = record {
   scope = s.scope;
   languages = s.languages;
+  ends = s.ends;
   accepted = λ J rs a. subst (λ (ps : List Query). Accepts (known_before all) all J ps) (sym (append_assoc qs (q ∷ []) rs)) (s.accepted J (q ∷ rs) (accepts_query f a));
   refused = λ r a. s.refused r (refuses_behind_query f a);
 }
@@ -51,6 +58,7 @@ behind_passed : (all more : List Sexp) (d : Sexp) (K : Known) (qs : List Query) 
 behind_passed all more d K qs f s = record {
   scope = s.scope;
   languages = s.languages;
+  ends = s.ends;
   accepted = λ J rs a. s.accepted J rs (accepts_passed f a);
   refused = λ r a. s.refused r (refuses_behind_passed f a);
 }
@@ -67,11 +75,11 @@ stepped all more d K J qs rs (step_asks q f e g) s = so_far-same all more K J (q
 stepped all more d K J qs rs (step_passes f e g) s = so_far-same all more K J qs rs e g (behind_passed all more d K qs f s)
 
 -- before the first form
-pub so_far-start : (all : List Sexp) (S : Scope) (ls : List (List ℕ × List ℕ)) → S ≡ scope_in all → ls ≡ languages_in all → SoFar all all (nothing_in S ls) []
-so_far-start all S ls e f =
-    subst (λ (T : Scope). SoFar all all (nothing_in T ls) []) (sym e)
-    (subst (λ (ms : List (List ℕ × List ℕ)). SoFar all all (nothing_in (scope_in all) ms) []) (sym f)
-    (record { scope = refl; languages = refl; accepted = λ J rs a. a; refused = λ r a. a }))
+pub so_far-start : (all : List Sexp) (S : Scope) (ls : List (List ℕ × List ℕ)) (ys : List (List ℕ)) → S ≡ scope_in all → ls ≡ languages_in all → ys ≡ file_ends all
+    → SoFar all all (nothing_in S ls ys) []
+so_far-start all S ls ys e f g =
+    subst (λ (K : Known). SoFar all all K []) (λ i. nothing_in (sym e i) (sym f i) (sym g i))
+    (record { scope = refl; languages = refl; ends = refl; accepted = λ J rs a. a; refused = λ r a. a })
 
 -- one form more
 pub so_far-next : (all : List Sexp) (i : ℕ) (d : Sexp) (K J : Known) (qs rs : List Query) → i < length all → d ≡ get_or all i d → Step K qs d J rs → SoFar all (drop i all) K qs → SoFar all (drop (i + 1) all) J rs
@@ -90,17 +98,13 @@ drop-none [] (suc i) h = refl
 drop-none (x ∷ xs) zero h = absurd (omega arith)
 drop-none (x ∷ xs) (suc i) h = drop-none xs i (omega arith)
 
--- what is known, in a scope with these languages
-abbrev known_in : Program → Scope → List (List ℕ × List ℕ) → Known
-known_in P S ls = record { scope = S; languages = ls; program = P }
-
 -- all forms are read
 pub so_far-end : (all : List Sexp) (i : ℕ) (K : Known) (qs : List Query) → length all ≤ i → SoFar all (drop i all) K qs → IsFile all K.program qs
 so_far-end all i K qs h s =
-    subst (λ (ps : List Query). Accepts (known_before all) all (known_in K.program (scope_in all) (languages_in all)) ps) (append-nil qs)
-    (subst (λ (S : Scope). Accepts (known_before all) all (known_in K.program S (languages_in all)) (qs ++ [])) s.scope
-    (subst (λ (ls : List (List ℕ × List ℕ)). Accepts (known_before all) all (known_in K.program K.scope ls) (qs ++ [])) s.languages
-    (s.accepted K [] (subst (λ (ds : List Sexp). Accepts K ds K []) (sym (drop-none all i h)) accepts_none))))
+    subst (λ (ps : List Query). Accepts (known_before all) all (record (known_before all) { program = K.program }) ps) (append-nil qs)
+    (subst (λ (J : Known). Accepts (known_before all) all J (qs ++ []))
+    (λ j. record { scope = s.scope j; languages = s.languages j; ends = s.ends j; program = K.program })
+    (s.accepted K [] (subst (λ (ds : List Sexp). Accepts K ds K []) (sym (drop-none all i h)) accepts_none)))
 
 -- and what they name is known
 pub file-named : (ds : List Sexp) (P : Program) (qs : List Query) → IsFile ds P qs → AllNamesKnown P qs
@@ -113,3 +117,15 @@ pub form-readable : (ds : List Sexp) (i : ℕ) (d : Sexp) → IsOfFileSize ds �
 form-readable [] i d z h e = absurd (omega arith)
 form-readable (c ∷ ds) zero d z h e = subst IsReadable (sym e) (record { nested = omega (arith, z.depth); spelled = z.spelled.0 })
 form-readable (c ∷ ds) (suc i) d z h e = form-readable ds i d (record { depth = omega (arith, z.depth); nodes = omega (arith, z.nodes); spelled = z.spelled.1 }) (omega arith) e
+
+-- ---- what can be asked for
+
+-- a form is one of the file's
+form-among : (ds : List Sexp) (i : ℕ) (d : Sexp) → i < length ds → d ≡ get_or ds i d → In d ds
+form-among [] i d h e = absurd (omega arith)
+form-among (c ∷ ds) zero d h e = here e
+form-among (c ∷ ds) (suc i) d h e = there (form-among ds i d (omega arith) e)
+
+-- so what it asks for is among what the file does
+pub form-ends-among : (ds : List Sexp) (i : ℕ) (d : Sexp) (ys : List (List ℕ)) → ys ≡ file_ends ds → i < length ds → d ≡ get_or ds i d → AreAmong (form_ends d) ys
+form-ends-among ds i d ys e h f y j = subst (λ (zs : List (List ℕ)). In y zs) (sym e) (flat_map-in form_ends ds d y (form-among ds i d h f) j)

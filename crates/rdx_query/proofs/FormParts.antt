@@ -1,6 +1,6 @@
 -- The parts of a form can be read where the form can, and are built where it is.
 use Rattle.std.proofs.Common.{◌≡◌, ◌<◌, Bool, true, false, List, [], ◌∷◌, Option, Some, None, refl, subst, arith}
-use Rattle.std.specs.Prelude.{◌||◌, if◌then◌else◌}
+use Rattle.std.specs.Prelude.{◌||◌, ◌&&◌, if◌then◌else◌}
 use Rattle.rdx_sexp.specs.Sexp.{Sexp, Sexps, leaf, list, nil, cons}
 use Rattle.rdx_sexp.specs.Size.{sexps_depth, AreSpelled}
 use Rattle.rdx_grammar.specs.Parts.{listed, parts, is_symbol}
@@ -9,7 +9,7 @@ use Rattle.rdx_grammar.specs.Refusal.{unnamed}
 use Rattle.rdx_grammar.specs.Unbuilt.{has_word_to_come, have_word_to_come, unbuilt_at}
 use Rattle.rdx_grammar.specs.declared.shape.fault.DefKind.TheVariants.{Unbuilt}
 use Rattle.rdx_query.specs.MatchForms.{QueryParts, query_among, query_parts}
-use Rattle.rdx_query.specs.RelationForms.{DefineParts, begins_relation, define_among, define_parts}
+use Rattle.rdx_query.specs.DefineParts.{DefineKind, DefineParts, ClosureParts, kind_among, define_by, define_among, define_parts, closure_among, closure_parts}
 use Rattle.rdx_query.specs.StepForms.{StepParts, steps_among, step_parts}
 
 -- ---- what can be read
@@ -101,19 +101,48 @@ pub record DefineItems (o : Option (List Sexp)) (q : DefineParts) : Type 0 where
   pub head : Sexp
   pub are : o ≡ Some (head ∷ q.name ∷ q.body ∷ q.rest)
 
-by_tests : (b c : Bool) (o : Option (List Sexp)) (p q : DefineParts) → DefineItems o p → (if b then (if c then Some p else None) else None) ≡ Some q → DefineItems o q
-by_tests true true o p q k e = let f : p ≡ q = cc in subst (DefineItems o) f k
-by_tests true false o p q k e = absurd cc
-by_tests false c o p q k e = absurd cc
+-- by what the list says
+items_by-kind : (k : Option DefineKind) (h x body : Sexp) (ds : List Sexp) (q : DefineParts) → define_by k x body ds ≡ Some q → DefineItems (Some (h ∷ x ∷ body ∷ ds)) q
+items_by-kind None h x body ds q e = absurd cc
+items_by-kind (Some k) h x body ds q e =
+    let p : DefineParts = record { kind = k; name = x; body = body; rest = ds } in
+    let f : p ≡ q = cc in
+    subst (DefineItems (Some (h ∷ x ∷ body ∷ ds))) f (record { head = h; are = refl })
+
+-- where the name is a symbol
+items_by-symbol : (b : Bool) (k : Option DefineKind) (h x body : Sexp) (ds : List Sexp) (q : DefineParts) → (if b then define_by k x body ds else None) ≡ Some q → DefineItems (Some (h ∷ x ∷ body ∷ ds)) q
+items_by-symbol true k h x body ds q e = items_by-kind k h x body ds q e
+items_by-symbol false k h x body ds q e = absurd cc
 
 items_of-define : (o : Option (List Sexp)) (q : DefineParts) → define_among o ≡ Some q → DefineItems o q
 items_of-define None q e = absurd cc
 items_of-define (Some []) q e = absurd cc
 items_of-define (Some (h ∷ [])) q e = absurd cc
 items_of-define (Some (h ∷ x ∷ [])) q e = absurd cc
-items_of-define (Some (h ∷ x ∷ body ∷ ds)) q e =
-    by_tests (is_symbol x) (begins_relation (parts body)) (Some (h ∷ x ∷ body ∷ ds)) (record { name = x; body = body; rest = ds }) q
-    (record { head = h; are = refl }) e
+items_of-define (Some (h ∷ x ∷ body ∷ ds)) q e = items_by-symbol (is_symbol x) (kind_among (parts body)) h x body ds q e
 
 pub define-items : (d : Sexp) (q : DefineParts) → define_parts d ≡ Some q → DefineItems (parts d) q
 define-items d q e = items_of-define (parts d) q e
+
+-- the items of a list that says of which relation another one is a closure
+pub record ClosureItems (o : Option (List Sexp)) (q : ClosureParts) : Type 0 where
+  pub head : Sexp
+  pub are : o ≡ Some (head ∷ q.relation ∷ q.language ∷ q.by ∷ [])
+
+by_symbols : (b : Bool) (o : Option (List Sexp)) (p q : ClosureParts) → ClosureItems o p → (if b then Some p else None) ≡ Some q → ClosureItems o q
+by_symbols true o p q k e = let f : p ≡ q = cc in subst (ClosureItems o) f k
+by_symbols false o p q k e = absurd cc
+
+items_of-closure : (o : Option (List Sexp)) (q : ClosureParts) → closure_among o ≡ Some q → ClosureItems o q
+items_of-closure None q e = absurd cc
+items_of-closure (Some []) q e = absurd cc
+items_of-closure (Some (h ∷ [])) q e = absurd cc
+items_of-closure (Some (h ∷ r ∷ [])) q e = absurd cc
+items_of-closure (Some (h ∷ r ∷ l ∷ [])) q e = absurd cc
+items_of-closure (Some (h ∷ r ∷ l ∷ p ∷ [])) q e =
+    by_symbols (is_symbol r && is_symbol l) (Some (h ∷ r ∷ l ∷ p ∷ [])) (record { relation = r; language = l; by = p }) q
+    (record { head = h; are = refl }) e
+items_of-closure (Some (h ∷ r ∷ l ∷ p ∷ x ∷ xs)) q e = absurd cc
+
+pub closure-items : (d : Sexp) (q : ClosureParts) → closure_parts d ≡ Some q → ClosureItems (parts d) q
+closure-items d q e = items_of-closure (parts d) q e

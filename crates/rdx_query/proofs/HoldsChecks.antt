@@ -21,6 +21,8 @@ use Rattle.rdx_defs.specs.Scope.{Scope}
 use Rattle.rdx_defs.specs.Stands.{Stand, names_bound, bound_by_premise}
 use Rattle.rdx_defs.specs.TemplateReading.{template_reading}
 use Rattle.rdx_defs.specs.declared.judgements.premises.ReadPremise.{ReadPremise}
+use Rattle.rdx_grammar.specs.Ends.{ends_in}
+use Rattle.rdx_grammar.specs.Inside.Among.{AreAmong}
 use Rattle.rdx_query.specs.HoldsForms.{HoldsParts, holds_parts, holds_among, asked_names, unfound, unfound_for, asked_unknown_at, holds_refusal, holds_by, holds_over}
 use Rattle.rdx_query.specs.Known.{Known, judgement_language}
 use Rattle.rdx_query.specs.Queries.{holds}
@@ -29,6 +31,7 @@ use Rattle.rdx_query.specs.Inside.Earlier.{number, earlier, IsFaultAt, IsRefused
 use Rattle.rdx_query.proofs.CheckNumbers.{or_none, HasNumber, Checks, AreChecks, refused, merge, merged}
 use Rattle.rdx_query.proofs.ClauseStands.{of_lone_premise}
 use Rattle.rdx_query.proofs.FormParts.{unbuilt_at-built, parts-readable}
+use Rattle.rdx_query.proofs.GainingNothing.{parts-ask}
 use Rattle.rdx_query.proofs.StandNumbers.{nameless_checks, nameless-checks, nameless-refusal}
 
 -- ---- the parts can be read
@@ -52,6 +55,25 @@ readable-among d (Some (h ∷ x ∷ t ∷ y ∷ ys)) q p z e = absurd cc
 -- those of a form
 pub holds-readable : (d : Sexp) (q : HoldsParts) → holds_parts d ≡ Some q → IsReadable d → IsReadable q.premise × IfSome q.result IsReadable
 holds-readable d q e z = readable-among d (parts d) q refl z e
+
+-- what the premise among items asks for is among what the form does
+premise-asks-among : (zs : List (List ℕ)) (d : Sexp) (o : Option (List Sexp)) (q : HoldsParts) → parts d ≡ o → AreAmong (ends_in d) zs → holds_among o ≡ Some q → AreAmong (ends_in q.premise) zs
+premise-asks-among zs d None q p a e = absurd cc
+premise-asks-among zs d (Some []) q p a e = absurd cc
+premise-asks-among zs d (Some (h ∷ [])) q p a e = absurd cc
+premise-asks-among zs d (Some (h ∷ x ∷ [])) q p a e =
+    let r : HoldsParts = record { premise = x; result = None } in
+    let f : r ≡ q = cc in
+    subst (λ (p : HoldsParts). AreAmong (ends_in p.premise) zs) f (parts-ask zs d (h ∷ x ∷ []) p a).1.0
+premise-asks-among zs d (Some (h ∷ x ∷ t ∷ [])) q p a e =
+    let r : HoldsParts = record { premise = x; result = Some t } in
+    let f : r ≡ q = cc in
+    subst (λ (p : HoldsParts). AreAmong (ends_in p.premise) zs) f (parts-ask zs d (h ∷ x ∷ t ∷ []) p a).1.0
+premise-asks-among zs d (Some (h ∷ x ∷ t ∷ y ∷ ys)) q p a e = absurd cc
+
+-- that of a form
+pub premise-asks : (zs : List (List ℕ)) (d : Sexp) (q : HoldsParts) → holds_parts d ≡ Some q → AreAmong (ends_in d) zs → AreAmong (ends_in q.premise) zs
+premise-asks zs d q e a = premise-asks-among zs d (parts d) q refl a e
 
 -- what holds of the image of something holds of it
 pub some-mapped : {A B : Type 0} (f : A → B) (P : B → Type 0) (o : Option A) → IfSome (option_map f o) P → IfSome o (λ x. P (f x))

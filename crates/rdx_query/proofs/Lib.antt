@@ -12,7 +12,10 @@ pub mod HostChecks
 pub mod ClauseStands
 pub mod StandNumbers
 pub mod LanguageChecks
+pub mod FoundByName
+pub mod DefineChecks
 pub mod RelationChecks
+pub mod ClosureChecks
 pub mod MetafunctionChecks
 pub mod JudgementChecks
 pub mod HoldsChecks
@@ -21,7 +24,11 @@ pub mod FormNames
 pub mod QueryChecks
 pub mod StepChecks
 pub mod Replaced
+pub mod GainingNothing
 pub mod NamesKnown
+pub mod EndsAsked
+pub mod KnownLanguages
+pub mod FittingKnown
 pub mod FileRead
 pub mod FormSteps
 pub mod PrintedExamples

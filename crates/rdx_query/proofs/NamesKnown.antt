@@ -1,17 +1,21 @@
 -- What forms name is known, and stays known.
-use Rattle.std.proofs.Common.{◌≡◌, ◌⊎◌, inl, inr, ◌++◌, ℕ, Bool, true, false, List, [], ◌∷◌, Option, Some, None, refl, sym, subst, if◌then◌else◌}
+use Rattle.std.proofs.Common.{◌≡◌, ◌⊎◌, inl, inr, ◌++◌, ℕ, Bool, true, false, List, [], ◌∷◌, Option, Some, None, refl, sym, ◌∙◌, ap, subst, if◌then◌else◌}
 use Rattle.std.specs.Prelude.{not, is_some, bytes_eq, option_map, IsSome}
 use Rattle.rdx_sexp.specs.Sexp.{Sexp}
+use Rattle.rdx_lang.specs.Closures.{context_closure, compatible_closure}
 use Rattle.rdx_lang.specs.Patterns.{Pattern, Language}
 use Rattle.rdx_lang.proofs.Collecting.{only}
 use Rattle.rdx_lang.proofs.MemberLaws.{in-append}
-use Rattle.rdx_lang.specs.Members.{In, here, there}
+use Rattle.rdx_lang.specs.Members.{In}
 use Rattle.rdx_lang.specs.Programs.{Judgement, Program, Relation, language_among, language_named, judgement_among, judgement_named, relation_among, relation_named}
 use Rattle.rdx_lang.specs.Templates.{Host}
 use Rattle.rdx_grammar.specs.Nonterminals.{names_of}
 use Rattle.rdx_grammar.specs.Parts.{text_of}
 use Rattle.rdx_grammar.specs.Occurrences.{occurrences}
-use Rattle.rdx_grammar.specs.PatternRefusal.{bad_binder_at, depth_clash_at}
+use Rattle.rdx_grammar.specs.PatternRefusal.{keyword_at, bad_binder_at, bad_occurrence_at, depth_clash_at}
+use Rattle.rdx_grammar.specs.PatternRefusal as pattern
+use Rattle.rdx_grammar.specs.Reading.{reading}
+use Rattle.rdx_grammar.specs.declared.patterns.position.Position.TheVariants as position
 use Rattle.rdx_grammar.specs.PatternChecks.{when}
 use Rattle.rdx_grammar.specs.Refusal.{Refusal, named, or_else, first, first_refusal}
 use Rattle.rdx_grammar.specs.Unbuilt.{unbuilt_at}
@@ -28,6 +32,9 @@ use Rattle.rdx_defs.specs.RelationStands.{relation_stands}
 use Rattle.rdx_defs.specs.Scope.{Scope, mode_of}
 use Rattle.rdx_defs.specs.StandChecks.{shape_at, repeated_name_at, bad_name_at, bad_place_at, depth_fault_at, unknown_names, unknown_name_at, undriven_at, escape_at, mode_fault_at}
 use Rattle.rdx_defs.specs.Stands.{Stand, asked, misfits, arguments_stand, names_bound, premise_arguments, held_stands, bound_by_premise}
+use Rattle.rdx_query.specs.ClosureForms.{closed_relation, closure_names, closure_language_at, unknown_closed_at, closure_shape_at, no_nonterminal_at, context_refusal_by, context_relation_by, compatible_refusal_by, compatible_relation_by}
+use Rattle.rdx_query.specs.DefineForms.{define_refusal_by, defined_relation, kind_refusal, kind_relation, relation_by}
+use Rattle.rdx_query.specs.DefineParts.{DefineKind, by_cases, by_contexts, by_crosses, DefineParts, ClosureParts, define_parts, closure_parts, with_symbol}
 use Rattle.rdx_query.specs.Definitions.{Defined, language, metafunction, judgement, relation}
 use Rattle.rdx_query.specs.File.{Defines, Asks}
 use Rattle.rdx_query.specs.FormKinds as kind
@@ -36,15 +43,16 @@ use Rattle.rdx_query.specs.Forms.{refusal_by_kind, definition_by_kind, query_by_
 use Rattle.rdx_query.specs.HoldsForms.{HoldsParts, holds_parts, asked_names, asked_unknown_at, holds_refusal, holds_refusal_over, holds_by, holds_over}
 use Rattle.rdx_query.specs.HostForms.{host_of_datum}
 use Rattle.rdx_query.specs.JudgementForms.{form_name, form_names, judgement_refusal_by, judgement_by, defined_judgement}
-use Rattle.rdx_query.specs.Known.{Known, empty_program, extended_by, with_definition}
+use Rattle.rdx_query.specs.Known.{Known, empty_program, extended_by, known_as, with_definition}
 use Rattle.rdx_query.specs.LanguageForms.{named_base, name_taken_at, unknown_at, unknown_by, plain_language, extended_language}
 use Rattle.rdx_query.specs.MatchForms.{QueryParts, query_parts, query_shape_at, checked_parts, query_host, bad_query_at, undriven_host_at, query_escape_at, query_refusal, query_over}
 use Rattle.rdx_query.specs.MetafunctionForms.{function_taken_at, defined_function}
 use Rattle.rdx_query.specs.Queries.{Query, matches, whether, splits, value, holds, reducts, tagged, KnowsRelation, KnowsJudgement, NamesKnown}
-use Rattle.rdx_query.specs.RelationForms as forms
-use Rattle.rdx_query.specs.RelationForms.{DefineParts, define_parts, define_shape_at, bad_relation_at, define_refusal_by, relation_names, relation_language, defined_relation}
+use Rattle.rdx_query.specs.RelationForms.{define_shape_at, bad_relation_at, cases_refusal, relation_names, relation_language}
 use Rattle.rdx_query.specs.StepForms.{StepParts, step_parts, steps_shape_at, checked_steps, steps_host, bad_host_at, host_escape_at, unknown_relation_at, unknown_relation_by, steps_refusal}
+use Rattle.rdx_query.proofs.ClosureChecks.{language-known, same-language}
 use Rattle.rdx_query.proofs.DefinedJudgements.{judgements_in, mapped-some}
+use Rattle.rdx_query.proofs.FoundByName.{judgement-among}
 use Rattle.rdx_grammar.proofs.Firsts.{none_or}
 
 -- ---- names stay known
@@ -95,13 +103,13 @@ IsAwaited K (tagged name h) = KnowsRelation K.program name
 
 -- so it stays
 pub awaited-more : (K : Known) (x : Defined) (q : Query) → IsAwaited K q → IsAwaited (with_definition K x) q
-awaited-more K x (matches name p h) e = language-more K.program x name e
-awaited-more K x (whether name p h) e = language-more K.program x name e
-awaited-more K x (splits name p h) e = language-more K.program x name e
+awaited-more K x (matches name p h) e = language-more K.program (known_as K.ends x) name e
+awaited-more K x (whether name p h) e = language-more K.program (known_as K.ends x) name e
+awaited-more K x (splits name p h) e = language-more K.program (known_as K.ends x) name e
 awaited-more K x (value h) e = tt
 awaited-more K x (holds q t) e = e
-awaited-more K x (reducts name h) e = relation-more K.program x name e
-awaited-more K x (tagged name h) e = relation-more K.program x name e
+awaited-more K x (reducts name h) e = relation-more K.program (known_as K.ends x) name e
+awaited-more K x (tagged name h) e = relation-more K.program (known_as K.ends x) name e
 
 -- ---- the language of each relation is known
 
@@ -166,16 +174,6 @@ judgements_known-more P (judgement M) g l J i = either (in-append P.judgements (
     either (inl j) = l J j
     either (inr j) = subst (λ (I : Judgement). IsSome (language_named P I.language)) (sym (only j)) g
 judgements_known-more P (relation R) g l J i = l J i
-
--- the first judgement, or one behind it
-member-by : (b : Bool) (I J : Judgement) (Js : List Judgement) (o : Option Judgement) → (o ≡ Some J → In J Js) → (if b then Some I else o) ≡ Some J → In J (I ∷ Js)
-member-by true I J Js o f e = here (let g : I ≡ J = cc in sym g)
-member-by false I J Js o f e = there (f e)
-
--- what is found by its name is one of those among which it is found
-judgement-among : (Js : List Judgement) (x : List ℕ) (J : Judgement) → judgement_among Js x ≡ Some J → In J Js
-judgement-among [] x J e = absurd cc
-judgement-among (I ∷ Js) x J e = member-by (bytes_eq I.name x) I J Js (judgement_among Js x) (judgement-among Js x J) e
 
 -- a judgement that is found stays found before others
 judgement-left : (Js Is : List Judgement) (x : List ℕ) → IsSome (judgement_among Js x) → IsSome (judgement_among (Js ++ Is) x)
@@ -343,7 +341,7 @@ by_form K (Some r) ns x R e m =
     subst (λ (S : Relation). IsSome (language_named K.program S.language)) f (known-name (language_named K.program (text_of r.language)) r.language e)
 
 -- the check of its language refuses nothing
-language-none : (K : Known) (d : Sexp) (q : DefineParts) → define_refusal_by K d (Some q) ≡ None → unknown_at K (relation_language q) ≡ None
+language-none : (K : Known) (d : Sexp) (q : DefineParts) → cases_refusal K d q ≡ None → unknown_at K (relation_language q) ≡ None
 language-none K d q e =
     let ns = relation_names K q in
     let ss = relation_stands K.scope ns q.body (relation_form q.body) in
@@ -354,10 +352,49 @@ language-none K d q e =
     in
     third-none (unbuilt_at d) (define_shape_at d q.rest ss) (unknown_at K (relation_language q)) last e
 
+-- that of a closure is the one of the relation that is closed
+by_closed : (K : Known) (c : ClosureParts) (f : Relation → Relation) (o : Option Relation) (R : Relation) → closed_relation K c ≡ o → closure_language_at K c ≡ None → ((S : Relation) → (f S).language ≡ S.language)
+    → option_map f o ≡ Some R → IsSome (language_named K.program R.language)
+by_closed K c f None R g e h m = absurd cc
+by_closed K c f (Some S) R g e h m =
+    let i : f S ≡ R = cc in
+    let k : R.language ≡ text_of c.language = ap (λ (T : Relation). T.language) (sym i) ∙ h S ∙ same-language K c e S g in
+    let n : language_named K.program R.language ≡ Some (language-known K c e).value = ap (language_named K.program) k ∙ (language-known K c e).is in
+    subst (λ (l : Option Language). IsSome l) (sym n) refl
+
+by_contexts-parts : (K : Known) (d : Sexp) (q : DefineParts) (o : Option ClosureParts) (R : Relation) → context_refusal_by K d q o ≡ None → context_relation_by K q o ≡ Some R → IsSome (language_named K.program R.language)
+by_contexts-parts K d q None R e m = absurd cc
+by_contexts-parts K d q (Some c) R e m =
+    let ns = closure_names K c in
+    let os = occurrences 0 c.by in
+    let last : Option Refusal =
+    first_refusal
+    (name_taken_at K q.name ∷ bad_relation_at q.name ∷ bad_binder_at os ∷ bad_occurrence_at ns os ∷ depth_clash_at ns os ∷ unknown_closed_at K c
+    ∷ pattern.escape_at os ∷ [])
+    in
+    by_closed K c (context_closure (reading ns position.Query c.by) (text_of q.name)) (closed_relation K c) R refl
+    (fourth-none (unbuilt_at d) (closure_shape_at d q.body q.rest (Some c)) (keyword_at os) (closure_language_at K c) last e)
+    (λ S. refl) m
+
+by_crosses-parts : (K : Known) (d : Sexp) (q : DefineParts) (o : Option ClosureParts) (R : Relation) → compatible_refusal_by K d q o ≡ None → compatible_relation_by K q o ≡ Some R → IsSome (language_named K.program R.language)
+by_crosses-parts K d q None R e m = absurd cc
+by_crosses-parts K d q (Some c) R e m =
+    let last : Option Refusal =
+    first_refusal (name_taken_at K q.name ∷ bad_relation_at q.name ∷ no_nonterminal_at (closure_names K c) c.by ∷ unknown_closed_at K c ∷ []) in
+    by_closed K c (compatible_closure (text_of c.by) (text_of q.name)) (closed_relation K c) R refl
+    (third-none (unbuilt_at d) (closure_shape_at d q.body q.rest (Some c)) (closure_language_at K c) last e)
+    (λ S. refl) m
+
+-- by what the list says
+by_kind : (K : Known) (d : Sexp) (q : DefineParts) (k : DefineKind) (R : Relation) → kind_refusal K d q k ≡ None → kind_relation K q k ≡ Some R → IsSome (language_named K.program R.language)
+by_kind K d q by_cases R e m = by_form K (relation_form q.body) (relation_names K q) (text_of q.name) R (language-none K d q e) m
+by_kind K d q by_contexts R e m = by_contexts-parts K d q (closure_parts q.body) R e m
+by_kind K d q by_crosses R e m = by_crosses-parts K d q (with_symbol (closure_parts q.body)) R e m
+
 -- by the parts of the form
-by_define : (K : Known) (d : Sexp) (o : Option DefineParts) (R : Relation) → define_refusal_by K d o ≡ None → forms.relation_among K o ≡ Some R → IsSome (language_named K.program R.language)
+by_define : (K : Known) (d : Sexp) (o : Option DefineParts) (R : Relation) → define_refusal_by K d o ≡ None → relation_by K o ≡ Some R → IsSome (language_named K.program R.language)
 by_define K d None R e m = absurd cc
-by_define K d (Some q) R e m = by_form K (relation_form q.body) (relation_names K q) (text_of q.name) R (language-none K d q e) m
+by_define K d (Some q) R e m = by_kind K d q q.kind R e m
 
 -- the language of a judgement, by the parts of the form
 by_judgement : (K : Known) (d : Sexp) (o : Option JudgementForm) (J : Judgement) → judgement_refusal_by K d o ≡ None → judgement_by K o ≡ Some J → IsSome (language_named K.program J.language)

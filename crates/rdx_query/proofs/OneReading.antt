@@ -183,3 +183,10 @@ accepts-languages K [] J qs accepts_none = refl
 accepts-languages K (d ∷ ds) J qs (accepts_definition {x} a more) = accepts-languages (with_definition K x) ds J qs more
 accepts-languages K (d ∷ ds) J qs (accepts_query {qs = more_qs} a more) = accepts-languages K ds J more_qs more
 accepts-languages K (d ∷ ds) J qs (accepts_passed a more) = accepts-languages K ds J qs more
+
+-- and the nonterminals to which cross nonterminals are asked for
+pub accepts-ends : (K : Known) (ds : List Sexp) (J : Known) (qs : List Query) → Accepts K ds J qs → J.ends ≡ K.ends
+accepts-ends K [] J qs accepts_none = refl
+accepts-ends K (d ∷ ds) J qs (accepts_definition {x} a more) = accepts-ends (with_definition K x) ds J qs more
+accepts-ends K (d ∷ ds) J qs (accepts_query {qs = more_qs} a more) = accepts-ends K ds J more_qs more
+accepts-ends K (d ∷ ds) J qs (accepts_passed a more) = accepts-ends K ds J qs more

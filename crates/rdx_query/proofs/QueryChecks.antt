@@ -43,7 +43,7 @@ use Rattle.rdx_query.proofs.HostChecks.{host_checks, host-checks, host-refusal, 
 -- ---- the checks of a pattern
 
 -- the checks, over these nonterminals
-abbrev pattern_checks : List (List ℕ) → Sexp → Checks
+abbrev pub pattern_checks : List (List ℕ) → Sexp → Checks
 pattern_checks ns p =
     (1, keyword_at (occurrences 0 p))
     ∷ (4, bad_binder_at (occurrences 0 p))
@@ -53,7 +53,7 @@ pattern_checks ns p =
     ∷ []
 
 -- their numbers ascend
-pattern-checks : (ns : List (List ℕ)) (p : Sexp) → AreChecks 0 (pattern_checks ns p)
+pub pattern-checks : (ns : List (List ℕ)) (p : Sexp) → AreChecks 0 (pattern_checks ns p)
 pattern-checks ns p = (
   omega arith,
   (
@@ -69,11 +69,11 @@ pattern-checks ns p = (
 )
 
 -- they refuse it, where it is built
-pattern-refusal : (ns : List (List ℕ)) (p : Sexp) → has_word_to_come p ≡ false → pattern_refusal ns p ≡ refused (pattern_checks ns p)
+pub pattern-refusal : (ns : List (List ℕ)) (p : Sexp) → has_word_to_come p ≡ false → pattern_refusal ns p ≡ refused (pattern_checks ns p)
 pattern-refusal ns p b = λ i. or_else (unbuilt_at-built p b i) (refused (pattern_checks ns p))
 
 -- what is read of it is refused so
-pattern-refused : (ns : List (List ℕ)) (p : Sexp) (x : Result CheckedPat DefFault) → ReadsPattern ns p x → IsRefusedBy (pattern_refusal ns p) x
+pub pattern-refused : (ns : List (List ℕ)) (p : Sexp) (x : Result CheckedPat DefFault) → ReadsPattern ns p x → IsRefusedBy (pattern_refusal ns p) x
 pattern-refused ns p (Ok c) a = a.0
 pattern-refused ns p (Err (Refused r)) a = a
 pattern-refused ns p (Err NoMemory) a = tt

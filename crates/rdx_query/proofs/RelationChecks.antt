@@ -1,19 +1,28 @@
--- Which check refuses a form that defines a relation.
-use Rattle.std.proofs.Common.{◌≡◌, ℕ, Bool, true, false, List, [], ◌∷◌, Option, Some, None, Result, Ok, Err, refl, sym, ◌∙◌, ap, subst, arith, if◌then◌else◌}
-use Rattle.std.specs.Prelude.{◌&&◌, ◌||◌, not, codes, bytes_eq, option_map}
-use Rattle.rdx_sexp.specs.Sexp.{integer, truth, text, symbol, keyword, Sexp, leaf, list}
-use Rattle.rdx_sexp.specs.Size.{IsSpelledSexp}
+-- Which check refuses a form that defines a relation by cases.
+use Rattle.std.proofs.Common.{◌≡◌, ℕ, Bool, true, false, List, [], ◌∷◌, Option, Some, None, Result, Ok, Err, IfOk, refl, sym, ◌∙◌, ap, subst, arith, if◌then◌else◌}
+use Rattle.std.proofs.lemmas.Bool.{and_parts, and_from}
+use Rattle.std.specs.List.{list_all}
+use Rattle.std.specs.Prelude.{◌&&◌, codes, option_map}
+use Rattle.rdx_sexp.specs.Sexp.{Sexp}
+use Rattle.rdx_lang.specs.Closures.{has_well_formed_patterns}
+use Rattle.rdx_lang.specs.Depths.{uses}
+use Rattle.rdx_lang.specs.Fitting.{fits}
+use Rattle.rdx_lang.specs.Modes.{Callable}
+use Rattle.rdx_lang.specs.Patterns.{Language}
+use Rattle.rdx_lang.specs.Programs as model
+use Rattle.rdx_lang.specs.Programs.{Rule, language_named}
+use Rattle.rdx_lang.specs.ProgramView.{relation_of}
+use Rattle.rdx_lang.specs.Scopes.{bound_by, case_uses}
+use Rattle.rdx_lang.specs.Valid.{are_valid_extras, is_valid_rule, is_valid_domain, is_valid_over}
+use Rattle.rdx_lang.specs.WellFormed.{is_well_formed_in}
 use Rattle.rdx_lang.specs.declared.program.Relation.{Relation}
-use Rattle.rdx_term.specs.Spelling.{is_name, is_symbol_spelling}
-use Rattle.rdx_grammar.specs.Names.{begins_with_dots, is_bad_name}
+use Rattle.rdx_grammar.specs.Names.{is_bad_name}
 use Rattle.rdx_grammar.specs.Nonterminals.{names_of}
-use Rattle.rdx_grammar.specs.Parts.{parts, is_symbol, text_of}
-use Rattle.rdx_grammar.specs.Readable.{IsReadable}
-use Rattle.rdx_grammar.specs.Refusal.{Refusal, refusal_of, named, or_else, first_refusal}
+use Rattle.rdx_grammar.specs.Parts.{parts, text_of}
+use Rattle.rdx_grammar.specs.Refusal.{Refusal, refusal_of, or_else, first_refusal}
 use Rattle.rdx_grammar.specs.Unbuilt.{has_word_to_come}
 use Rattle.rdx_grammar.specs.declared.shape.fault.DefFault.{DefFault}
 use Rattle.rdx_grammar.specs.declared.shape.fault.DefFault.TheVariants.{Refused, NoMemory}
-use Rattle.rdx_grammar.specs.declared.shape.fault.DefKind.TheVariants.{BadName}
 use Rattle.rdx_grammar.specs.declared.shape.fault.DefRefusal.{DefRefusal}
 use Rattle.rdx_defs.specs.Answers.{ReadsRelation}
 use Rattle.rdx_defs.specs.RelationForms.{RelationForm, is_keyword, may_name, relation_among, relation_over, relation_form}
@@ -23,23 +32,24 @@ use Rattle.rdx_defs.specs.RelationStands.{relation_stands}
 use Rattle.rdx_defs.specs.Scope.{Scope}
 use Rattle.rdx_defs.specs.StandRefusal.{stands_refusal}
 use Rattle.rdx_defs.specs.Stands.{Stand}
-use Rattle.rdx_query.specs.Definitions as defined
-use Rattle.rdx_query.specs.File.{by_check}
+use Rattle.rdx_query.specs.DefineForms.{define_refusal, define_refusal_by, defined_relation, relation_by}
+use Rattle.rdx_query.specs.DefineParts.{by_cases, define_parts}
 use Rattle.rdx_query.specs.FormKinds as kind
 use Rattle.rdx_query.specs.FormKinds.{defines, form_kind}
-use Rattle.rdx_query.specs.Forms.{refusal_by_kind, late_refusal_by_kind, definition_by_kind}
 use Rattle.rdx_query.specs.Known.{Known}
 use Rattle.rdx_query.specs.LanguageForms.{named_base, unknown_at, name_taken_at}
-use Rattle.rdx_query.specs.RelationForms as forms
-use Rattle.rdx_query.specs.RelationForms.{DefineParts, define_parts, bad_relation_at, define_refusal, define_refusal_by, defined_relation}
+use Rattle.rdx_query.specs.RelationForms.{bad_relation_at}
 use Rattle.rdx_query.specs.Inside.Defining.{parts_refusal, parts_relation, RelatesOver, RelatesBy}
 use Rattle.rdx_query.specs.Inside.Earlier.{earlier, IsFaultAt, IsRefusedBy, IsUnless}
-use Rattle.rdx_query.specs.Inside.PartViews.{Defining, defining_by, is_more, second_among, may_name_item, language_item}
-use Rattle.rdx_query.proofs.CheckNumbers.{or_none, HasNumber, Checks, AreChecks, refused, merge, merged, named-number}
+use Rattle.rdx_query.specs.Inside.Fitting.{IsRelationOf, language_at}
+use Rattle.rdx_query.specs.Inside.PartViews.{second_among, may_name_item, language_item}
 use Rattle.rdx_grammar.proofs.Firsts.{none_of}
+use Rattle.rdx_query.proofs.CheckNumbers.{or_none, Checks, AreChecks, refused, merge, merged}
+use Rattle.rdx_query.proofs.DefineChecks.{bad-number, good_name, sole_parts, body-built, relates-by}
+use Rattle.rdx_query.proofs.FormParts.{unbuilt_at-built}
+use Rattle.rdx_query.proofs.FoundByName.{language-found}
 use Rattle.rdx_query.proofs.LanguageChecks.{unknown-number, taken-number}
 use Rattle.rdx_query.proofs.StandNumbers.{stand_checks, stand-checks}
-use Rattle.rdx_query.proofs.FormParts.{unbuilt_at-built, define-items, parts-readable, parts-built}
 
 -- ---- the language's name
 
@@ -72,13 +82,6 @@ language-among (Some (h ∷ l ∷ ds)) = by_test (may_name l)
 language-item : (d : Sexp) → option_map (λ (r : RelationForm). r.language) (relation_form d) ≡ language_item d
 language-item d = language-among (parts d)
 
--- ---- numbers
-
--- of the check of a name
-bad-number : (b : Bool) (x : Sexp) → HasNumber 4 (if b then Some (named BadName x) else None)
-bad-number true x r e = named-number BadName (Some x) r e
-bad-number false x r e = absurd cc
-
 -- ---- the checks of the names
 
 abbrev name_checks : Known → Option Sexp → Sexp → Checks
@@ -95,11 +98,6 @@ relation-refused : (S : Scope) (ns : List (List ℕ)) (y : List ℕ) (body : Sex
 relation-refused S ns y body (Ok r) a = a.passes
 relation-refused S ns y body (Err (Refused r)) a = a
 relation-refused S ns y body (Err NoMemory) a = tt
-
--- a name that is not refused may be one
-good_name : (b : Bool) (x : Sexp) → (let o : Option Refusal = if b then Some (named BadName x) else None in o) ≡ None → b ≡ false
-good_name true x e = absurd cc
-good_name false x e = refl
 
 module _ (K : Known) (x body : Sexp) where
   -- what is refused of the names
@@ -137,50 +135,9 @@ module _ (K : Known) (x body : Sexp) where
           subst (λ (o : Option Refusal). IsFaultAt (earlier o (relation_refusal K.scope language_names body)) e) f
           (k (relation_refusal K.scope language_names body) (relation-refused K.scope language_names y body r a))
 
--- ---- the parts, as the code has them
-
-by_rest : (x body : Sexp) (ds : List Sexp) (p : Defining) → (let o : Option Defining = Some p in o) ≡ Some (record { name = x; body = body; more = is_more ds }) → p.more ≡ false
-    → (let o : Option DefineParts = Some (record { name = x; body = body; rest = ds }) in o) ≡ Some (record { name = p.name; body = p.body; rest = [] })
-by_rest x body [] p e f =
-    let g : record { name = x; body = body; more = false } ≡ p = cc in
-    ap (λ (q : Defining). let o : Option DefineParts = Some (record { name = q.name; body = q.body; rest = [] }) in o) g
-by_rest x body (d ∷ ds) p e f =
-    let g : p ≡ record { name = x; body = body; more = true } = cc in
-    let h : p.more ≡ true = ap (λ (q : Defining). q.more) g in
-    absurd cc
-
-by_parts : (o : Option DefineParts) (p : Defining) → (let q : Option Defining = Some p in q) ≡ option_map defining_by o → p.more ≡ false → o ≡ Some (record { name = p.name; body = p.body; rest = [] })
-by_parts None p e f = absurd cc
-by_parts (Some q) p e f = by_rest q.name q.body q.rest p e f
-
--- they are those of the form, behind which nothing stands
-pub parts-shown : (d : Sexp) (p : Defining) → (let q : Option Defining = Some p in q) ≡ option_map defining_by (define_parts d) → p.more ≡ false → define_parts d ≡ Some (record { name = p.name; body = p.body; rest = [] })
-parts-shown d p e f = by_parts (define_parts d) p e f
-
--- ---- names
-
--- a symbol that is no name is `hole`
-no_name : (b c x y : Bool) → b ≡ true → (b && not c) ≡ false → (c || x || y) ≡ true
-no_name b true x y e f = refl
-no_name true false x y e f = absurd cc
-no_name false false x y e f = absurd cc
-
--- so it may not be that of a relation
-pub no_name-bad : (d : Sexp) → IsSpelledSexp d → is_symbol d ≡ true → is_name (text_of d) ≡ false → is_bad_name (text_of d) ≡ true
-no_name-bad (leaf (integer n) s) z y e = absurd cc
-no_name-bad (leaf (truth b) s) z y e = absurd cc
-no_name-bad (leaf (text t) s) z y e = absurd cc
-no_name-bad (leaf (symbol x) s) z y e = no_name (is_symbol_spelling x) (bytes_eq x (codes "hole")) (bytes_eq x (codes "_")) (begins_with_dots x) z e
-no_name-bad (leaf (keyword k) s) z y e = absurd cc
-no_name-bad (list ds s) z y e = absurd cc
-
 -- ---- a form with these parts, behind which nothing stands
 
-module _ (K : Known) (d x body : Sexp) (e : define_parts d ≡ Some (record { name = x; body = body; rest = [] })) (b : has_word_to_come d ≡ false) where
-  -- its parts
-  abbrev its_parts : DefineParts
-  its_parts = record { name = x; body = body; rest = [] }
-
+module _ (K : Known) (d x body : Sexp) (e : define_parts d ≡ Some (sole_parts by_cases x body)) (b : has_word_to_come d ≡ false) where
   -- the nonterminals of its language
   abbrev names : List (List ℕ)
   names = names_of (named_base K (language_item body))
@@ -189,22 +146,10 @@ module _ (K : Known) (d x body : Sexp) (e : define_parts d ≡ Some (record { na
   abbrev stands : List Stand
   stands = relation_stands K.scope names body (relation_form body)
 
-  -- the list can be read
-  pub body-readable : IsReadable d → IsReadable body
-  body-readable z = let k = define-items d its_parts e in (parts-readable d (k.head ∷ x ∷ body ∷ []) k.are z).1.1.0
-
-  -- the name is spelled as a symbol is
-  pub name-spelled : IsReadable d → IsSpelledSexp x
-  name-spelled z = let k = define-items d its_parts e in (parts-readable d (k.head ∷ x ∷ body ∷ []) k.are z).1.0.spelled
-
-  -- no word to come stands in the list
-  body-built : has_word_to_come body ≡ false
-  body-built = let k = define-items d its_parts e in (parts-built d (k.head ∷ x ∷ body ∷ []) k.are b).1.1.0
-
   -- the list is refused by its checks
   body-refusal : relation_refusal K.scope names body ≡ refused (stand_checks K.scope names stands)
   body-refusal =
-      (λ i. or_else (unbuilt_at-built body body-built i) (or_else (stands_refusal K.scope names stands) None))
+      (λ i. or_else (unbuilt_at-built body (body-built d by_cases x body e b) i) (or_else (stands_refusal K.scope names stands) None))
       ∙ or_none (refused (stand_checks K.scope names stands))
 
   -- the form is refused by those of the names and of the list
@@ -224,16 +169,50 @@ module _ (K : Known) (d x body : Sexp) (e : define_parts d ≡ Some (record { na
   -- the relation that the form defines
   define-relation : defined_relation K d ≡ parts_relation K x body
   define-relation =
-      ap (forms.relation_among K) e
+      ap (relation_by K) e
       ∙ λ i. option_map (relation_reading K.scope (names_of (named_base K (language-item body i))) (text_of x)) (relation_form body)
 
   -- what is said of its parts is said of the form
-  pub relates : (y : Result Relation DefFault) → form_kind d ≡ defines kind.relation → RelatesOver K x body y → RelatesBy K d y
-  relates (Ok r) f a = record {
-    passes = ap (refusal_by_kind K d) f ∙ define-refusal ∙ a.0;
-    means = ap (definition_by_kind K d) f ∙ ap (option_map defined.relation) (define-relation ∙ a.1);
-    sound = tt;
-    passes_late = ap (late_refusal_by_kind d) f;
-  }
-  relates (Err (Refused r)) f a = by_check (ap (refusal_by_kind K d) f ∙ define-refusal ∙ a)
-  relates (Err NoMemory) f a = tt
+  pub relates-cases : (y : Result Relation DefFault) → form_kind d ≡ defines kind.relation → RelatesOver K x body y → RelatesBy K d y
+  relates-cases y f a = relates-by K d (parts_refusal K x body) (parts_relation K x body) y f define-refusal define-relation a
+
+-- ---- the relation's patterns
+
+-- the pattern of each rule is well formed, where the rules are valid
+rules-formed : (C : Callable) (L : Language) (rs : List Rule) → list_all (is_valid_rule C L) rs ≡ true → list_all (λ r. is_well_formed_in L r.pattern) rs ≡ true
+rules-formed C L [] e = refl
+rules-formed C L (r ∷ rs) e =
+    let p = and_parts (is_valid_rule C L r) (list_all (is_valid_rule C L) rs) e in
+    and_from (is_well_formed_in L r.pattern) (list_all (λ q. is_well_formed_in L q.pattern) rs)
+    (and_parts (is_well_formed_in L r.pattern) (are_valid_extras C L (uses 0 r.pattern) r.extras && fits C.functions (bound_by (case_uses r.pattern r.extras)) 0 r.result) p.0).0
+    (rules-formed C L rs p.1)
+
+-- so are those of a valid relation
+pub valid-formed : (C : Callable) (L : Language) (R : model.Relation) → is_valid_over C (Some L) R ≡ true → has_well_formed_patterns L R ≡ true
+valid-formed C L R e = rules-formed C L R.rules (and_parts (is_valid_domain L R.domain) (list_all (is_valid_rule C L) R.rules) e).1
+
+-- a list that is read
+read-fits : (K : Known) (o : Option Sexp) (ns : List (List ℕ)) (y : List ℕ) (body : Sexp) (q : Relation) → o ≡ language_item body → unknown_at K o ≡ None → ReadsRelation K.scope ns y body (Ok q)
+    → ((L : Language) → language_at K o ≡ Some L → has_well_formed_patterns L (relation_of q) ≡ true) → IsRelationOf K.program (relation_of q)
+read-fits K o ns y body q e u a f =
+    let l : Sexp = a.parts.language in
+    let is : o ≡ Some l = e ∙ sym (language-item body) ∙ ap (option_map language_of) a.is_form in
+    let h = language-found (language_named K.program (text_of l)) l (ap (unknown_at K) (sym is) ∙ u) in
+    record {
+      language = h.value;
+      named = ap (λ (R : model.Relation). language_named K.program R.language) a.is_read ∙ h.is;
+      formed = f h.value (ap (language_at K) is ∙ h.is);
+    }
+
+-- the relation that is answered has a language that is known, in which its patterns are well formed
+pub fits-over : (K : Known) (o : Option Sexp) (ns : List (List ℕ)) (x : Sexp) (y : List ℕ) (body : Sexp) (t : Option DefRefusal) (r z : Result Relation DefFault) → o ≡ language_item body
+    → option_map refusal_of t ≡ first_refusal (unknown_at K o ∷ name_taken_at K x ∷ bad_relation_at x ∷ []) → ReadsRelation K.scope ns y body r
+    → IfOk r (λ q. (L : Language) → language_at K o ≡ Some L → has_well_formed_patterns L (relation_of q) ≡ true) → IsUnless t r z
+    → IfOk z (λ q. IsRelationOf K.program (relation_of q))
+fits-over K o ns x y body (Some q) r (Ok v) e g a f u = absurd u
+fits-over K o ns x y body t r (Err w) e g a f u = tt
+fits-over K o ns x y body None (Err w) (Ok v) e g a f u = absurd cc
+fits-over K o ns x y body None (Ok q) (Ok v) e g a f u =
+    let same : q ≡ v = cc in
+    subst (λ (p : Relation). IsRelationOf K.program (relation_of p)) same
+    (read-fits K o ns y body q e (none_of (unknown_at K o) (name_taken_at K x ∷ bad_relation_at x ∷ []) (sym g)).0 a f)

@@ -25,6 +25,7 @@ abbrev over_languages : Known → List CheckedLang → model.Known
 over_languages k ls = record {
   scope = scope_of k.scope;
   languages = k.languages.items;
+  ends = k.ends.items;
   program = record {
     languages = map language_in ls;
     metafunctions = (program_of k.program).metafunctions;
@@ -37,5 +38,5 @@ over_languages k ls = record {
 pub same-known : (k : Known) (i : ℕ) (x y : CheckedLang) → i < length k.program.languages.items → language_in y ≡ language_in (get_or k.program.languages.items i x)
     → over_languages k (set k.program.languages.items i y) ≡ known_of k
 same-known k i x y h e =
-    ap (λ (Ls : List Language). let P : Program = record (program_of k.program) { languages = Ls } in let K : model.Known = record { scope = scope_of k.scope; languages = k.languages.items; program = P } in K)
+    ap (λ (Ls : List Language). let P : Program = record (program_of k.program) { languages = Ls } in let K : model.Known = record { scope = scope_of k.scope; languages = k.languages.items; ends = k.ends.items; program = P } in K)
     (map-set language_in k.program.languages.items i x y h e)

@@ -35,7 +35,8 @@ use Rattle.rdx_query.specs.Queries.{Query, matches, whether, splits, value, hold
 use Rattle.rdx_query.specs.StepAnswers.{reducts_in, named_steps, AreReducts, WritesReducts, reducts_found, no_reducts, WritesSteps, steps_found, no_steps, IsReductsAnswer, IsTaggedAnswer}
 use Rattle.rdx_query.specs.Views.{AllNamesKnown}
 use Rattle.rdx_query.proofs.AcceptedOrRefused.{accepted_or_refused}
-use Rattle.rdx_query.proofs.AskedNames.{fit-before, language-among, can_answer}
+use Rattle.rdx_query.proofs.AskedNames.{fit-before, can_answer}
+use Rattle.rdx_query.proofs.FoundByName.{language-among}
 
 -- the bindings that are found
 record AreFound (P : Program) (name : List ℕ) (p : Pattern) (t : Tree) : Type 0 where

@@ -26,7 +26,7 @@ use Rattle.rdx_query.proofs.FormParts.{unbuilt_at-built, step-items, parts-reada
 use Rattle.rdx_query.proofs.HostChecks.{host_checks, host-checks, host-refusal, host-refused}
 
 -- the number of the check of the relation's name
-unknown-number : (o : Option Relation) (r : Sexp) → HasNumber 8 (unknown_relation_by o r)
+pub unknown-number : (o : Option Relation) (r : Sexp) → HasNumber 8 (unknown_relation_by o r)
 unknown-number None r q e = named-number UnknownName (Some r) q e
 unknown-number (Some R) r q e = absurd cc
 

@@ -9,6 +9,7 @@ use Rattle.rdx_grammar.specs.Refusal.{Refusal}
 use Rattle.rdx_grammar.specs.Refused.{recursion_at}
 use Rattle.rdx_defs.specs.Scopes.{scope_in, languages_in}
 use Rattle.rdx_query.specs.Definitions.{Defined, language, IsSound}
+use Rattle.rdx_query.specs.Ends.{file_ends}
 use Rattle.rdx_query.specs.Forms.{form_refusal, late_refusal, form_definition, form_query, is_passed}
 use Rattle.rdx_query.specs.Known.{Known, nothing_in, with_definition}
 use Rattle.rdx_query.specs.Queries.{Query}
@@ -60,11 +61,11 @@ pub data Refuses : Known → List Sexp → Refusal → Type 0 where
 
 -- what is known before the first of these forms: what they define in the whole file
 abbrev pub known_before : List Sexp → Known
-known_before ds = nothing_in (scope_in ds) (languages_in ds)
+known_before ds = nothing_in (scope_in ds) (languages_in ds) (file_ends ds)
 
 -- the data of a file are accepted; they define this program, and ask these queries
 abbrev pub IsFile : List Sexp → Program → List Query → Type 0
-IsFile ds P qs = Accepts (known_before ds) ds (record { scope = scope_in ds; languages = languages_in ds; program = P }) qs
+IsFile ds P qs = Accepts (known_before ds) ds (record (known_before ds) { program = P }) qs
 
 -- r is the refusal of a file with these data
 abbrev pub IsFileRefusal : List Sexp → Refusal → Type 0

@@ -6,6 +6,7 @@ use Rattle.rdx_grammar.specs.Forms.{language_form, extension_form}
 use Rattle.rdx_grammar.specs.Refusal.{Refusal, unnamed}
 use Rattle.rdx_grammar.specs.declared.shape.fault.DefKind.TheVariants.{Unbuilt}
 use Rattle.rdx_query.specs.Definitions.{Defined, language, metafunction, judgement, relation}
+use Rattle.rdx_query.specs.DefineForms.{define_refusal, defined_relation}
 use Rattle.rdx_query.specs.FormKinds as kind
 use Rattle.rdx_query.specs.FormKinds.{DefinitionKind, QueryKind, PassedKind, FormKind, defines, asks, passes, to_come, form_kind}
 use Rattle.rdx_query.specs.Known.{Known}
@@ -17,7 +18,6 @@ use Rattle.rdx_query.specs.MatchForms.{query_parts, query_refusal, match_query}
 use Rattle.rdx_query.specs.MetafunctionForms.{function_refusal, defined_function}
 use Rattle.rdx_query.specs.PassedForms.{wants_refusal, offers_refusal}
 use Rattle.rdx_query.specs.Queries.{Query, matches, whether, splits, reducts, tagged}
-use Rattle.rdx_query.specs.RelationForms.{define_refusal, defined_relation}
 use Rattle.rdx_query.specs.StepForms.{step_parts, steps_refusal, steps_query}
 
 -- ---- definitions: a case for each kind

@@ -7,6 +7,8 @@ pub mod Defining
 pub mod Asking
 pub mod Passing
 pub mod Steps
+pub mod Fitting
+pub mod Closing
 pub mod Appending
 pub mod Contexts
 pub mod Whether

@@ -2,23 +2,27 @@
 use Rattle.std.specs.Prelude.{ℕ, Bool, ◌||◌, List, [], ◌∷◌, ◌++◌, Option, Some, None, is_some, bytes_eq, if◌then◌else◌}
 use Rattle.rdx_lang.specs.Patterns.{Language}
 use Rattle.rdx_lang.specs.Programs.{Program, language_named, metafunction_named, judgement_named, relation_named}
+use Rattle.rdx_grammar.specs.Ends.{crossed_for}
 use Rattle.rdx_grammar.specs.Languages.{empty_language}
 use Rattle.rdx_defs.specs.Scope.{Scope}
 use Rattle.rdx_query.specs.Definitions.{Defined, language, metafunction, judgement, relation}
 
--- the scope of the file, the names of its judgements with those of their languages, and the program of the forms before
+-- the scope of the file, the names of its judgements with those of their languages, the nonterminals to which it asks for cross nonterminals,
+-- and the program of the forms before
 pub record Known : Type 0 where
   pub scope : Scope
   pub languages : List (List ℕ × List ℕ)
+  pub ends : List (List ℕ)
   pub program : Program
 
 -- what defines nothing
 abbrev pub empty_program : Program
 empty_program = record { languages = []; metafunctions = []; judgements = []; relations = [] }
 
--- what is known before the first form of a file of this scope, whose judgements have these languages
-abbrev pub nothing_in : Scope → List (List ℕ × List ℕ) → Known
-nothing_in S ls = record { scope = S; languages = ls; program = empty_program }
+-- what is known before the first form of a file of this scope, whose judgements have these languages, and which asks for cross nonterminals to
+-- these
+abbrev pub nothing_in : Scope → List (List ℕ × List ℕ) → List (List ℕ) → Known
+nothing_in S ls ys = record { scope = S; languages = ls; ends = ys; program = empty_program }
 
 -- a program with one more of what a form can define
 abbrev pub extended_by : Program → Defined → Program
@@ -27,9 +31,16 @@ extended_by P (metafunction F) = record P { metafunctions = P.metafunctions ++ F
 extended_by P (judgement J) = record P { judgements = P.judgements ++ J ∷ [] }
 extended_by P (relation R) = record P { relations = P.relations ++ R ∷ [] }
 
--- the same with one more of what a form can define
+-- what is defined as it is known behind its form: a language has the cross nonterminals for which the file asks
+abbrev pub known_as : List (List ℕ) → Defined → Defined
+known_as ys (language L) = language (crossed_for ys L)
+known_as ys (metafunction F) = metafunction F
+known_as ys (judgement J) = judgement J
+known_as ys (relation R) = relation R
+
+-- what is known with one more of what a form can define
 abbrev pub with_definition : Known → Defined → Known
-with_definition K x = record K { program = extended_by K.program x }
+with_definition K x = record K { program = extended_by K.program (known_as K.ends x) }
 
 -- a language, a metafunction, a judgement or a relation has this name: they share one space of names
 abbrev pub is_taken : Known → List ℕ → Bool

@@ -1,4 +1,6 @@
 pub mod Definitions
+pub mod DefineParts
+pub mod Ends
 pub mod Known
 pub mod FormKinds
 pub mod LanguageForms
@@ -8,6 +10,8 @@ pub mod MatchForms
 pub mod HoldsForms
 pub mod StepForms
 pub mod RelationForms
+pub mod ClosureForms
+pub mod DefineForms
 pub mod MetafunctionForms
 pub mod JudgementForms
 pub mod PassedForms

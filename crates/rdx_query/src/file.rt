@@ -4,6 +4,7 @@ ghost use Rattle.std.specs.Prelude.{IfOk, IfErr};
 ghost use Rattle.rdx_query.specs.File.{IsFile};
 ghost use Rattle.rdx_query.specs.Views.{AllNamesKnown, IsFileFault, program_in, queries_of};
 
+use crate::ends::file_ends;
 use crate::forms::read_form;
 use crate::known::Known;
 use rdx_defs::{judgement_languages, scope_of};
@@ -50,6 +51,7 @@ pub fn check_file(alloc: Global, forms: &[Datum]) -> Result<CheckedFile, DefFaul
     let mut known = Known {
         scope: scope_of(alloc, forms)?,
         languages: judgement_languages(alloc, forms)?,
+        ends: file_ends(alloc, forms)?,
         program: Program {
             languages: Vec::new(alloc),
             metafunctions: Vec::new(alloc),

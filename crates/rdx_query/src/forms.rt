@@ -1,13 +1,20 @@
 // One form of a file.
-ghost use Rattle.std.specs.Prelude.{◌≡◌, map};
+ghost use Rattle.std.specs.Prelude.{◌≡◌, OnOk, map};
+ghost use Rattle.rdx_lang.specs.Checked.{language_in};
+ghost use Rattle.rdx_grammar.specs.Inside.Among.{AreAmong};
 ghost use Rattle.rdx_grammar.specs.Readable.{IsReadable};
+ghost use Rattle.rdx_query.specs.Definitions as defined;
+ghost use Rattle.rdx_query.specs.Ends.{form_ends};
 ghost use Rattle.rdx_query.specs.FormKinds as forms;
+ghost use Rattle.rdx_query.specs.Inside.Fitting.{AreCrossed, IsFitting};
 ghost use Rattle.rdx_query.specs.Inside.KindViews.{definition_kind_of, passed_kind_of, query_kind_of};
 ghost use Rattle.rdx_query.specs.Inside.KnownView.{known_of};
 ghost use Rattle.rdx_query.specs.Inside.Steps.{AddsBy, AsksQuery, PassesBy, StepsBy};
+ghost use Rattle.rdx_query.specs.Known.{with_definition};
 ghost use Rattle.rdx_query.specs.Views.{query_of};
 
 use crate::Query;
+use crate::define_forms::define_relation;
 use crate::holds_forms::read_holds;
 use crate::host_forms::read_unbound;
 use crate::judgement_forms::define_judgement;
@@ -17,13 +24,23 @@ use crate::language_forms::{define_extension, define_language};
 use crate::match_forms::{Asked, read_query};
 use crate::metafunction_forms::define_metafunction;
 use crate::passed_forms::{check_offers, check_wants};
-use crate::relation_forms::define_relation;
 use crate::step_forms::{Stepping, read_steps};
 use rdx_defs::ReadPremise;
 use rdx_grammar::refusal::unnamed;
-use rdx_grammar::{DefFault, DefKind};
+use rdx_grammar::{DefFault, DefKind, add_crosses_for};
+use rdx_lang::CheckedLang;
 use rdx_sexp::Datum;
+use rdx_term::NoMemory;
 use std::alloc::Global;
+
+// Adds the language, with the cross nonterminals for which the file asks.
+fn add_language(alloc: Global, known: &mut Known, mut language: CheckedLang) -> Result<(), NoMemory>
+    ensures added { OnOk result (known_of known.new
+        ≡ with_definition (known_of known.old) (defined.language (language_in language))) }
+{
+    add_crosses_for(alloc, &mut language, &known.ends)?;
+    Ok(known.program.languages.push(language)?)
+}
 
 // Adds what a form of this kind defines.
 fn define(
@@ -34,16 +51,19 @@ fn define(
 ) -> Result<(), DefFault>
     requires readable { IsReadable form.now }
     requires kind { forms.form_kind form.now ≡ forms.defines (definition_kind_of kind) }
-    ensures { AddsBy (known_of known.old) form.now result (known_of known.new) }
+    requires fitting { IsFitting (known_of known.old) }
+    requires ends { AreAmong (form_ends form.now) (known_of known.old).ends }
+    ensures adds { AddsBy (known_of known.old) form.now result (known_of known.new) }
+    ensures fitting { OnOk result (IsFitting (known_of known.new)) }
 {
     match kind {
         DefinitionKind::Language => {
             let language = define_language(alloc, known, form)?;
-            Ok(known.program.languages.push(language)?)
+            Ok(add_language(alloc, known, language)?)
         }
         DefinitionKind::Extension => {
             let language = define_extension(alloc, known, form)?;
-            Ok(known.program.languages.push(language)?)
+            Ok(add_language(alloc, known, language)?)
         }
         DefinitionKind::Metafunction => {
             let metafunction = define_metafunction(alloc, known, form)?;
@@ -69,6 +89,9 @@ fn question(
 ) -> Result<Query, DefFault>
     requires readable { IsReadable form.now }
     requires kind { forms.form_kind form.now ≡ forms.asks (query_kind_of kind) }
+    requires crossed { AreCrossed (known_of known.old).program.languages
+        (known_of known.old).ends }
+    requires ends { AreAmong (form_ends form.now) (known_of known.old).ends }
     ensures asks { AsksQuery (known_of known.old) form.now result }
     ensures same { known_of known.new ≡ known_of known.old }
 {
@@ -119,9 +142,12 @@ pub(crate) fn read_form(
     queries: &mut Vec<Query>,
     form: &Datum,
 ) -> Result<(), DefFault>
-    requires { IsReadable form.now }
-    ensures { StepsBy (known_of known.old) (map query_of queries.old.items) form.now result
+    requires readable { IsReadable form.now }
+    requires fitting { IsFitting (known_of known.old) }
+    requires ends { AreAmong (form_ends form.now) (known_of known.old).ends }
+    ensures steps { StepsBy (known_of known.old) (map query_of queries.old.items) form.now result
         (known_of known.new) (map query_of queries.new.items) }
+    ensures fitting { OnOk result (IsFitting (known_of known.new)) }
 {
     match form_kind(form) {
         FormKind::Defines(kind) => define(alloc, known, kind, form),

@@ -9,6 +9,9 @@ ghost use Rattle.rdx_grammar.specs.Nonterminals.{names_of};
 ghost use Rattle.rdx_grammar.specs.Readable.{IsReadable};
 ghost use Rattle.rdx_grammar.specs.Refusal.{refusal_of};
 ghost use Rattle.rdx_query.specs.HoldsForms.{asked_names, asked_unknown_at};
+ghost use Rattle.rdx_grammar.specs.Ends.{ends_in};
+ghost use Rattle.rdx_grammar.specs.Inside.Among.{AreAmong};
+ghost use Rattle.rdx_query.specs.Inside.Fitting.{AreCrossed};
 ghost use Rattle.rdx_query.specs.Inside.Asking.{HoldsAskedBy, HoldsFitsBy};
 ghost use Rattle.rdx_query.specs.Inside.KnownView.{known_of};
 
@@ -83,6 +86,9 @@ fn read_over(
 ) -> Result<ReadPremise, DefFault>
     requires premise { IsReadable premise.now }
     requires behind { IfSome behind (λ d. IsReadable d.now) }
+    requires crossed { AreCrossed (known_of known.old).program.languages
+        (known_of known.old).ends }
+    requires ends { AreAmong (ends_in premise.now) (known_of known.old).ends }
     ensures reads { ReadsPremise (scope_of known.old.scope)
         (asked_names (known_of known.old) (headed premise.now)) premise.now
         (option_map (λ d. d.now) behind.entry) result }
@@ -109,7 +115,10 @@ pub(crate) fn read_holds(
     known: &mut Known,
     form: &Datum,
 ) -> Result<ReadPremise, DefFault>
-    requires { IsReadable form.now }
+    requires readable { IsReadable form.now }
+    requires crossed { AreCrossed (known_of known.old).program.languages
+        (known_of known.old).ends }
+    requires ends { AreAmong (ends_in form.now) (known_of known.old).ends }
     ensures asks { HoldsAskedBy (known_of known.old) form.now result }
     ensures same { known_of known.new ≡ known_of known.old }
 {

@@ -11,5 +11,7 @@ pub(crate) struct Known {
     /// The names of judgements with those of their languages, in the order of their forms. Of several
     /// with one name the first counts.
     pub(crate) languages: Vec<(Name, Name)>,
+    /// The nonterminals to which the file asks for cross nonterminals.
+    pub(crate) ends: Vec<Name>,
     pub(crate) program: Program,
 }

@@ -7,7 +7,10 @@
 #![tactic(auto)]
 
 mod answers;
+mod closure_forms;
+mod define_forms;
 mod earlier;
+mod ends;
 mod file;
 mod forms;
 mod holds_answers;

@@ -8,6 +8,7 @@ ghost use Rattle.rdx_grammar.specs.Nonterminals.{names_of};
 ghost use Rattle.rdx_query.specs.Known as model;
 ghost use Rattle.rdx_query.specs.Known.{is_taken};
 ghost use Rattle.rdx_query.specs.LanguageForms.{named_base};
+ghost use Rattle.rdx_query.specs.Inside.Fitting.{language_at};
 ghost use Rattle.rdx_query.specs.Inside.KnownView.{known_of};
 
 use crate::known::Known;
@@ -53,6 +54,12 @@ pub(crate) fn place_of(known: &Known, language: Option<&Datum>) -> Option<usize>
         → l ≡ get_or known.now.program.languages.items i l
         → names_of (named_base (known_of known.now) (option_map (λ d. d.now) language.entry))
         ≡ names_of (language_in l)) }
+    ensures found { IfSome result (λ i. (l : CheckedLang)
+        → l ≡ get_or known.now.program.languages.items i l
+        → language_at (known_of known.now) (option_map (λ d. d.now) language.entry)
+        ≡ Some (language_in l)) }
+    ensures missing { IfNone result
+        (language_at (known_of known.now) (option_map (λ d. d.now) language.entry) ≡ None) }
     ensures none { IfNone result
         (names_of (named_base (known_of known.now) (option_map (λ d. d.now) language.entry)) ≡ []) }
 {

@@ -6,6 +6,9 @@ ghost use Rattle.rdx_grammar.specs.Answers.{ReadsPattern};
 ghost use Rattle.rdx_grammar.specs.Nonterminals.{names_of};
 ghost use Rattle.rdx_grammar.specs.Readable.{IsReadable};
 ghost use Rattle.rdx_grammar.specs.Refusal.{Refusal};
+ghost use Rattle.rdx_grammar.specs.Ends.{ends_in};
+ghost use Rattle.rdx_grammar.specs.Inside.Among.{AreAmong};
+ghost use Rattle.rdx_query.specs.Inside.Fitting.{AreCrossed};
 ghost use Rattle.rdx_query.specs.Inside.Asking.{FitsBy, AsksBy};
 ghost use Rattle.rdx_query.specs.Inside.Earlier as refusals;
 ghost use Rattle.rdx_query.specs.Inside.Earlier.{IsRefusedBy};
@@ -60,6 +63,9 @@ fn read_over(
 ) -> Result<CheckedPat, DefFault>
     requires within { place < length known.old.program.languages.items }
     requires readable { IsReadable d.now }
+    requires crossed { AreCrossed (known_of known.old).program.languages
+        (known_of known.old).ends }
+    requires ends { AreAmong (ends_in d.now) (known_of known.old).ends }
     ensures reads { (l : CheckedLang) → l ≡ get_or known.old.program.languages.items place l
         → ReadsPattern (names_of (language_in l)) d.now result }
     ensures same { known_of known.new ≡ known_of known.old }
@@ -85,7 +91,10 @@ fn both(
 
 /// What a query asks, where this is known.
 pub(crate) fn read_query(alloc: Global, known: &mut Known, form: &Datum) -> Result<Asked, DefFault>
-    requires { IsReadable form.now }
+    requires readable { IsReadable form.now }
+    requires crossed { AreCrossed (known_of known.old).program.languages
+        (known_of known.old).ends }
+    requires ends { AreAmong (ends_in form.now) (known_of known.old).ends }
     ensures asks { AsksBy (known_of known.old) form.now result }
     ensures same { known_of known.new ≡ known_of known.old }
 {

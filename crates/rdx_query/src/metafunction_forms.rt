@@ -5,6 +5,9 @@ ghost use Rattle.rdx_defs.specs.Scope.{scope_of};
 ghost use Rattle.rdx_grammar.specs.Nonterminals.{names_of};
 ghost use Rattle.rdx_grammar.specs.Readable.{IsReadable};
 ghost use Rattle.rdx_query.specs.FormKinds as forms;
+ghost use Rattle.rdx_grammar.specs.Ends.{ends_in};
+ghost use Rattle.rdx_grammar.specs.Inside.Among.{AreAmong};
+ghost use Rattle.rdx_query.specs.Inside.Fitting.{AreCrossed};
 ghost use Rattle.rdx_query.specs.Inside.Defining.{FunctionsBy};
 ghost use Rattle.rdx_query.specs.Inside.KnownView.{known_of};
 ghost use Rattle.rdx_query.specs.LanguageForms.{named_base};
@@ -29,7 +32,10 @@ fn read_over(
     language: Option<&Datum>,
     form: &Datum,
 ) -> Result<Metafunction, DefFault>
-    requires { IsReadable form.now }
+    requires readable { IsReadable form.now }
+    requires crossed { AreCrossed (known_of known.old).program.languages
+        (known_of known.old).ends }
+    requires ends { AreAmong (ends_in form.now) (known_of known.old).ends }
     ensures reads { ReadsMetafunction (scope_of known.old.scope)
         (names_of (named_base (known_of known.old) (option_map (λ d. d.now) language.entry)))
         form.now result }
@@ -52,6 +58,9 @@ pub(crate) fn define_metafunction(
 ) -> Result<Metafunction, DefFault>
     requires readable { IsReadable form.now }
     requires metafunction { forms.form_kind form.now ≡ forms.defines forms.metafunction }
+    requires crossed { AreCrossed (known_of known.old).program.languages
+        (known_of known.old).ends }
+    requires ends { AreAmong (ends_in form.now) (known_of known.old).ends }
     ensures defines { FunctionsBy (known_of known.old) form.now result }
     ensures same { known_of known.new ≡ known_of known.old }
 {

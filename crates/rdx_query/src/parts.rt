@@ -2,13 +2,13 @@
 ghost use Rattle.std.specs.Prelude.{◌≡◌, [], option_map};
 ghost use Rattle.rdx_grammar.specs.Parts.{parts};
 ghost use Rattle.rdx_query.specs.HoldsForms.{holds_parts};
-ghost use Rattle.rdx_query.specs.Inside.PartViews.{defining_by, defining_of, defining_with, holds_of, judgement_head, parts_of, second_item, language_item, steps_of};
+ghost use Rattle.rdx_query.specs.Inside.PartViews.{closure_of, define_kind_of, defining_by, defining_of, defining_with, holds_of, judgement_head, parts_of, second_item, language_item, steps_of};
 ghost use Rattle.rdx_query.specs.LanguageForms.{base_name};
 ghost use Rattle.rdx_query.specs.MatchForms.{query_parts};
-ghost use Rattle.rdx_query.specs.RelationForms.{begins_relation, define_named, define_parts};
+ghost use Rattle.rdx_query.specs.DefineParts.{closure_among, closure_parts, define_named, define_parts, kind_among, kind_by_word};
 ghost use Rattle.rdx_query.specs.StepForms.{step_parts};
 
-use rdx_grammar::shape::{is_symbol, is_word, items};
+use rdx_grammar::shape::{is_symbol, is_word, items, symbol};
 use rdx_sexp::Datum;
 
 /// The name of a language, a pattern, and the host expression that gives the term.
@@ -33,9 +33,31 @@ pub(crate) struct HoldsParts<'a> {
     pub(crate) result: Option<&'a Datum>,
 }
 
+/// What the list in a form that defines a relation says.
+#[derive(Clone, Copy, Debug, PartialEq, Eq)]
+pub(crate) enum DefineKind {
+    /// The cases of the relation: `reduction-relation`.
+    Cases,
+    /// Of which relation it is the closure by the contexts that a pattern matches:
+    /// `context-closure`.
+    Contexts,
+    /// Of which it is the closure by the contexts of a nonterminal in itself:
+    /// `compatible-closure`.
+    Crosses,
+}
+
+/// The relation that is closed, a language, and what says by which contexts.
+#[derive(Clone, Copy)]
+pub(crate) struct ClosureParts<'a> {
+    pub(crate) relation: &'a Datum,
+    pub(crate) language: &'a Datum,
+    pub(crate) by: &'a Datum,
+}
+
 /// The name of a relation, the list that says what it is, and whether something stands behind that.
 #[derive(Clone, Copy)]
 pub(crate) struct DefineParts<'a> {
+    pub(crate) kind: DefineKind,
     pub(crate) name: &'a Datum,
     pub(crate) body: &'a Datum,
     pub(crate) has_more: bool,
@@ -125,13 +147,25 @@ pub(crate) fn judgement_head(d: &Datum) -> Option<&Datum>
     }
 }
 
-// Whether a list begins with `reduction-relation`.
-fn begins_relation(d: &Datum) -> bool
-    ensures { result ≡ begins_relation (parts d.now) }
+// What a list with this word at its head says.
+fn kind_by_word(head: &str) -> Option<DefineKind>
+    ensures { option_map define_kind_of result ≡ kind_by_word head.now }
 {
-    match items(d) {
-        Some([head, ..]) => is_word(head, "reduction-relation"),
-        Some([]) | None => false,
+    match head {
+        "reduction-relation" => Some(DefineKind::Cases),
+        "context-closure" => Some(DefineKind::Contexts),
+        "compatible-closure" => Some(DefineKind::Crosses),
+        _ => None,
+    }
+}
+
+// What a list says.
+fn define_kind(d: &Datum) -> Option<DefineKind>
+    ensures { option_map define_kind_of result ≡ kind_among (parts d.now) }
+{
+    match items(d)? {
+        [head, ..] => kind_by_word(symbol(head)?.as_str()),
+        [] => None,
     }
 }
 
@@ -141,14 +175,30 @@ fn define_named<'a>(name: &'a Datum, body: &'a Datum, has_more: bool) -> Option<
         ≡ option_map (defining_with has_more)
         (define_named name.now body.now []) }
 {
-    if is_symbol(name) && begins_relation(body) {
-        Some(DefineParts {
-            name,
-            body,
-            has_more,
-        })
-    } else {
-        None
+    if !is_symbol(name) {
+        return None;
+    }
+    Some(DefineParts {
+        kind: define_kind(body)?,
+        name,
+        body,
+        has_more,
+    })
+}
+
+/// The parts of a list that says of which relation another one is a closure.
+pub(crate) fn closure_parts(d: &Datum) -> Option<ClosureParts<'_>>
+    ensures { option_map closure_of result ≡ closure_parts d.now }
+{
+    match items(d)? {
+        [_, relation, language, by] if is_symbol(relation) && is_symbol(language) => {
+            Some(ClosureParts {
+                relation,
+                language,
+                by,
+            })
+        }
+        _ => None,
     }
 }
 

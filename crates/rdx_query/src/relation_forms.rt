@@ -1,5 +1,8 @@
-// Forms that define a relation.
-ghost use Rattle.std.specs.Prelude.{◌≡◌, [], ◌∷◌, true, false, IfOk, option_map};
+// Forms that define a relation by cases, and the names of relations.
+ghost use Rattle.std.specs.Prelude.{◌≡◌, [], ◌∷◌, Some, true, false, IfOk, IsTrue, option_map};
+ghost use Rattle.rdx_lang.specs.Closures.{has_well_formed_patterns};
+ghost use Rattle.rdx_lang.specs.Patterns.{Language};
+ghost use Rattle.rdx_lang.specs.ProgramView.{relation_of};
 ghost use Rattle.rdx_defs.specs.Answers.{ReadsRelation};
 ghost use Rattle.rdx_defs.specs.Scope.{scope_of};
 ghost use Rattle.rdx_grammar.specs.Names as names;
@@ -8,8 +11,10 @@ ghost use Rattle.rdx_grammar.specs.Parts.{is_symbol, text_of};
 ghost use Rattle.rdx_grammar.specs.Readable.{IsReadable};
 ghost use Rattle.rdx_grammar.specs.Refusal.{first_refusal, refusal_of};
 ghost use Rattle.rdx_sexp.specs.Size.{IsSpelledSexp};
-ghost use Rattle.rdx_query.specs.FormKinds as forms;
-ghost use Rattle.rdx_query.specs.Inside.Defining.{RelatesBy, RelatesOver};
+ghost use Rattle.rdx_grammar.specs.Ends.{ends_in};
+ghost use Rattle.rdx_grammar.specs.Inside.Among.{AreAmong};
+ghost use Rattle.rdx_query.specs.Inside.Fitting.{AreCrossed, IsRelationOf, language_at};
+ghost use Rattle.rdx_query.specs.Inside.Defining.{RelatesOver};
 ghost use Rattle.rdx_query.specs.LanguageForms.{name_taken_at, named_base, unknown_at};
 ghost use Rattle.rdx_query.specs.RelationForms.{bad_relation_at};
 ghost use Rattle.rdx_query.specs.Inside.KnownView.{known_of};
@@ -18,13 +23,12 @@ use crate::earlier::unless;
 use crate::known::Known;
 use crate::language_forms::{empty_language, some_name};
 use crate::lookup::{is_taken, place_of};
-use crate::parts::{DefineParts, define_parts, language_item};
+use crate::parts::language_item;
 use crate::refusals::refuse_language;
 use rdx_defs::read_relation;
 use rdx_grammar::names::is_bad_name;
-use rdx_grammar::refusal::{named, unnamed};
+use rdx_grammar::refusal::named;
 use rdx_grammar::shape::text;
-use rdx_grammar::unbuilt::has_word_to_come;
 use rdx_grammar::{DefFault, DefKind, DefRefusal};
 use rdx_lang::Relation;
 use rdx_sexp::Datum;
@@ -32,8 +36,8 @@ use rdx_term::{Name, NoMemory};
 use std::alloc::Global;
 use std::rc::RcStr;
 
-// The name of a symbol, or some name where no relation may have it.
-fn name_of(alloc: Global, d: &Datum) -> Result<Name, NoMemory>
+/// The name of a symbol, or some name where no relation may have it.
+pub(crate) fn name_of(alloc: Global, d: &Datum) -> Result<Name, NoMemory>
     requires spelled { IsSpelledSexp d.now }
     requires symbol { is_symbol d.now ≡ true }
     ensures { IfOk result (λ name. names.is_bad_name (text_of d.now) ≡ false → name ≡ text_of d.now) }
@@ -44,8 +48,12 @@ fn name_of(alloc: Global, d: &Datum) -> Result<Name, NoMemory>
     }
 }
 
-// The refusal of the name of a relation: an earlier form has it, S3, or it may not be one, S4.
-fn refuse_name(alloc: Global, known: &Known, name: &Datum) -> Result<Option<DefRefusal>, NoMemory>
+/// The refusal of the name of a relation: an earlier form has it, S3, or it may not be one, S4.
+pub(crate) fn refuse_name(
+    alloc: Global,
+    known: &Known,
+    name: &Datum,
+) -> Result<Option<DefRefusal>, NoMemory>
     ensures { IfOk result (λ r. option_map refusal_of r ≡ first_refusal
         (name_taken_at (known_of known.now) name.now ∷ bad_relation_at name.now ∷ [])) }
 {
@@ -83,10 +91,16 @@ fn read_over(
     name: &Name,
     body: &Datum,
 ) -> Result<Relation, DefFault>
-    requires { IsReadable body.now }
+    requires readable { IsReadable body.now }
+    requires crossed { AreCrossed (known_of known.old).program.languages
+        (known_of known.old).ends }
+    requires ends { AreAmong (ends_in body.now) (known_of known.old).ends }
     ensures reads { ReadsRelation (scope_of known.old.scope)
         (names_of (named_base (known_of known.old) (option_map (λ d. d.now) language.entry)))
         name.now body.now result }
+    ensures fits { IfOk result (λ r. (L : Language)
+        → language_at (known_of known.old) (option_map (λ d. d.now) language.entry) ≡ Some L
+        → IsTrue (has_well_formed_patterns L (relation_of r))) }
     ensures same { known_of known.new ≡ known_of known.old }
 {
     match place_of(known, language) {
@@ -98,40 +112,26 @@ fn read_over(
     }
 }
 
-// The relation that a form with these parts defines, where nothing stands behind them.
-fn define_parted(alloc: Global, known: &mut Known, parts: DefineParts) -> Result<Relation, DefFault>
-    requires spelled { IsSpelledSexp parts.name.now }
-    requires symbol { is_symbol parts.name.now ≡ true }
-    requires body { IsReadable parts.body.now }
-    ensures relates { RelatesOver (known_of known.old) parts.entry.name.now parts.entry.body.now result }
-    ensures same { known_of known.new ≡ known_of known.old }
-{
-    let language = language_item(parts.body);
-    let refusal = refuse_names(alloc, known, language, parts.name)?;
-    let name = name_of(alloc, parts.name)?;
-    let read = read_over(alloc, known, language, &name, parts.body);
-    unless(refusal, read)
-}
-
-/// The relation of a `define` form, where this is known.
-pub(crate) fn define_relation(
+/// The relation of this name by the cases of a list, where nothing stands behind it in the form.
+pub(crate) fn define_by_cases(
     alloc: Global,
     known: &mut Known,
-    form: &Datum,
+    name: &Datum,
+    body: &Datum,
 ) -> Result<Relation, DefFault>
-    requires readable { IsReadable form.now }
-    requires relation { forms.form_kind form.now ≡ forms.defines forms.relation }
-    ensures relates { RelatesBy (known_of known.old) form.now result }
+    requires spelled { IsSpelledSexp name.now }
+    requires symbol { is_symbol name.now ≡ true }
+    requires body { IsReadable body.now }
+    requires crossed { AreCrossed (known_of known.old).program.languages
+        (known_of known.old).ends }
+    requires ends { AreAmong (ends_in body.now) (known_of known.old).ends }
+    ensures relates { RelatesOver (known_of known.old) name.now body.now result }
+    ensures fits { IfOk result (λ r. IsRelationOf (known_of known.old).program (relation_of r)) }
     ensures same { known_of known.new ≡ known_of known.old }
 {
-    if has_word_to_come(form) {
-        return Err(DefFault::Refused(unnamed(DefKind::Unbuilt, form)));
-    }
-    let Some(parts) = define_parts(form) else {
-        return Err(DefFault::Refused(unnamed(DefKind::RacketEscape, form)));
-    };
-    if parts.has_more {
-        return Err(DefFault::Refused(unnamed(DefKind::Shape, form)));
-    }
-    define_parted(alloc, known, parts)
+    let language = language_item(body);
+    let refusal = refuse_names(alloc, known, language, name)?;
+    let relation = name_of(alloc, name)?;
+    let read = read_over(alloc, known, language, &relation, body);
+    unless(refusal, read)
 }

@@ -84,7 +84,12 @@ RelatesBy K d (Err e) = IsFormFault K d e
 
 -- ---- relations, where nothing stands behind the parts
 
--- the refusal of a form with such parts by all checks but the first ones
+-- the answer is a fault by this refusal, where there is one, and else this relation
+abbrev pub AnswersBy : Option Refusal → Option model.Relation → Result Relation DefFault → Type 0
+AnswersBy o m (Ok r) = (o ≡ None) × (m ≡ Some (relation_of r))
+AnswersBy o m (Err e) = IsFaultAt o e
+
+-- the refusal of a form by cases with such parts, by all checks but the first ones
 abbrev pub parts_refusal : Known → Sexp → Sexp → Option Refusal
 parts_refusal K x body =
     earlier
@@ -95,10 +100,9 @@ parts_refusal K x body =
 abbrev pub parts_relation : Known → Sexp → Sexp → Option model.Relation
 parts_relation K x body = option_map (relation_reading K.scope (names_of (named_base K (language_item body))) (text_of x)) (relation_form body)
 
--- the answer to such a form
+-- the answer to such a form that gives cases
 abbrev pub RelatesOver : Known → Sexp → Sexp → Result Relation DefFault → Type 0
-RelatesOver K x body (Ok r) = (parts_refusal K x body ≡ None) × (parts_relation K x body ≡ Some (relation_of r))
-RelatesOver K x body (Err e) = IsFaultAt (parts_refusal K x body) e
+RelatesOver K x body y = AnswersBy (parts_refusal K x body) (parts_relation K x body) y
 
 -- ---- the name
 

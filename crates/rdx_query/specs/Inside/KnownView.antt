@@ -6,4 +6,4 @@ use Rattle.rdx_query.specs.declared.known.Known.{Known}
 
 -- what a value of the code knows
 abbrev pub known_of : Known → model.Known
-known_of k = record { scope = scope_of k.scope; languages = k.languages.items; program = program_of k.program }
+known_of k = record { scope = scope_of k.scope; languages = k.languages.items; ends = k.ends.items; program = program_of k.program }

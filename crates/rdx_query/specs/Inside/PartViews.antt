@@ -6,8 +6,12 @@ use Rattle.rdx_defs.specs.RelationForms.{may_name}
 use Rattle.rdx_sexp.specs.Sexp.{Sexp}
 use Rattle.rdx_query.specs.HoldsForms as holding
 use Rattle.rdx_query.specs.MatchForms as matching
-use Rattle.rdx_query.specs.RelationForms as defining
+use Rattle.rdx_query.specs.DefineParts as defining
+use Rattle.rdx_query.specs.DefineParts.{DefineKind, by_cases, by_contexts, by_crosses}
 use Rattle.rdx_query.specs.StepForms as stepping
+use Rattle.rdx_query.specs.declared.parts.ClosureParts.{ClosureParts}
+use Rattle.rdx_query.specs.declared.parts.DefineKind as code_kind
+use Rattle.rdx_query.specs.declared.parts.DefineKind.TheVariants.{Cases, Contexts, Crosses}
 use Rattle.rdx_query.specs.declared.parts.DefineParts.{DefineParts}
 use Rattle.rdx_query.specs.declared.parts.HoldsParts.{HoldsParts}
 use Rattle.rdx_query.specs.declared.parts.QueryParts.{QueryParts}
@@ -31,6 +35,7 @@ judgement_head d = option_map (λ h. h.head) (headed d)
 
 -- what the code knows of the parts of a form that defines a relation
 pub record Defining : Type 0 where
+  pub kind : DefineKind
   pub name : Sexp
   pub body : Sexp
   pub more : Bool
@@ -42,15 +47,25 @@ is_more (d ∷ ds) = true
 
 -- of its parts
 abbrev pub defining_by : defining.DefineParts → Defining
-defining_by q = record { name = q.name; body = q.body; more = is_more q.rest }
+defining_by q = record { kind = q.kind; name = q.name; body = q.body; more = is_more q.rest }
 
 -- of its parts, where it is told whether something stands behind
 abbrev pub defining_with : Bool → defining.DefineParts → Defining
-defining_with b q = record { name = q.name; body = q.body; more = b }
+defining_with b q = record { kind = q.kind; name = q.name; body = q.body; more = b }
+
+-- what the code says of a list
+abbrev pub define_kind_of : code_kind.DefineKind → DefineKind
+define_kind_of Cases = by_cases
+define_kind_of Contexts = by_contexts
+define_kind_of Crosses = by_crosses
 
 -- of parts of the code
 abbrev pub defining_of : DefineParts → Defining
-defining_of q = record { name = q.name.now; body = q.body.now; more = q.has_more }
+defining_of q = record { kind = define_kind_of q.kind; name = q.name.now; body = q.body.now; more = q.has_more }
+
+-- the parts of a closure that parts of the code stand for
+abbrev pub closure_of : ClosureParts → defining.ClosureParts
+closure_of q = record { relation = q.relation.now; language = q.language.now; by = q.by.now }
 
 -- the second of the items
 abbrev pub second_among : Option (List Sexp) → Option Sexp

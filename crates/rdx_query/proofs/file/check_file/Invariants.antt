@@ -1,8 +1,9 @@
 use Rattle.std.proofs.Common.{drop, map}
+use Rattle.rdx_query.specs.Inside.Fitting.{IsFitting}
 use Rattle.rdx_query.specs.Inside.KnownView.{known_of}
 use Rattle.rdx_query.specs.Views.{query_of}
 use Rattle.rdx_query.proofs.FileRead.{SoFar}
 use Rattle.rdx_query.proofs.file.check_file.Given as goal
 
 abbrev pub invariant-loop-form : goal.invariant-loop-form
-invariant-loop-form l = SoFar l.forms (drop l.form-index l.forms) (known_of l.known) (map query_of l.queries.items)
+invariant-loop-form l = SoFar l.forms (drop l.form-index l.forms) (known_of l.known) (map query_of l.queries.items) × IsFitting (known_of l.known)

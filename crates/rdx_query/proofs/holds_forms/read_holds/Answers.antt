@@ -2,7 +2,7 @@ use Rattle.std.proofs.lemmas.Result.{err_from_is_err_and}
 use Rattle.rdx_grammar.specs.Readable.{IsReadable}
 use Rattle.rdx_query.specs.Inside.KnownView.{known_of}
 use Rattle.rdx_query.specs.Inside.PartViews.{holds_of}
-use Rattle.rdx_query.proofs.HoldsChecks.{some-mapped, holds-readable, holds-asked}
+use Rattle.rdx_query.proofs.HoldsChecks.{some-mapped, holds-readable, premise-asks, holds-asked}
 use Rattle.rdx_query.proofs.holds_forms.read_holds.Goals as goal
 
 pub returns-in_err-parts-clause-asks : goal.returns-in_err-parts-clause-asks
@@ -13,12 +13,16 @@ returns-in_err-parts-clause-asks c =
 pub read_over-read-requires-clause-premise : goal.read_over-read-requires-clause-premise
 read_over-read-requires-clause-premise c =
     let h = holds_of c.in_ok-parts.parts in
-    (holds-readable c.args.form.now h c.in_ok-parts.ensures.parts c.requires).0
+    (holds-readable c.args.form.now h c.in_ok-parts.ensures.parts c.requires.readable).0
 
 pub read_over-read-requires-clause-behind : goal.read_over-read-requires-clause-behind
 read_over-read-requires-clause-behind c =
     let h = holds_of c.in_ok-parts.parts in
-    some-mapped (λ d. d.now) IsReadable c.in_ok-parts.parts.result (holds-readable c.args.form.now h c.in_ok-parts.ensures.parts c.requires).1
+    some-mapped (λ d. d.now) IsReadable c.in_ok-parts.parts.result (holds-readable c.args.form.now h c.in_ok-parts.ensures.parts c.requires.readable).1
+
+pub read_over-read-requires-clause-ends : goal.read_over-read-requires-clause-ends
+read_over-read-requires-clause-ends c =
+    premise-asks c.args.known.now.ends.items c.args.form.now (holds_of c.in_ok-parts.parts) c.in_ok-parts.ensures.parts c.requires.ends
 
 pub returns-clause-asks : goal.returns-clause-asks
 returns-clause-asks c =

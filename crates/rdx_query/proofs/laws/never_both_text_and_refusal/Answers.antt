@@ -1,7 +1,6 @@
-use Rattle.rdx_defs.specs.Scopes.{languages_in, scope_in}
 use Rattle.rdx_query.specs.File.{known_before}
 use Rattle.rdx_query.proofs.OneReading.{accepts-refuses}
 use Rattle.rdx_query.proofs.laws.never_both_text_and_refusal.Goals as goal
 
 pub returns : goal.returns
-returns c ds text met r w f = accepts-refuses (known_before ds) ds (record { scope = scope_in ds; languages = languages_in ds; program = w.program }) w.queries r w.accepted f
+returns c ds text met r w f = accepts-refuses (known_before ds) ds (record (known_before ds) { program = w.program }) w.queries r w.accepted f

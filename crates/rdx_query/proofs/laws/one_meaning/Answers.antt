@@ -1,5 +1,4 @@
 use Rattle.std.proofs.Common.{ap}
-use Rattle.rdx_defs.specs.Scopes.{languages_in, scope_in}
 use Rattle.rdx_query.specs.File.{known_before}
 use Rattle.rdx_query.specs.Known.{Known}
 use Rattle.rdx_query.proofs.OneReading.{accepts-one}
@@ -7,5 +6,5 @@ use Rattle.rdx_query.proofs.laws.one_meaning.Goals as goal
 
 pub returns : goal.returns
 returns c ds P Q qs rs a b =
-    let s = accepts-one (known_before ds) ds (record { scope = scope_in ds; languages = languages_in ds; program = P }) (record { scope = scope_in ds; languages = languages_in ds; program = Q }) qs rs a b in
+    let s = accepts-one (known_before ds) ds (record (known_before ds) { program = P }) (record (known_before ds) { program = Q }) qs rs a b in
     (ap (λ (K : Known). K.program) s.known, s.queries)

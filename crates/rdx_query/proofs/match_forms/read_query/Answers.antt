@@ -1,4 +1,4 @@
-use Rattle.std.proofs.Common.{◌≡◌, [], Some, None, sym, subst, ◌∙◌, ap}
+use Rattle.std.proofs.Common.{◌≡◌, [], ◌∷◌, Some, None, sym, subst, ◌∙◌, ap}
 use Rattle.std.proofs.lemmas.Result.{err_from_is_err_and}
 use Rattle.rdx_lang.specs.Checked.{language_in}
 use Rattle.rdx_lang.specs.Patterns.{Language}
@@ -9,6 +9,8 @@ use Rattle.rdx_grammar.specs.Parts.{text_of}
 use Rattle.rdx_defs.specs.Answers.{ReadsHost}
 use Rattle.rdx_query.specs.Inside.KnownView.{known_of}
 use Rattle.rdx_query.specs.Inside.PartViews.{parts_of}
+use Rattle.rdx_query.proofs.FormParts.{query-items}
+use Rattle.rdx_query.proofs.GainingNothing.{parts-ask}
 use Rattle.rdx_query.proofs.QueryChecks.{pattern-readable, host-readable, parts-fault, parts-asked, unknown-fault, language_named-name}
 use Rattle.rdx_query.proofs.match_forms.read_query.Goals as goal
 
@@ -20,12 +22,18 @@ returns-in_err-parts-clause-asks c =
 pub read_unbound-host-requires : goal.read_unbound-host-requires
 read_unbound-host-requires c =
     let q = parts_of c.in_ok-parts.parts in
-    host-readable (known_of c.args.known.now) c.args.form.now q c.in_ok-parts.ensures c.requires
+    host-readable (known_of c.args.known.now) c.args.form.now q c.in_ok-parts.ensures c.requires.readable
 
 pub read_over-requires-clause-readable : goal.read_over-requires-clause-readable
 read_over-requires-clause-readable c =
     let q = parts_of c.in_ok-parts.parts in
-    pattern-readable (known_of c.args.known.now) c.args.form.now q c.in_ok-parts.ensures c.requires
+    pattern-readable (known_of c.args.known.now) c.args.form.now q c.in_ok-parts.ensures c.requires.readable
+
+pub read_over-requires-clause-ends : goal.read_over-requires-clause-ends
+read_over-requires-clause-ends c =
+    let q = parts_of c.in_ok-parts.parts in
+    let k = query-items c.args.form.now q c.in_ok-parts.ensures.parts in
+    (parts-ask (known_of c.args.known.now).ends c.args.form.now (k.head ∷ q.language ∷ q.pattern ∷ q.host ∷ []) k.are c.requires.ends).1.1.0
 
 pub returns-in_err-pat-in-Some-clause-asks : goal.returns-in_err-pat-in-Some-clause-asks
 returns-in_err-pat-in-Some-clause-asks c =
@@ -51,7 +59,7 @@ returns-in_ok-pat-in-Some-clause-asks c =
 pub read_pattern-pat-requires : goal.read_pattern-pat-requires
 read_pattern-pat-requires c =
     let q = parts_of c.in_ok-parts.parts in
-    pattern-readable (known_of c.args.known.now) c.args.form.now q c.in_ok-parts.ensures c.requires
+    pattern-readable (known_of c.args.known.now) c.args.form.now q c.in_ok-parts.ensures c.requires.readable
 
 pub returns-in_ok-empty_language-in-None-clause-asks : goal.returns-in_ok-empty_language-in-None-clause-asks
 returns-in_ok-empty_language-in-None-clause-asks c =

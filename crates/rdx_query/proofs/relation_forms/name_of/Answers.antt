@@ -3,7 +3,7 @@ use Rattle.std.specs.Rc.{rc_str_bytes}
 use Rattle.rdx_term.specs.Spelling.{is_name}
 use Rattle.rdx_grammar.specs.Names.{is_bad_name}
 use Rattle.rdx_grammar.specs.Parts.{text_of}
-use Rattle.rdx_query.proofs.RelationChecks.{no_name-bad}
+use Rattle.rdx_query.proofs.DefineChecks.{no_name-bad}
 use Rattle.rdx_query.proofs.relation_forms.name_of.Goals as goal
 
 -- what holds of all values holds of that of a result

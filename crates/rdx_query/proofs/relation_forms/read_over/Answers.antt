@@ -1,9 +1,35 @@
-use Rattle.std.proofs.Common.{◌∙◌, ap}
+use Rattle.std.proofs.Common.{◌≡◌, true, Option, Some, ◌∙◌, ap, sym, subst}
+use Rattle.std.proofs.lemmas.Result.{IfOk-weaker}
 use Rattle.rdx_lang.specs.Checked.{language_in}
+use Rattle.rdx_lang.specs.Patterns.{Language}
+use Rattle.rdx_lang.specs.ProgramView.{relation_of}
+use Rattle.rdx_lang.specs.Valid.{is_valid_over}
+use Rattle.rdx_defs.specs.Scope.{scope_of, callable}
+use Rattle.rdx_grammar.specs.Ends.{ends_in}
+use Rattle.rdx_query.proofs.GainingNothing.{gained-at}
+use Rattle.rdx_query.proofs.RelationChecks.{valid-formed}
 use Rattle.rdx_query.proofs.Replaced.{same-known}
 use Rattle.rdx_query.proofs.relation_forms.read_over.Goals as goal
 
 pub returns-in-Some-clause-same : goal.returns-in-Some-clause-same
 returns-in-Some-clause-same c =
-    same-known c.args.known.now c.in-Some.place c.index_mut-language.result.now c.read_relation.new.language c.in-Some.ensures.within
-    (c.read_relation.ensures.same ∙ ap language_in c.index_mut-language.ensures.value)
+    let l = c.index_mut-language.result.now in
+    let m = c.read_relation.new.language in
+    same-known c.args.known.now c.in-Some.place l m c.in-Some.ensures.within
+    (gained-at c.args.known.now.program.languages.items c.in-Some.place l m (ends_in c.args.body.now) c.args.known.now.ends.items c.read_relation.result
+    c.in-Some.ensures.within c.index_mut-language.ensures.value c.requires.crossed c.requires.ends c.read_relation.ensures.gains)
+
+pub returns-in-Some-clause-fits : goal.returns-in-Some-clause-fits
+returns-in-Some-clause-fits c =
+    let C = callable (scope_of c.args.known.now.scope) in
+    let l = c.index_mut-language.result.now in
+    let m = c.read_relation.new.language in
+    let s = gained-at c.args.known.now.program.languages.items c.in-Some.place l m (ends_in c.args.body.now) c.args.known.now.ends.items c.read_relation.result
+    c.in-Some.ensures.within c.index_mut-language.ensures.value c.requires.crossed c.requires.ends c.read_relation.ensures.gains
+    ∙ ap language_in (sym c.index_mut-language.ensures.value) in
+    IfOk-weaker c.read_relation.result _ _
+    (λ r v L e.
+    let f : (let o : Option Language = Some (language_in l) in o) ≡ Some L = sym (c.in-Some.ensures.found l c.index_mut-language.ensures.value) ∙ e in
+    let g : language_in l ≡ L = cc in
+    valid-formed C L (relation_of r) (subst (λ (M : Language). is_valid_over C (Some M) (relation_of r) ≡ true) (s ∙ g) v))
+    c.read_relation.ensures.valid

@@ -1,0 +1,14 @@
+use Rattle.rdx_query.proofs.GainingNothing.{data-asked}
+use Rattle.rdx_query.proofs.forms.question.Goals as goal
+
+pub read_query-requires-clause-ends : goal.read_query-requires-clause-ends
+read_query-requires-clause-ends c = data-asked c.args.known.now.ends.items c.args.form.now c.requires.ends
+
+pub read_query-requires-in-Whether-clause-ends : goal.read_query-requires-in-Whether-clause-ends
+read_query-requires-in-Whether-clause-ends c = data-asked c.args.known.now.ends.items c.args.form.now c.requires.ends
+
+pub read_query-requires-in-Decompose-clause-ends : goal.read_query-requires-in-Decompose-clause-ends
+read_query-requires-in-Decompose-clause-ends c = data-asked c.args.known.now.ends.items c.args.form.now c.requires.ends
+
+pub read_holds-requires-clause-ends : goal.read_holds-requires-clause-ends
+read_holds-requires-clause-ends c = data-asked c.args.known.now.ends.items c.args.form.now c.requires.ends
