@@ -13,8 +13,8 @@ mod reader;
 pub mod readings;
 mod refusals;
 
-pub use ends::ends_in;
 pub(crate) use ends::known_ends;
+pub use ends::{add_ends, ends_in};
 pub use names::{Names, symbol_name};
 pub use nonterminals::language_names;
 pub use position::Position;

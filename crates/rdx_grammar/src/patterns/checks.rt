@@ -25,7 +25,8 @@ pub fn when(test: bool, d: &Datum) -> Option<&Datum>
     if test { Some(d) } else { None }
 }
 
-fn keyword_fault<'a>(o: &Occurrence<'a>) -> Option<&'a Datum>
+/// The keyword, where the occurrence is one.
+pub fn keyword_fault<'a>(o: &Occurrence<'a>) -> Option<&'a Datum>
     ensures { option_map (λ d. d.now) result ≡ first (model.keyword_fault (occurrence_of o.now)) }
 {
     match o {
@@ -52,7 +53,8 @@ pub fn first_keyword<'a>(found: &[Occurrence<'a>]) -> Option<&'a Datum>
     None
 }
 
-fn bad_binder<'a>(o: &Occurrence<'a>) -> Option<&'a Datum>
+/// The name that is bound and may not be, where the occurrence is one.
+pub fn bad_binder<'a>(o: &Occurrence<'a>) -> Option<&'a Datum>
     ensures { option_map (λ d. d.now) result ≡ first (model.bad_binder (occurrence_of o.now)) }
 {
     match o {
@@ -113,7 +115,8 @@ fn crossed_name(d: &Datum) -> &str
     }
 }
 
-fn bad_occurrence<'a>(names: &Names, o: &Occurrence<'a>) -> Option<&'a Datum>
+/// The part, where it means nothing over these nonterminals.
+pub fn bad_occurrence<'a>(names: &Names, o: &Occurrence<'a>) -> Option<&'a Datum>
     ensures { option_map (λ d. d.now) result
         ≡ first (model.bad_occurrence names.now (occurrence_of o.now)) }
 {
@@ -194,8 +197,8 @@ pub fn bound_by<'a>(
     }
 }
 
-// The list, where it would ask Racket.
-fn escape_in<'a>(o: &Occurrence<'a>) -> Option<&'a Datum>
+/// The list, where it would ask Racket.
+pub fn escape_in<'a>(o: &Occurrence<'a>) -> Option<&'a Datum>
     ensures { option_map (λ d. d.now) result ≡ first (model.escape_in (occurrence_of o.now)) }
 {
     match o {

@@ -20,9 +20,9 @@ fn add_end(items: &[Datum], out: &mut Vec<Name>) -> Result<(), NoMemory>
     Ok(())
 }
 
-// Adds those of all such lists in the datum.
+/// Adds those of all such lists in the datum, however deep.
 #[cycle(ends)]
-fn add_ends(d: &Datum, out: &mut Vec<Name>) -> Result<(), NoMemory>
+pub fn add_ends(d: &Datum, out: &mut Vec<Name>) -> Result<(), NoMemory>
     ensures { OnOk result (out.new.items ≡ out.old.items ++ model.ends_in d.now) }
 {
     match &d.form {
