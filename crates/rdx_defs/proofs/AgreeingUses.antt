@@ -1,8 +1,7 @@
 -- The uses of symbols that do not clash agree.
-use Rattle.std.proofs.Common.{◌≡◌, ◌++◌, ◌∙◌, Bool, true, false, List, [], ◌∷◌, map, refl, sym, ap}
+use Rattle.std.proofs.Common.{◌≡◌, ◌∙◌, Bool, true, false, List, [], ◌∷◌, map, refl, ap}
 use Rattle.std.proofs.lemmas.Bool.{lt-ltb}
 use Rattle.std.proofs.lemmas.Cmp.{nat_eq_equiv, nat_list_eq_equiv}
-use Rattle.std.proofs.lemmas.List.{append_assoc, append-nil, map-append}
 use Rattle.std.specs.Bool.{beq}
 use Rattle.std.specs.Cmp.{booleans_Decides}
 use Rattle.std.specs.Cmp.Lexicographic.{bytes_decides}
@@ -13,15 +12,11 @@ use Rattle.rdx_lang.specs.Members.{In, here, there}
 use Rattle.rdx_grammar.specs.Names.{begins_with_dots}
 use Rattle.rdx_grammar.specs.Parts.{text_of}
 use Rattle.rdx_grammar.specs.PatternChecks as patterns
-use Rattle.rdx_grammar.specs.PatternChecks.{when, differ, clashes}
+use Rattle.rdx_grammar.specs.PatternChecks.{differ, clashes}
 use Rattle.rdx_grammar.proofs.Booleans.{and_both, or_false}
 use Rattle.rdx_grammar.proofs.DepthsRead.{bound_use}
 use Rattle.rdx_grammar.proofs.Firsts.{none_first}
 use Rattle.rdx_grammar.proofs.PassedPatterns.{AreBoundNames}
-use Rattle.rdx_defs.specs.Bound.{Bound}
-use Rattle.rdx_defs.specs.Inside.ByNames.{are_apart, clashes_with}
-use Rattle.rdx_defs.specs.Stands.{names_bound}
-use Rattle.rdx_defs.proofs.NamesBound.{named_at, clashes-names}
 
 -- ---- symbols that do not clash
 
@@ -66,20 +61,3 @@ agree-all cs (b ∷ bs) e =
 pub all-shallow : (bs : List patterns.Bound) → AreBoundNames 4294967296 bs → list_all is_shallow (map bound_use bs) ≡ true
 all-shallow [] h = refl
 all-shallow (b ∷ bs) h = and_both (nat_lt b.depth 4294967296) (list_all is_shallow (map bound_use bs)) (lt-ltb b.depth 4294967296 h.0.0) (all-shallow bs h.1)
-
--- ---- two lists of symbols, one behind the other
-
--- behind names that are bound
-apart-both : (es : Bound) (xs ys : List patterns.Bound) → clashes_with es xs ≡ [] → clashes_with (es ++ names_bound xs) ys ≡ [] → clashes_with es (xs ++ ys) ≡ []
-apart-both es [] ys e f = ap (λ (fs : Bound). clashes_with fs ys) (sym (append-nil es)) ∙ f
-apart-both es (x ∷ xs) ys e f =
-    let k = none_first (list_any (are_apart (named_at x)) es) x.symbol (clashes_with (es ++ named_at x ∷ []) xs) e in
-    let g = apart-both (es ++ named_at x ∷ []) xs ys k.1 (ap (λ (fs : Bound). clashes_with fs ys) (append_assoc es (named_at x ∷ []) (names_bound xs)) ∙ f) in
-    λ i. when (k.0 i) x.symbol ++ g i
-
--- behind the symbols that bind them
-pub clashes-both : (bs xs ys : List patterns.Bound) → clashes bs xs ≡ [] → clashes (bs ++ xs) ys ≡ [] → clashes bs (xs ++ ys) ≡ []
-clashes-both bs xs ys e f =
-    clashes-names bs (xs ++ ys)
-    ∙ apart-both (names_bound bs) xs ys (sym (clashes-names bs xs) ∙ e)
-    (ap (λ (fs : Bound). clashes_with fs ys) (sym (map-append named_at bs xs)) ∙ sym (clashes-names (bs ++ xs) ys) ∙ f)

@@ -1,16 +1,15 @@
 -- Arguments one by one: the first of them before the others.
 use Rattle.std.proofs.Common.{◌≡◌, ◌++◌, ◌∙◌, Bor, ℕ, Bool, true, false, List, [], ◌∷◌, map, IsTrue, ◌⊎◌, inl, inr, refl, sym, ap, subst, append-nil}
 use Rattle.std.proofs.lemmas.Grind.{flat_map-append}
-use Rattle.std.specs.Prelude.{Option, Some, None, flat_map, is_some, option_map}
+use Rattle.std.specs.Prelude.{Option, Some, None, flat_map, option_map}
 use Rattle.rdx_sexp.specs.Sexp.{Sexp}
 use Rattle.rdx_lang.specs.Programs.{Mode}
 use Rattle.rdx_grammar.specs.Occurrences.{occurrences}
 use Rattle.rdx_grammar.specs.PatternChecks.{bound_by}
-use Rattle.rdx_grammar.specs.Refusal.{first, or_else}
-use Rattle.rdx_grammar.proofs.Firsts.{first-append}
 use Rattle.rdx_grammar.specs.declared.patterns.position.Position.TheVariants.{Query}
 use Rattle.rdx_defs.specs.Arguments.{data_at}
 use Rattle.rdx_defs.specs.Bound.{Bound}
+use Rattle.rdx_defs.specs.Earliest.{start, lesser, earliest}
 use Rattle.rdx_defs.specs.Inside.BareStands.{flagged_stand}
 use Rattle.rdx_defs.specs.Inside.Branches.{one, each}
 use Rattle.rdx_defs.specs.Inside.ByNames.{taken_names, patterns_names, pattern_faults, template_faults, flagged_faults}
@@ -19,6 +18,7 @@ use Rattle.rdx_defs.specs.Inside.PartsHave.{CanBind, BindNames}
 use Rattle.rdx_defs.specs.Scope.{Scope}
 use Rattle.rdx_defs.specs.Stands.{bound_among}
 use Rattle.rdx_defs.specs.declared.stands.faults.Check.{Check}
+use Rattle.rdx_defs.proofs.EarliestPlaces.{lesser_assoc, earliest_append}
 use Rattle.rdx_defs.proofs.PartsAt.{BindNames-both}
 
 -- ---- flags
@@ -74,13 +74,25 @@ names-first ns false bs d ds = refl
 
 module _ (k : Check) (S : Scope) (ns : List (List ℕ)) (all : Bound) where
   -- the places at which a check refuses
-  pub faults-first : (es : Bound) (b : Bool) (bs : List Bool) (d : Sexp) (ds : List Sexp)
+  faults-first : (es : Bound) (b : Bool) (bs : List Bool) (d : Sexp) (ds : List Sexp)
       → flagged_faults k S ns es all (b ∷ bs) (d ∷ ds)
       ≡ flagged_faults k S ns es all (b ∷ []) (d ∷ []) ++ flagged_faults k S ns (es ++ patterns_names ns (data_at (b ∷ []) (d ∷ []))) all bs ds
   faults-first es true bs d ds i =
       sym (append-nil (pattern_faults k ns es (occurrences 0 d))) i ++ flagged_faults k S ns (es ++ sym (append-nil (taken_names ns (one d))) i) all bs ds
   faults-first es false bs d ds i =
       sym (append-nil (template_faults k S all d)) i ++ flagged_faults k S ns (sym (append-nil es) i) all bs ds
+
+  -- with the earliest so far
+  pub earliest-first : (es : Bound) (b : Bool) (bs : List Bool) (d : Sexp) (ds : List Sexp) (o : Option Sexp)
+      → lesser start o (earliest start (flagged_faults k S ns es all (b ∷ bs) (d ∷ ds)))
+      ≡ lesser start (lesser start o (earliest start (flagged_faults k S ns es all (b ∷ []) (d ∷ []))))
+      (earliest start (flagged_faults k S ns (es ++ patterns_names ns (data_at (b ∷ []) (d ∷ []))) all bs ds))
+  earliest-first es b bs d ds o =
+      let here = flagged_faults k S ns es all (b ∷ []) (d ∷ []) in
+      let later = flagged_faults k S ns (es ++ patterns_names ns (data_at (b ∷ []) (d ∷ []))) all bs ds in
+      ap (λ (cs : List Sexp). lesser start o (earliest start cs)) (faults-first es b bs d ds)
+      ∙ ap (lesser start o) (earliest_append start here later)
+      ∙ sym (lesser_assoc start o (earliest start here) (earliest start later))
 
   -- without data
   faults-none : (es : Bound) (bs : List Bool) → flagged_faults k S ns es all bs [] ≡ []
@@ -91,19 +103,6 @@ module _ (k : Check) (S : Scope) (ns : List (List ℕ)) (all : Bound) where
   pub faults-end : (es : Bound) (f : Bool → Bool) (bs : List Bool) (ds : List Sexp) → (bs ≡ []) ⊎ (ds ≡ []) → flagged_faults k S ns es all (map f bs) ds ≡ []
   faults-end es f bs ds (inl e) = ap (λ (cs : List Bool). flagged_faults k S ns es all (map f cs) ds) e
   faults-end es f bs ds (inr e) = ap (flagged_faults k S ns es all (map f bs)) e ∙ faults-none es (map f bs)
-
--- ---- the first of two lists, where the first of the one is known
-
-module _ {A : Type 0} (g : A → Sexp) (xs ys : List Sexp) where
-  -- it is none
-  pub first-behind : (o : Option A) → is_some o ≡ false → option_map g o ≡ first xs → first (xs ++ ys) ≡ first ys
-  first-behind None e f = first-append xs ys ∙ ap (λ (p : Option Sexp). or_else p (first ys)) (sym f)
-  first-behind (Some x) e f = absurd cc
-
-  -- it is some one
-  pub first-here : (o : Option A) → is_some o ≡ true → option_map g o ≡ first xs → first (xs ++ ys) ≡ option_map g o
-  first-here None e f = absurd cc
-  first-here (Some x) e f = first-append xs ys ∙ ap (λ (p : Option Sexp). or_else p (first ys)) (sym f)
 
 -- ---- what patterns bind, one by one
 

@@ -1,5 +1,5 @@
 -- That data ask for cross nonterminals to none but some passes to the parts of a form.
-use Rattle.std.proofs.Common.{◌≡◌, ℕ, List, [], ◌∷◌, sym, subst}
+use Rattle.std.proofs.Common.{◌≡◌, ℕ, List, [], ◌∷◌}
 use Rattle.rdx_base.specs.declared.place.Span.{Span}
 use Rattle.rdx_sexp.specs.Sexp.{Sexp, Sexps, list, nil, cons, sexps}
 use Rattle.rdx_grammar.specs.Ends.{ends_in, ends_among}

@@ -4,6 +4,7 @@ use Rattle.std.proofs.lemmas.List.{append-nil, map-append}
 use Rattle.std.specs.Prelude.{Option, Some, None, flat_map, bytes_eq, codes, if◌then◌else◌}
 use Rattle.rdx_sexp.specs.Sexp.{Sexp}
 use Rattle.rdx_lang.specs.Programs.{Mode}
+use Rattle.rdx_grammar.specs.Kinds.{is_among}
 use Rattle.rdx_grammar.specs.Occurrences.{occurrences}
 use Rattle.rdx_grammar.specs.Parts.{text_of}
 use Rattle.rdx_grammar.specs.PatternChecks as patterns
@@ -21,10 +22,11 @@ use Rattle.rdx_defs.specs.JudgementStands.{rule_arguments, bound_by_inputs, boun
 use Rattle.rdx_defs.specs.MetafunctionForms.{ClauseForm, clause_form, ContractForm, MetafunctionForm}
 use Rattle.rdx_defs.specs.MetafunctionStands.{clause_stands, clauses_stand, contract_stands, function_stands}
 use Rattle.rdx_defs.specs.RelationForms.{CaseForm, case_form, RelationForm, is_keyword}
-use Rattle.rdx_defs.specs.RelationStands.{case_stands, cases_stand, domain_stands, relation_stands}
+use Rattle.rdx_defs.specs.RelationStands.{case_stands, cases_stand, domain_stands, expanded_stands, arrows_stand, shortcut_stands, arrows_with, shortcuts_stand}
 use Rattle.rdx_defs.specs.Scope.{Scope, mode_of}
+use Rattle.rdx_defs.specs.Shorthand.{Shortcut, shortcut_form, is_known_arrow}
 use Rattle.rdx_defs.specs.StandChecks.{shape_fault, shape_faults, bad_name, bad_names, unknown_name, unknown_names, mode_fault, mode_faults}
-use Rattle.rdx_defs.specs.Stands.{Stand, misshaped, function, judgement, asked, arrow, pattern, template, condition, plain, misfit, fresh, named, names_bound, bound_in, flagged_stand, plain_argument, arguments_by, arguments_stand, misfits, premise_arguments, held_stands, bound_by_premise, bound_freshly, fresh_stands, bound_by_extra, extra_stands, is_named, extras_stand}
+use Rattle.rdx_defs.specs.Stands.{Stand, misshaped, function, judgement, asked, arrow, pattern, template, condition, plain, misfit, fresh, named, repeated, names_bound, bound_in, flagged_stand, plain_argument, arguments_by, arguments_stand, misfits, premise_arguments, held_stands, bound_by_premise, bound_freshly, fresh_stands, bound_by_extra, extra_stands, is_named, extras_stand}
 use Rattle.rdx_defs.proofs.LoneStands.{branch_stands, contract-lone}
 
 -- ---- without what is bound
@@ -43,6 +45,7 @@ bare (plain os) = plain os
 bare (misfit d n) = misfit d n
 bare (fresh bs d) = fresh [] d
 bare (named again d) = named again d
+bare (repeated d) = repeated d
 
 -- of two lists
 both : (ss rs us vs : List Stand) → map bare ss ≡ us → map bare rs ≡ vs → map bare (ss ++ rs) ≡ us ++ vs
@@ -109,6 +112,31 @@ bare-missing d (Some h) = refl
 bare-name : (o : Option Sexp) → map bare (name_stands o) ≡ name_stands o
 bare-name None = refl
 bare-name (Some n) = refl
+
+-- ---- shortcuts
+
+-- the arrows of one
+bare-arrows : (seen : List (List ℕ)) (s : Shortcut) → map bare (arrows_stand seen s) ≡ arrows_stand seen s
+bare-arrows seen s =
+    let b = is_known_arrow seen s.old in
+    let c = is_among seen (text_of s.new) in
+    let os = if b then [] else arrow s.old ∷ [] in
+    let rs = if c then repeated s.new ∷ [] else [] in
+    both os rs os rs (either b [] (arrow s.old ∷ []) [] (arrow s.old ∷ []) refl refl) (either c (repeated s.new ∷ []) [] (repeated s.new ∷ []) [] refl refl)
+
+-- one
+bare-shortcut : (seen : List (List ℕ)) (d : Sexp) (o : Option Shortcut) → map bare (shortcut_stands seen d o) ≡ shortcut_stands seen d o
+bare-shortcut seen d None = refl
+bare-shortcut seen d (Some s) = bare-arrows seen s
+
+-- several
+bare-shortcuts : (seen : List (List ℕ)) (ds : List Sexp) → map bare (shortcuts_stand seen ds) ≡ shortcuts_stand seen ds
+bare-shortcuts seen [] = refl
+bare-shortcuts seen (d ∷ ds) =
+    let o = shortcut_form d in
+    let ss = shortcut_stands seen d o in
+    let rs = shortcuts_stand (arrows_with seen o) ds in
+    both ss rs ss rs (bare-shortcut seen d o) (bare-shortcuts (arrows_with seen o) ds)
 
 -- ---- forms
 
@@ -181,13 +209,17 @@ module _ (S : Scope) (ns : List (List ℕ)) where
       both (case_stands S ns d (case_form d)) (cases_stand S ns ds) (bare_stands.case_stands S d (case_form d)) (bare_stands.cases_stand S ds)
       (bare-case d (case_form d)) (bare-cases ds)
 
-  -- in a relation
-  pub bare-relation : (d : Sexp) (r : RelationForm) → map bare (relation_stands S ns d (Some r)) ≡ bare_stands.relation_stands S r
-  bare-relation d r = by_domain r.domain
+  -- in a relation without shorthand
+  bare-expanded : (r : RelationForm) → map bare (expanded_stands S ns r) ≡ bare_stands.expanded_stands S r
+  bare-expanded r = both (domain_stands r.domain) (cases_stand S ns r.cases) (domain_stands r.domain) (bare_stands.cases_stand S r.cases) (bare-domain r.domain) (bare-cases r.cases)
     where
-      by_domain : (o : Option Sexp) → map bare (domain_stands o ++ cases_stand S ns r.cases) ≡ domain_stands o ++ bare_stands.cases_stand S r.cases
-      by_domain None = bare-cases r.cases
-      by_domain (Some p) = ap (λ (ss : List Stand). pattern [] (occurrences 0 p) ∷ ss) (bare-cases r.cases)
+      bare-domain : (o : Option Sexp) → map bare (domain_stands o) ≡ domain_stands o
+      bare-domain None = refl
+      bare-domain (Some p) = refl
+
+  -- and with shortcuts behind it
+  pub bare-relation : (r : RelationForm) (ds : List Sexp) → map bare (expanded_stands S ns r ++ shortcuts_stand [] ds) ≡ bare_stands.relation_stands S r ds
+  bare-relation r ds = both (expanded_stands S ns r) (shortcuts_stand [] ds) (bare_stands.expanded_stands S r) (shortcuts_stand [] ds) (bare-expanded r) (bare-shortcuts [] ds)
 
   -- in a clause
   bare-clause : (x : List ℕ) (d : Sexp) (o : Option ClauseForm) → map bare (clause_stands S ns x d o) ≡ bare_stands.clause_stands S d (own_clause x o)
@@ -293,6 +325,7 @@ shape-bare (plain os) = refl
 shape-bare (misfit d n) = refl
 shape-bare (fresh bs d) = refl
 shape-bare (named again d) = refl
+shape-bare (repeated d) = refl
 
 pub shapes-bare : (ss : List Stand) → shape_faults (map bare ss) ≡ shape_faults ss
 shapes-bare ss = flat-bare shape_fault shape-bare ss
@@ -311,6 +344,7 @@ bad_name-bare (plain os) = refl
 bad_name-bare (misfit d n) = refl
 bad_name-bare (fresh bs d) = refl
 bad_name-bare (named again d) = refl
+bad_name-bare (repeated d) = refl
 
 pub bad_names-bare : (ss : List Stand) → bad_names (map bare ss) ≡ bad_names ss
 bad_names-bare ss = flat-bare bad_name bad_name-bare ss
@@ -329,6 +363,7 @@ unknown_name-bare S (plain os) = refl
 unknown_name-bare S (misfit d n) = refl
 unknown_name-bare S (fresh bs d) = refl
 unknown_name-bare S (named again d) = refl
+unknown_name-bare S (repeated d) = refl
 
 pub unknown_names-bare : (S : Scope) (ss : List Stand) → unknown_names S (map bare ss) ≡ unknown_names S ss
 unknown_names-bare S ss = flat-bare (unknown_name S) (unknown_name-bare S) ss
@@ -347,6 +382,7 @@ mode_fault-bare (plain os) = refl
 mode_fault-bare (misfit d n) = refl
 mode_fault-bare (fresh bs d) = refl
 mode_fault-bare (named again d) = refl
+mode_fault-bare (repeated d) = refl
 
 pub mode_faults-bare : (ss : List Stand) → mode_faults (map bare ss) ≡ mode_faults ss
 mode_faults-bare ss = flat-bare mode_fault mode_fault-bare ss

@@ -1,5 +1,5 @@
 -- What the patterns of a readable form bind are names, where none of them may not be bound.
-use Rattle.std.proofs.Common.{◌≡◌, ◌++◌, ◌∙◌, ◌+◌, ℕ, Bool, true, false, List, [], ◌∷◌, map, IsTrue, refl, sym, subst, arith, if◌then◌else◌}
+use Rattle.std.proofs.Common.{◌≡◌, ◌++◌, ◌∙◌, ℕ, Bool, true, false, List, [], ◌∷◌, map, IsTrue, refl, sym, subst, arith, if◌then◌else◌}
 use Rattle.std.proofs.lemmas.Grind.{flat_map-append}
 use Rattle.std.specs.Prelude.{Option, Some, None, flat_map, codes}
 use Rattle.rdx_sexp.specs.Sexp.{Sexp, leaf, list, integer, truth, text, symbol, keyword, sexps}
@@ -25,7 +25,7 @@ use Rattle.rdx_defs.specs.JudgementForms.{RuleForm, rule_form, own_rule, OptionF
 use Rattle.rdx_defs.specs.JudgementStands.{rule_arguments, name_stands, missing_mode, mode_stands, contract_stands, given_stands, option_stands, options_stand}
 use Rattle.rdx_defs.specs.MetafunctionForms.{ClauseForm, clause_form, ContractForm, MetafunctionForm}
 use Rattle.rdx_defs.specs.RelationForms.{CaseForm, case_form, RelationForm, is_keyword}
-use Rattle.rdx_defs.specs.RelationStands.{domain_stands}
+use Rattle.rdx_defs.specs.RelationStands.{domain_stands, shortcuts_stand}
 use Rattle.rdx_defs.specs.Scope.{Scope, mode_of}
 use Rattle.rdx_defs.specs.StandChecks.{bad_name, bad_names}
 use Rattle.rdx_defs.specs.Stands.{Stand, misshaped, function, template, premise_arguments, misfits, is_named}
@@ -193,10 +193,11 @@ module _ (S : Scope) (T R : Takes → Type 0) (binds : (w : Takes) → T w → b
 
   -- ---- relations and metafunctions
 
-  -- a relation
-  pub relation-binds : (r : RelationForm) → bad_names (bare.relation_stands S r) ≡ [] → OutlineHas S (wanted T) (relation_outline r) → OutlineHas S (bound R) (relation_outline r)
-  relation-binds r e h =
-      let k = both (domain_stands r.domain) (bare.cases_stand S r.cases) e in
+  -- a relation without shorthand, whatever shortcuts stand behind it
+  pub relation-binds : (r : RelationForm) (ds : List Sexp) → bad_names (bare.relation_stands S r ds) ≡ [] → OutlineHas S (wanted T) (relation_outline r)
+      → OutlineHas S (bound R) (relation_outline r)
+  relation-binds r ds e h =
+      let k = both (domain_stands r.domain) (bare.cases_stand S r.cases) (both (bare.expanded_stands S r) (shortcuts_stand [] ds) e).0 in
       record { alone = by_domain r.domain k.0 h.alone; branches = cases-bind r.cases k.1 h.branches; rules = tt; questions = tt }
     where
       by_domain : (o : Option Sexp) → bad_names (domain_stands o) ≡ [] → AloneHave T (domain_patterns o) → AloneHave R (domain_patterns o)

@@ -1,5 +1,5 @@
--- How far the items of a list reach, and the first of them that drives no ellipsis behind it.
-use Rattle.std.proofs.Common.{◌≡◌, ◌++◌, ◌∙◌, ℕ, zero, suc, ◌+◌, ◌<◌, length, drop, get_or, max, Bool, true, false, List, [], Option, Some, None, refl, sym, ap, arith, ne_eqb, if◌then◌else◌}
+-- How far the items of a list reach, and the earliest of them that drives no ellipsis behind it.
+use Rattle.std.proofs.Common.{◌≡◌, ◌++◌, ◌∙◌, ℕ, zero, suc, ◌+◌, ◌<◌, length, drop, get_or, max, Bool, true, false, List, [], Option, refl, sym, ap, arith, ne_eqb, if◌then◌else◌}
 use Rattle.std.proofs.lemmas.Bool.{lt-ltb}
 use Rattle.std.proofs.lemmas.Grind.{flat_map-append}
 use Rattle.std.specs.Prelude.{not, nat_eq, nat_lt}
@@ -10,9 +10,8 @@ use Rattle.rdx_grammar.specs.Heads.{Roles, item, every, word, pattern, next, res
 use Rattle.rdx_grammar.specs.Occurrences.{deeper}
 use Rattle.rdx_grammar.specs.PatternChecks.{when}
 use Rattle.rdx_grammar.specs.Reading.{is_pattern}
-use Rattle.rdx_grammar.specs.Refusal.{first, or_else}
-use Rattle.rdx_grammar.proofs.Firsts.{first-append}
 use Rattle.rdx_defs.specs.Bound.{Bound}
+use Rattle.rdx_defs.specs.Earliest.{earliest, lesser, start}
 use Rattle.rdx_defs.specs.HostHeads.{HostHead, quoting, applying, all_of, some_of, miscounted, foreign, host_head}
 use Rattle.rdx_defs.specs.Inside.Reach.{reach, reach_among, reach_in, reach_in_all, outside, is_undriven}
 use Rattle.rdx_defs.specs.Scope.{Scope}
@@ -21,6 +20,7 @@ use Rattle.rdx_defs.specs.TemplateHeads.{TemplateHead, filling, evaluating, spli
 use Rattle.rdx_defs.specs.TemplateOccurrences.{TemplatePart, repeated_when, listed_parts, host_listed_parts, template_parts, parts_among, host_parts, host_parts_among, host_parts_behind}
 use Rattle.rdx_defs.specs.TemplateReading.{with_template, template_reading, templates_among, host_reading, hosts_among}
 use Rattle.rdx_grammar.proofs.Rests.{drop-at}
+use Rattle.rdx_defs.proofs.EarliestPlaces.{earliest_append}
 use Rattle.rdx_defs.proofs.ItemTests.{item_parts, parts-at, templates-template, templates-other}
 use Rattle.rdx_defs.proofs.Reaching.{drives-reach}
 
@@ -39,11 +39,6 @@ with-reach false t ts = refl
 -- the greatest of three, grouped otherwise
 pub max-assoc : (a b c : ℕ) → max (max a b) c ≡ max a (max b c)
 max-assoc a b c = omega arith
-
--- the first of three, grouped otherwise
-pub or_else-assoc : {A : Type 0} (o p q : Option A) → or_else (or_else o p) q ≡ or_else o (or_else p q)
-or_else-assoc None p q = refl
-or_else-assoc (Some x) p q = refl
 
 module _ (S : Scope) (bs : Bound) where
   -- from a template on
@@ -143,60 +138,60 @@ module _ (S : Scope) (bs : Bound) where
     behind-anywhere m n nil = refl
     behind-anywhere m n (cons d ds) = hosts-anywhere m n ds
 
-  -- ---- the first undriven item
+  -- ---- the earliest undriven item
 
-  -- the first of two lists of things, one behind the other
-  first_both : (ps qs : List TemplatePart) → first (undriven (ps ++ qs)) ≡ or_else (first (undriven ps)) (first (undriven qs))
-  first_both ps qs = ap first (flat_map-append (undriven_part S bs) ps qs) ∙ first-append (undriven ps) (undriven qs)
+  -- the earliest of two lists of things, one behind the other
+  earliest_both : (ps qs : List TemplatePart) → earliest start (undriven (ps ++ qs)) ≡ lesser start (earliest start (undriven ps)) (earliest start (undriven qs))
+  earliest_both ps qs = ap (earliest start) (flat_map-append (undriven_part S bs) ps qs) ∙ earliest_append start (undriven ps) (undriven qs)
 
   -- an item by itself
-  item_by_itself : (r : Bool) (d : Sexp) → first (undriven (repeated_when r d)) ≡ first (when (is_undriven r (reach (template_reading S bs d))) d)
+  item_by_itself : (r : Bool) (d : Sexp) → earliest start (undriven (repeated_when r d)) ≡ earliest start (when (is_undriven r (reach (template_reading S bs d))) d)
   item_by_itself true d =
       let t = template_reading S bs d in
-      first_of_one (not (drives 0 t)) d ∙ ap (λ (b : Bool). first (when b d)) (ap not (drives-reach 0 t) ∙ none_driven (reach t))
+      earliest_of_one (not (drives 0 t)) d ∙ ap (λ (b : Bool). earliest start (when b d)) (ap not (drives-reach 0 t) ∙ none_driven (reach t))
     where
-      first_of_one : (b : Bool) (e : Sexp) → first (when b e ++ []) ≡ first (when b e)
-      first_of_one true e = refl
-      first_of_one false e = refl
+      earliest_of_one : (b : Bool) (e : Sexp) → earliest start (when b e ++ []) ≡ earliest start (when b e)
+      earliest_of_one true e = refl
+      earliest_of_one false e = refl
   item_by_itself false d = refl
 
   -- an item that is a template, before others
-  first_item : (b r : Bool) (d : Sexp) (ps : List TemplatePart) → b ≡ true
-      → first (undriven (item_parts S bs 0 b r d ++ ps))
-      ≡ or_else (or_else (first (when (is_undriven r (reach (template_reading S bs d))) d)) (first (undriven (template_parts S bs 0 d)))) (first (undriven ps))
-  first_item true r d ps e =
-      first_both (repeated_when r d ++ template_parts S bs (deeper r 0) d) ps
-      ∙ ap (λ (o : Option Sexp). or_else o (first (undriven ps)))
-      (first_both (repeated_when r d) (template_parts S bs (deeper r 0) d)
-      ∙ (λ i. or_else (item_by_itself r d i) (first (undriven-anywhere (deeper r 0) 0 d i))))
-  first_item false r d ps e = absurd cc
+  earliest_item : (b r : Bool) (d : Sexp) (ps : List TemplatePart) → b ≡ true
+      → earliest start (undriven (item_parts S bs 0 b r d ++ ps))
+      ≡ lesser start (lesser start (earliest start (when (is_undriven r (reach (template_reading S bs d))) d)) (earliest start (undriven (template_parts S bs 0 d)))) (earliest start (undriven ps))
+  earliest_item true r d ps e =
+      earliest_both (repeated_when r d ++ template_parts S bs (deeper r 0) d) ps
+      ∙ ap (λ (o : Option Sexp). lesser start o (earliest start (undriven ps)))
+      (earliest_both (repeated_when r d) (template_parts S bs (deeper r 0) d)
+      ∙ (λ i. lesser start (item_by_itself r d i) (earliest start (undriven-anywhere (deeper r 0) 0 d i))))
+  earliest_item false r d ps e = absurd cc
 
   -- another item before them
-  first_other : (b r : Bool) (d : Sexp) (ps : List TemplatePart) → b ≡ false → first (undriven (item_parts S bs 0 b r d ++ ps)) ≡ first (undriven ps)
-  first_other true r d ps e = absurd cc
-  first_other false r d ps e = refl
+  earliest_other : (b r : Bool) (d : Sexp) (ps : List TemplatePart) → b ≡ false → earliest start (undriven (item_parts S bs 0 b r d ++ ps)) ≡ earliest start (undriven ps)
+  earliest_other true r d ps e = absurd cc
+  earliest_other false r d ps e = refl
 
   -- from a template on
   pub undriven-template : (rs : Roles) (ds : List Sexp) (i : ℕ) (d : Sexp) → i < length ds → d ≡ get_or ds i d → is_pattern (next rs d) ≡ true
-      → first (undriven_parts S bs (parts_among S bs 0 rs (sexps (drop i ds))))
-      ≡ or_else
-      (or_else (first (when (is_undriven (is_repeated (rest rs d) (sexps (drop (i + 1) ds))) (reach (template_reading S bs d))) d)) (first (undriven_parts S bs (template_parts S bs 0 d))))
-      (first (undriven_parts S bs (parts_among S bs 0 (rest rs d) (sexps (drop (i + 1) ds)))))
+      → earliest start (undriven_parts S bs (parts_among S bs 0 rs (sexps (drop i ds))))
+      ≡ lesser start
+      (lesser start (earliest start (when (is_undriven (is_repeated (rest rs d) (sexps (drop (i + 1) ds))) (reach (template_reading S bs d))) d)) (earliest start (undriven_parts S bs (template_parts S bs 0 d))))
+      (earliest start (undriven_parts S bs (parts_among S bs 0 (rest rs d) (sexps (drop (i + 1) ds)))))
   undriven-template rs ds i d h e f =
-      ap (λ (ps : List TemplatePart). first (undriven ps)) (parts-at S bs 0 rs ds i d h e)
-      ∙ first_item (is_pattern (next rs d)) (is_repeated (rest rs d) (sexps (drop (i + 1) ds))) d (parts_among S bs 0 (rest rs d) (sexps (drop (i + 1) ds))) f
+      ap (λ (ps : List TemplatePart). earliest start (undriven ps)) (parts-at S bs 0 rs ds i d h e)
+      ∙ earliest_item (is_pattern (next rs d)) (is_repeated (rest rs d) (sexps (drop (i + 1) ds))) d (parts_among S bs 0 (rest rs d) (sexps (drop (i + 1) ds))) f
 
   -- from another item on
   pub undriven-other : (rs : Roles) (ds : List Sexp) (i : ℕ) (d : Sexp) → i < length ds → d ≡ get_or ds i d → is_pattern (next rs d) ≡ false
-      → first (undriven_parts S bs (parts_among S bs 0 rs (sexps (drop i ds)))) ≡ first (undriven_parts S bs (parts_among S bs 0 (rest rs d) (sexps (drop (i + 1) ds))))
+      → earliest start (undriven_parts S bs (parts_among S bs 0 rs (sexps (drop i ds)))) ≡ earliest start (undriven_parts S bs (parts_among S bs 0 (rest rs d) (sexps (drop (i + 1) ds))))
   undriven-other rs ds i d h e f =
-      ap (λ (ps : List TemplatePart). first (undriven ps)) (parts-at S bs 0 rs ds i d h e)
-      ∙ first_other (is_pattern (next rs d)) (is_repeated (rest rs d) (sexps (drop (i + 1) ds))) d (parts_among S bs 0 (rest rs d) (sexps (drop (i + 1) ds))) f
+      ap (λ (ps : List TemplatePart). earliest start (undriven ps)) (parts-at S bs 0 rs ds i d h e)
+      ∙ earliest_other (is_pattern (next rs d)) (is_repeated (rest rs d) (sexps (drop (i + 1) ds))) d (parts_among S bs 0 (rest rs d) (sexps (drop (i + 1) ds))) f
 
   -- from a host expression on
   pub undriven-host : (ds : List Sexp) (i : ℕ) (d : Sexp) → i < length ds → d ≡ get_or ds i d
-      → first (undriven_parts S bs (host_parts_among S bs 0 (sexps (drop i ds))))
-      ≡ or_else (first (undriven_parts S bs (host_parts S bs 0 d))) (first (undriven_parts S bs (host_parts_among S bs 0 (sexps (drop (i + 1) ds)))))
+      → earliest start (undriven_parts S bs (host_parts_among S bs 0 (sexps (drop i ds))))
+      ≡ lesser start (earliest start (undriven_parts S bs (host_parts S bs 0 d))) (earliest start (undriven_parts S bs (host_parts_among S bs 0 (sexps (drop (i + 1) ds)))))
   undriven-host ds i d h e =
-      ap (λ es. first (undriven (host_parts_among S bs 0 (sexps es)))) (drop-at ds i d h e)
-      ∙ first_both (host_parts S bs 0 d) (host_parts_among S bs 0 (sexps (drop (i + 1) ds)))
+      ap (λ es. earliest start (undriven (host_parts_among S bs 0 (sexps es)))) (drop-at ds i d h e)
+      ∙ earliest_both (host_parts S bs 0 d) (host_parts_among S bs 0 (sexps (drop (i + 1) ds)))

@@ -14,12 +14,13 @@ use Rattle.rdx_grammar.specs.Occurrences.{deeper}
 use Rattle.rdx_grammar.specs.Parts.{is_symbol, is_word, text_of}
 use Rattle.rdx_grammar.specs.PatternChecks.{when}
 use Rattle.rdx_grammar.specs.Reading.{is_pattern}
-use Rattle.rdx_grammar.specs.Refusal.{unnamed, named, first}
+use Rattle.rdx_grammar.specs.Refusal.{unnamed, named}
 use Rattle.rdx_grammar.specs.Unbuilt.{unbuilt_at}
 use Rattle.rdx_grammar.specs.declared.shape.fault.DefKind.TheVariants.{Shape, BadPattern, EllipsisDepth, EllipsisVariable, RacketEscape}
 use Rattle.rdx_grammar.proofs.Booleans.{and_true, and_both, and_not_both}
-use Rattle.rdx_grammar.proofs.Firsts.{nothing, none_both, none_first, none_of}
+use Rattle.rdx_grammar.proofs.Firsts.{none_both, none_first, none_of}
 use Rattle.rdx_defs.specs.Bound.{Bound, depth_of, is_bound}
+use Rattle.rdx_defs.specs.Earliest.{earliest, start}
 use Rattle.rdx_defs.specs.HostHeads.{HostHead, quoting, applying, all_of, some_of, miscounted, foreign, host_head}
 use Rattle.rdx_defs.specs.Scope.{Scope, has_metafunction}
 use Rattle.rdx_defs.specs.TemplateChecks.{bad_part, bad_parts, are_fewer, shallow_part, shallow_parts, undriven_part, undriven_parts, escapes}
@@ -29,6 +30,7 @@ use Rattle.rdx_defs.specs.TemplateReading.{by_depth, symbol_template, with_templ
 use Rattle.rdx_defs.specs.TemplateRefusal.{parts_refusal, template_refusal, host_refusal}
 use Rattle.rdx_defs.specs.TemplateShapes.{template_shapes, host_shapes}
 use Rattle.rdx_defs.proofs.Depths.{depth-bound}
+use Rattle.rdx_defs.proofs.EarliestPlaces.{earliest-none}
 use Rattle.rdx_defs.proofs.ItemTests.{item_parts}
 
 -- where nothing comes of two lists, nothing comes of either
@@ -215,19 +217,19 @@ module _ (S : Scope) (bs : Bound) where
   -- where no check refuses, each lets all pass
   passed : (ds : List Sexp) (ps : List TemplatePart) → parts_refusal S bs ds ps ≡ None → Passes S bs (is_bound bs) first_depth ps
   passed ds ps e =
-      let shape = option_map (unnamed Shape) (first ds) in
-      let bad = option_map (unnamed BadPattern) (first (bad_parts ps)) in
-      let shallow = option_map (named EllipsisDepth) (first (shallow_parts bs ps)) in
-      let undriven = option_map (unnamed EllipsisVariable) (first (undriven_parts S bs ps)) in
-      let escaped = option_map (unnamed RacketEscape) (first (escapes ps)) in
+      let shape = option_map (unnamed Shape) (earliest start ds) in
+      let bad = option_map (unnamed BadPattern) (earliest start (bad_parts ps)) in
+      let shallow = option_map (named EllipsisDepth) (earliest start (shallow_parts bs ps)) in
+      let undriven = option_map (unnamed EllipsisVariable) (earliest start (undriven_parts S bs ps)) in
+      let escaped = option_map (unnamed RacketEscape) (earliest start (escapes ps)) in
       let later = none_of shape (bad ∷ shallow ∷ undriven ∷ escaped ∷ []) e in
       let deep = none_of bad (shallow ∷ undriven ∷ escaped ∷ []) later.1 in
       let driven = none_of shallow (undriven ∷ escaped ∷ []) deep.1 in
       let last = none_of undriven (escaped ∷ []) driven.1 in
       record {
-        bad = nothing (unnamed BadPattern) (bad_parts ps) deep.0;
-        shallow = nothing (named EllipsisDepth) (shallow_parts bs ps) driven.0;
-        undriven = nothing (unnamed EllipsisVariable) (undriven_parts S bs ps) last.0;
+        bad = earliest-none start (unnamed BadPattern) (bad_parts ps) deep.0;
+        shallow = earliest-none start (named EllipsisDepth) (shallow_parts bs ps) driven.0;
+        undriven = earliest-none start (unnamed EllipsisVariable) (undriven_parts S bs ps) last.0;
       }
 
   -- a datum that no check refuses as a template

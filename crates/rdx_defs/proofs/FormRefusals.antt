@@ -2,13 +2,15 @@
 use Rattle.std.proofs.Common.{◌≡◌, ◌++◌, ◌∙◌, ℕ, List, [], ◌∷◌, Option, Some, None, map, refl, sym, ap}
 use Rattle.std.specs.Prelude.{option_map}
 use Rattle.rdx_sexp.specs.Sexp.{Sexp}
-use Rattle.rdx_grammar.specs.Refusal.{Refusal, unnamed, named, first, or_else, first_refusal}
+use Rattle.rdx_grammar.specs.Refusal.{Refusal, unnamed, named, or_else, first_refusal}
 use Rattle.rdx_grammar.specs.Unbuilt.{unbuilt_at}
 use Rattle.rdx_grammar.specs.declared.shape.fault.DefKind.TheVariants.{Shape, BadName, BadPattern, EllipsisDepth, UnknownName, EllipsisVariable, RacketEscape}
-use Rattle.rdx_grammar.proofs.Firsts.{nothing, none_of}
+use Rattle.rdx_grammar.proofs.Firsts.{none_of}
+use Rattle.rdx_defs.specs.Earliest.{start, earliest}
 use Rattle.rdx_defs.specs.Inside.BareStands as bare_stands
 use Rattle.rdx_defs.specs.Inside.Branches.{Outline, relation_outline, metafunction_outline, judgement_outline, question_outline}
 use Rattle.rdx_defs.specs.Inside.ByNames.{outline_faults}
+use Rattle.rdx_defs.specs.Inside.ExpandedAnswers.{expanded_refusal}
 use Rattle.rdx_defs.specs.Inside.FormRefusals.{early_refusal, late_refusal, form_refusal}
 use Rattle.rdx_defs.specs.Inside.NamesAgain.{names_again}
 use Rattle.rdx_defs.specs.JudgementForms.{JudgementForm, judgement_form}
@@ -19,14 +21,15 @@ use Rattle.rdx_defs.specs.MetafunctionRefusal.{metafunction_refusal}
 use Rattle.rdx_defs.specs.MetafunctionStands.{clause_stands, clauses_stand, function_stands, metafunction_stands}
 use Rattle.rdx_defs.specs.RelationForms.{RelationForm, relation_form}
 use Rattle.rdx_defs.specs.RelationRefusal.{relation_refusal}
-use Rattle.rdx_defs.specs.RelationStands.{relation_stands}
+use Rattle.rdx_defs.specs.RelationStands.{expanded_stands, shortcuts_stand, relation_stands}
 use Rattle.rdx_defs.specs.Scope.{Scope}
-use Rattle.rdx_defs.specs.StandChecks.{shape_faults, shape_at, repeated_names, repeated_at, repeated_name_at, bad_names, bad_name_at, bad_places, bad_place_at, depth_faults, depth_fault_at, unknown_names, unknown_name_at, undriven_places, undriven_at, escape_at, mode_faults, misfit_at, mode_fault_at}
+use Rattle.rdx_defs.specs.StandChecks.{shape_faults, shape_at, repeated_names, repeated_at, repeated_name_at, bad_names, bad_name_at, bad_places, bad_place_at, depth_faults, depth_fault_at, unknown_names, unknown_name_at, undriven_places, undriven_at, escape_at, mode_faults, misfit_start, misfit_at, mode_fault_at}
 use Rattle.rdx_defs.specs.StandRefusal.{stands_refusal}
 use Rattle.rdx_defs.specs.Stands.{Stand}
 use Rattle.rdx_defs.specs.declared.stands.faults.Check.{Check}
 use Rattle.rdx_defs.specs.declared.stands.faults.Check.TheVariants.{Places, Depths, Driving, Escapes}
 use Rattle.rdx_defs.proofs.BareChecks.{bare, bare-relation, bare-function, bare-judgement, bare-question, shapes-bare, bad_names-bare, unknown_names-bare, mode_faults-bare}
+use Rattle.rdx_defs.proofs.EarliestPlaces.{earliest-none}
 use Rattle.rdx_defs.proofs.RepeatedNames.{again-bare, bound_places, places-none}
 use Rattle.rdx_defs.proofs.TrackedNames.{relation-again, function-again, judgement-again, question-again}
 use Rattle.rdx_defs.proofs.NamesBound.{faults, relation-faults, function-faults, judgement-faults, question-faults}
@@ -39,7 +42,7 @@ after_three None None (Some c) os = refl
 after_three None None None os = refl
 
 -- nothing behind
-alone : {A : Type 0} (o : Option A) → or_else o None ≡ o
+pub alone : {A : Type 0} (o : Option A) → or_else o None ≡ o
 alone None = refl
 alone (Some x) = refl
 
@@ -57,9 +60,9 @@ module _ (S : Scope) (ns : List (List ℕ)) (ss rs : List Stand) (o : Outline) (
   early =
       (λ i.
       first_refusal
-      (option_map (unnamed Shape) (first (sym (shapes-bare ss) i))
-      ∷ option_map repeated_at (first ((again ∙ sym (again-bare ns [] [] ss)) i))
-      ∷ option_map (named BadName) (first (sym (bad_names-bare ss) i))
+      (option_map (unnamed Shape) (earliest start (sym (shapes-bare ss) i))
+      ∷ option_map repeated_at (earliest start ((again ∙ sym (again-bare ns [] [] ss)) i))
+      ∷ option_map (named BadName) (earliest start (sym (bad_names-bare ss) i))
       ∷ []))
       ∙ ap (early_refusal ns) same
 
@@ -68,12 +71,12 @@ module _ (S : Scope) (ns : List (List ℕ)) (ss rs : List Stand) (o : Outline) (
   late =
       (λ i.
       first_refusal
-      (option_map (unnamed BadPattern) (first (alike Places i))
-      ∷ option_map (named EllipsisDepth) (first (alike Depths i))
-      ∷ option_map (named UnknownName) (first (sym (unknown_names-bare S ss) i))
-      ∷ option_map (unnamed EllipsisVariable) (first (alike Driving i))
-      ∷ option_map (unnamed RacketEscape) (first (alike Escapes i))
-      ∷ option_map misfit_at (first (sym (mode_faults-bare ss) i))
+      (option_map (unnamed BadPattern) (earliest start (alike Places i))
+      ∷ option_map (named EllipsisDepth) (earliest start (alike Depths i))
+      ∷ option_map (named UnknownName) (earliest start (sym (unknown_names-bare S ss) i))
+      ∷ option_map (unnamed EllipsisVariable) (earliest start (alike Driving i))
+      ∷ option_map (unnamed RacketEscape) (earliest start (alike Escapes i))
+      ∷ option_map misfit_at (earliest misfit_start (sym (mode_faults-bare ss) i))
       ∷ []))
       ∙ ap (λ (us : List Stand). late_refusal S ns us o) same
 
@@ -85,14 +88,12 @@ module _ (S : Scope) (ns : List (List ℕ)) (ss rs : List Stand) (o : Outline) (
 
 -- ---- relations
 
--- where nothing is unbuilt
-pub relation-refused : (S : Scope) (ns : List (List ℕ)) (d : Sexp) (r : RelationForm) → unbuilt_at d ≡ None → relation_form d ≡ Some r
-    → relation_refusal S ns d ≡ form_refusal S ns (bare_stands.relation_stands S r) (relation_outline r)
-relation-refused S ns d r u e =
-    let ss = relation_stands S ns d (Some r) in
-    (λ i. first_refusal (u i ∷ stands_refusal S ns (relation_stands S ns d (e i)) ∷ []))
-    ∙ alone (stands_refusal S ns ss)
-    ∙ form-refused S ns ss (bare_stands.relation_stands S r) (relation_outline r) (bare-relation S ns d r) (relation-again S ns d r) (λ k. relation-faults k S ns d r)
+-- one without shorthand, which was written with these shortcuts
+pub relation-refused : (S : Scope) (ns : List (List ℕ)) (r : RelationForm) (ds : List Sexp)
+    → expanded_refusal S ns r ds ≡ form_refusal S ns (bare_stands.relation_stands S r ds) (relation_outline r)
+relation-refused S ns r ds =
+    form-refused S ns (expanded_stands S ns r ++ shortcuts_stand [] ds) (bare_stands.relation_stands S r ds) (relation_outline r) (bare-relation S ns r ds) (relation-again S ns r ds)
+    (λ k. relation-faults k S ns r ds)
 
 -- without the parts of a relation
 pub no-relation : (S : Scope) (ns : List (List ℕ)) (d : Sexp) → relation_form d ≡ None → relation_refusal S ns d ≡ or_else (unbuilt_at d) (Some (unnamed Shape d))
@@ -150,11 +151,11 @@ question-refused S ns d t =
 pub early-names : (ns : List (List ℕ)) (ss : List Stand) → early_refusal ns ss ≡ None → bad_names ss ≡ []
 early-names ns ss e =
     let shape = shape_at ss in
-    let again = option_map repeated_at (first (names_again ns [] [] ss)) in
+    let again = option_map repeated_at (earliest start (names_again ns [] [] ss)) in
     let bad = bad_name_at ss in
     let a = none_of shape (again ∷ bad ∷ []) e in
     let b = none_of again (bad ∷ []) a.1 in
-    nothing (named BadName) (bad_names ss) (none_of bad [] b.1).0
+    earliest-none start (named BadName) (bad_names ss) (none_of bad [] b.1).0
 
 -- what no check refuses
 pub record ArePassed (S : Scope) (ns : List (List ℕ)) (ss : List Stand) : Type 0 where
@@ -180,22 +181,20 @@ stands-passed S ns ss e =
     let k = none_of (escape_at S ss) (mode_fault_at ss ∷ []) h.1 in
     let l = none_of (mode_fault_at ss) [] k.1 in
     record {
-      shapes = nothing (unnamed Shape) (shape_faults ss) a.0;
-      made = places-none [] ss (nothing repeated_at (repeated_names [] ss) b.0);
-      names = nothing (named BadName) (bad_names ss) c.0;
-      places = nothing (unnamed BadPattern) (bad_places S ns ss) d.0;
-      depths = nothing (named EllipsisDepth) (depth_faults S ns ss) f.0;
-      known = nothing (named UnknownName) (unknown_names S ss) g.0;
-      driving = nothing (unnamed EllipsisVariable) (undriven_places S ss) h.0;
-      modes = nothing misfit_at (mode_faults ss) l.0;
+      shapes = earliest-none start (unnamed Shape) (shape_faults ss) a.0;
+      made = places-none [] ss (earliest-none start repeated_at (repeated_names [] ss) b.0);
+      names = earliest-none start (named BadName) (bad_names ss) c.0;
+      places = earliest-none start (unnamed BadPattern) (bad_places S ns ss) d.0;
+      depths = earliest-none start (named EllipsisDepth) (depth_faults S ns ss) f.0;
+      known = earliest-none start (named UnknownName) (unknown_names S ss) g.0;
+      driving = earliest-none start (unnamed EllipsisVariable) (undriven_places S ss) h.0;
+      modes = earliest-none misfit_start misfit_at (mode_faults ss) l.0;
     }
 
--- a relation that is not refused
-pub relation-passed : (S : Scope) (ns : List (List ℕ)) (d : Sexp) (r : RelationForm) → relation_form d ≡ Some r → relation_refusal S ns d ≡ None → ArePassed S ns (relation_stands S ns d (Some r))
-relation-passed S ns d r e f =
-    let a = none_of (unbuilt_at d) (stands_refusal S ns (relation_stands S ns d (relation_form d)) ∷ []) f in
-    let b = none_of (stands_refusal S ns (relation_stands S ns d (relation_form d))) [] a.1 in
-    stands-passed S ns (relation_stands S ns d (Some r)) (ap (λ (o : Option RelationForm). stands_refusal S ns (relation_stands S ns d o)) (sym e) ∙ b.0)
+-- a relation without shorthand that is not refused
+pub relation-passed : (S : Scope) (ns : List (List ℕ)) (r : RelationForm) (ds : List Sexp) → expanded_refusal S ns r ds ≡ None
+    → ArePassed S ns (expanded_stands S ns r ++ shortcuts_stand [] ds)
+relation-passed S ns r ds = stands-passed S ns (expanded_stands S ns r ++ shortcuts_stand [] ds)
 
 -- a metafunction
 pub metafunction-passed : (S : Scope) (ns : List (List ℕ)) (d : Sexp) (m : MetafunctionForm) → metafunction_form d ≡ Some m → metafunction_refusal S ns d ≡ None

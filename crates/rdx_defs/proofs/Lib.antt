@@ -16,7 +16,10 @@ pub mod PartsAt
 pub mod ArgumentReadings
 pub mod LoneStands
 pub mod NamesBound
-pub mod FirstClash
+pub mod EarliestPlaces
+pub mod LonePlaces
+pub mod OtherDepths
+pub mod AlikeSymbols
 pub mod Labels
 pub mod BareChecks
 pub mod RepeatedNames
@@ -46,3 +49,14 @@ pub mod PassedForms
 pub mod ReadJudgements
 pub mod ScopeParts
 pub mod ScopeForms
+pub mod ShorthandCuts
+pub mod ArrowPlaces
+pub mod ShorthandRefused
+pub mod NestedShortcuts
+pub mod CopiedDepths
+pub mod SpelledCases
+pub mod ShortcutStands
+pub mod RelationAsks
+pub mod PlainRelations
+pub mod ExpandedRelations
+pub mod ExpandedCases

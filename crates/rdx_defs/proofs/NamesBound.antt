@@ -6,10 +6,10 @@ use Rattle.std.specs.List.{list_any}
 use Rattle.std.specs.Prelude.{◌||◌, Option, Some, None, flat_map, bytes_eq, codes, if◌then◌else◌}
 use Rattle.rdx_sexp.specs.Sexp.{Sexp}
 use Rattle.rdx_lang.specs.Programs.{Extra, Mode}
+use Rattle.rdx_grammar.specs.Kinds.{is_among}
 use Rattle.rdx_grammar.specs.Occurrences.{Occurrence, occurrences}
 use Rattle.rdx_grammar.specs.Parts.{text_of}
 use Rattle.rdx_grammar.specs.PatternChecks as patterns
-use Rattle.rdx_grammar.specs.PatternChecks.{when, differ, clashes}
 use Rattle.rdx_defs.specs.Arguments.{Arguments, is_misfit, patterns_in}
 use Rattle.rdx_defs.specs.Bound.{Bound}
 use Rattle.rdx_defs.specs.ExtraForms.{ExtraForm, such_that, provided, confirmed, holding, freshly, name, no_extra, ExtraPlace, of_rule, form_at}
@@ -18,7 +18,7 @@ use Rattle.rdx_defs.specs.Headed.{Headed, headed}
 use Rattle.rdx_defs.specs.Inside.BareStands.{lone_pattern}
 use Rattle.rdx_defs.specs.Inside.Branches.{Branch, taken_occurrences, bound_by_taken, bound_by_branch, case_branch, in_case, case_branches, domain_patterns, relation_outline, clause_branch, own_clause, in_clause, clause_branches, contract_patterns, metafunction_outline, RuleBranch, rule_branch, in_rule, rule_branches, given_patterns, option_patterns, options_patterns, judgement_outline, question_outline}
 use Rattle.rdx_defs.specs.Inside.ByNames as by_names
-use Rattle.rdx_defs.specs.Inside.ByNames.{patterns_names, premise_names, fresh_names, extra_names, extras_names, branch_names, input_names, rule_names, are_apart, clashes_with, pattern_faults, template_faults, host_faults, flagged_faults, faults_by, arguments_faults, premise_faults, extra_faults, extras_faults, branch_faults, branches_faults, lone_faults, alone_faults, conclusion_faults, premises_faults, rules_faults, result_faults, question_faults, outline_faults}
+use Rattle.rdx_defs.specs.Inside.ByNames.{patterns_names, premise_names, fresh_names, extra_names, extras_names, branch_names, input_names, rule_names, pattern_faults, template_faults, host_faults, flagged_faults, faults_by, arguments_faults, premise_faults, extra_faults, extras_faults, branch_faults, branches_faults, lone_faults, alone_faults, conclusion_faults, premises_faults, rules_faults, result_faults, question_faults, outline_faults}
 use Rattle.rdx_defs.specs.JudgementForms.{RuleForm, rule_form, own_rule, OptionForm, JudgementForm, judgement_in, mode_form, own_mode, is_flag, key_text, is_fit_option}
 use Rattle.rdx_defs.specs.JudgementRefusal.{result_stands, lone_premise_stands}
 use Rattle.rdx_defs.specs.JudgementStands as judgements
@@ -26,10 +26,11 @@ use Rattle.rdx_defs.specs.JudgementStands.{rule_arguments, bound_by_inputs, boun
 use Rattle.rdx_defs.specs.MetafunctionForms.{ClauseForm, clause_form, ContractForm, MetafunctionForm}
 use Rattle.rdx_defs.specs.MetafunctionStands.{clause_stands, clauses_stand, contract_stands, function_stands}
 use Rattle.rdx_defs.specs.RelationForms.{CaseForm, case_form, RelationForm, is_keyword}
-use Rattle.rdx_defs.specs.RelationStands.{case_stands, cases_stand, domain_stands, relation_stands}
+use Rattle.rdx_defs.specs.RelationStands.{case_stands, cases_stand, domain_stands, expanded_stands, shortcut_stands, arrows_with, shortcuts_stand}
 use Rattle.rdx_defs.specs.Scope.{Scope, mode_of}
+use Rattle.rdx_defs.specs.Shorthand.{Shortcut, shortcut_form, is_known_arrow}
 use Rattle.rdx_defs.specs.StandChecks.{bad_place, depth_fault, undriven_place, escape_place}
-use Rattle.rdx_defs.specs.Stands.{Stand, misshaped, function, judgement, asked, arrow, pattern, template, condition, misfit, fresh, named, bound_among, bound_in, names_bound, bound_by_patterns, flagged_stand, plain_argument, arguments_by, arguments_stand, misfits, premise_arguments, held_stands, bound_by_premise, bound_freshly, fresh_stands, bound_by_extra, bound_by_extras, extra_stands, is_named, extras_stand}
+use Rattle.rdx_defs.specs.Stands.{Stand, misshaped, function, judgement, asked, arrow, pattern, template, condition, misfit, fresh, named, repeated, bound_in, names_bound, bound_by_patterns, flagged_stand, plain_argument, arguments_by, arguments_stand, misfits, premise_arguments, held_stands, bound_by_premise, bound_freshly, fresh_stands, bound_by_extra, bound_by_extras, extra_stands, is_named, extras_stand}
 use Rattle.rdx_defs.specs.declared.stands.faults.Check.{Check}
 use Rattle.rdx_defs.specs.declared.stands.faults.Check.TheVariants.{Places, Depths, Driving, Escapes}
 use Rattle.rdx_defs.proofs.LoneStands.{branch_stands, contract-lone, domain-lone}
@@ -38,7 +39,7 @@ use Rattle.rdx_defs.proofs.LoneStands.{branch_stands, contract-lone, domain-lone
 abbrev pub named_at : patterns.Bound → List ℕ × ℕ
 named_at b = (text_of b.symbol, b.depth)
 
--- ---- symbols at other depths
+-- ---- tests
 
 -- a test that one of both lists passes
 pub any-append : {A : Type 0} (test : A → Bool) (xs ys : List A) → list_any test (xs ++ ys) ≡ (list_any test xs || list_any test ys)
@@ -55,24 +56,6 @@ or_flip true true = refl
 or_flip true false = refl
 or_flip false true = refl
 or_flip false false = refl
-
--- a symbol differs from those that bind these names
-differ-names : (b : patterns.Bound) (cs : List patterns.Bound) → list_any (differ b) cs ≡ list_any (are_apart (named_at b)) (names_bound cs)
-differ-names b [] = refl
-differ-names b (c ∷ cs) = ap (λ x. differ b c || x) (differ-names b cs)
-
--- where the same ones differ, the same ones clash
-clashes-alike : (cs : List patterns.Bound) (es : Bound) (bs : List patterns.Bound)
-    → ((b : patterns.Bound) → list_any (differ b) cs ≡ list_any (are_apart (named_at b)) es) → clashes cs bs ≡ clashes_with es bs
-clashes-alike cs es [] h = refl
-clashes-alike cs es (b ∷ bs) h =
-    λ i. when (h b i) b.symbol
-    ++ clashes-alike (b ∷ cs) (es ++ named_at b ∷ []) bs
-    (λ x. ap (λ y. differ x b || y) (h x) ∙ or_flip (differ x b) (list_any (are_apart (named_at x)) es) ∙ sym (any-append (are_apart (named_at x)) es (named_at b ∷ []))) i
-
--- so they do behind symbols that bind these names
-pub clashes-names : (cs bs : List patterns.Bound) → clashes cs bs ≡ clashes_with (names_bound cs) bs
-clashes-names cs bs = clashes-alike cs (names_bound cs) bs (λ b. differ-names b cs)
 
 -- ---- places at which a check refuses
 
@@ -209,7 +192,7 @@ module _ (k : Check) (S : Scope) (ns : List (List ℕ)) where
     where
       by_check : (j : Check) → fault j S ns (pattern bs os) ≡ pattern_faults j ns (names_bound bs) os
       by_check Places = refl
-      by_check Depths = clashes-names bs (bound_among ns os)
+      by_check Depths = refl
       by_check Driving = refl
       by_check Escapes = refl
 
@@ -336,13 +319,44 @@ module _ (k : Check) (S : Scope) (ns : List (List ℕ)) where
       (branches_faults k S ns (case_branches ds)) (case-faults d (case_form d)) (cases-faults ds)
       ∙ sym (branches-append (in_case (case_form d)) (case_branches ds))
 
-  -- in a form
-  pub relation-faults : (d : Sexp) (r : RelationForm) → faults k S ns (relation_stands S ns d (Some r)) ≡ outline_faults k S ns (relation_outline r)
-  relation-faults d r =
+  -- in an arrow of a shortcut that is none
+  arrow-none : (b : Bool) (d : Sexp) → faults k S ns (if b then [] else arrow d ∷ []) ≡ []
+  arrow-none true d = refl
+  arrow-none false d = only (arrow d) [] (passed (arrow d) refl refl refl refl)
+
+  -- in one that comes again
+  repeated-none : (b : Bool) (d : Sexp) → faults k S ns (if b then repeated d ∷ [] else []) ≡ []
+  repeated-none true d = only (repeated d) [] (passed (repeated d) refl refl refl refl)
+  repeated-none false d = refl
+
+  -- in a shortcut
+  shortcut-none : (seen : List (List ℕ)) (d : Sexp) (o : Option Shortcut) → faults k S ns (shortcut_stands seen d o) ≡ []
+  shortcut-none seen d None = misshaped-none d
+  shortcut-none seen d (Some s) =
+      let b = is_known_arrow seen s.old in
+      let c = is_among seen (text_of s.new) in
+      faults-both (if b then [] else arrow s.old ∷ []) (if c then repeated s.new ∷ [] else []) [] [] (arrow-none b s.old) (repeated-none c s.new)
+
+  -- in shortcuts
+  shortcuts-none : (seen : List (List ℕ)) (ds : List Sexp) → faults k S ns (shortcuts_stand seen ds) ≡ []
+  shortcuts-none seen [] = refl
+  shortcuts-none seen (d ∷ ds) =
+      let o = shortcut_form d in
+      faults-both (shortcut_stands seen d o) (shortcuts_stand (arrows_with seen o) ds) [] [] (shortcut-none seen d o) (shortcuts-none (arrows_with seen o) ds)
+
+  -- in a form without shorthand
+  expanded-faults : (r : RelationForm) → faults k S ns (expanded_stands S ns r) ≡ outline_faults k S ns (relation_outline r)
+  expanded-faults r =
       let bs = branches_faults k S ns (case_branches r.cases) in
       faults-both (domain_stands r.domain) (cases_stand S ns r.cases) (alone_faults k ns (domain_patterns r.domain)) (bs ++ [])
       (ap (λ (ss : List Stand). faults k S ns ss) (domain-lone r.domain) ∙ alone-faults (domain_patterns r.domain))
       (cases-faults r.cases ∙ sym (append-nil bs))
+
+  -- and with shortcuts behind it
+  pub relation-faults : (r : RelationForm) (ds : List Sexp) → faults k S ns (expanded_stands S ns r ++ shortcuts_stand [] ds) ≡ outline_faults k S ns (relation_outline r)
+  relation-faults r ds =
+      faults-both (expanded_stands S ns r) (shortcuts_stand [] ds) (outline_faults k S ns (relation_outline r)) [] (expanded-faults r) (shortcuts-none [] ds)
+      ∙ append-nil (outline_faults k S ns (relation_outline r))
 
   -- ---- metafunctions
 

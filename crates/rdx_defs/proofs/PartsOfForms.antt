@@ -1,12 +1,11 @@
 -- What the parts of a form have by what each datum has, where that passes from a list to its items.
 use Rattle.std.proofs.Common.{◌≡◌, true, List, [], ◌∷◌, IsTrue}
 use Rattle.std.specs.Prelude.{Option, Some, None}
-use Rattle.rdx_sexp.specs.Sexp.{Sexp, Sexps, list, symbol}
+use Rattle.rdx_sexp.specs.Sexp.{Sexp, Sexps, list}
 use Rattle.rdx_term.specs.Spelling.{is_name}
-use Rattle.rdx_grammar.specs.Parts.{listed, parts, text_of, is_symbol}
+use Rattle.rdx_grammar.specs.Parts.{listed, text_of, is_symbol}
 use Rattle.rdx_grammar.specs.Readable.{IsReadable}
-use Rattle.rdx_defs.specs.ExtraForms.{name}
-use Rattle.rdx_defs.specs.Headed.{Headed, headed}
+use Rattle.rdx_defs.specs.Headed.{Headed}
 use Rattle.rdx_defs.specs.Inside.Branches.{Takes, one, several, each, domain_patterns}
 use Rattle.rdx_defs.specs.Inside.PartsHave.{Wanted, AreReadableItems, AreReadableSymbols, AreNames}
 use Rattle.rdx_defs.specs.JudgementForms.{RuleForm, OptionForm, JudgementForm}

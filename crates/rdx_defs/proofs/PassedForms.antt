@@ -24,10 +24,11 @@ use Rattle.rdx_defs.specs.MetafunctionForms.{MetafunctionForm, metafunction_form
 use Rattle.rdx_defs.specs.MetafunctionReading.{contract_reading, clauses_reading, text_in, metafunction_reading}
 use Rattle.rdx_defs.specs.MetafunctionRefusal.{metafunction_refusal}
 use Rattle.rdx_defs.specs.MetafunctionStands.{contract_stands, clauses_stand, function_stands}
-use Rattle.rdx_defs.specs.RelationForms.{RelationForm, relation_form}
-use Rattle.rdx_defs.specs.RelationReading.{relation_reading}
-use Rattle.rdx_defs.specs.RelationRefusal.{relation_refusal}
-use Rattle.rdx_defs.specs.RelationStands.{relation_stands}
+use Rattle.rdx_defs.specs.Inside.ExpandedAnswers.{expanded_refusal}
+use Rattle.rdx_defs.specs.RelationEnds.{expanded_ends}
+use Rattle.rdx_defs.specs.RelationForms.{RelationForm}
+use Rattle.rdx_defs.specs.RelationReading.{expanded_reading}
+use Rattle.rdx_defs.specs.RelationStands.{expanded_stands, shortcuts_stand}
 use Rattle.rdx_defs.specs.Scope.{Scope, callable}
 use Rattle.rdx_defs.specs.StandChecks.{is_bad_function, bad_names}
 use Rattle.rdx_defs.specs.Stands.{Stand}
@@ -35,9 +36,10 @@ use Rattle.rdx_defs.proofs.BareChecks.{bare-relation, bare-function, bare-judgem
 use Rattle.rdx_defs.proofs.AskingParts.{AsksWithin, asks-within, TakenWithin, within-inherited, BindsWithin, binds-within}
 use Rattle.rdx_defs.proofs.BoundParts.{can-bind, relation-binds, metafunction-binds, judgement-binds, question-binds}
 use Rattle.rdx_defs.proofs.FormRefusals.{ArePassed, no-contract, early-names, relation-passed, metafunction-passed, judgement-passed, question-passed, some-function}
-use Rattle.rdx_defs.proofs.InheritedParts.{relation-has, relation_outline-has, metafunction-has, metafunction_outline-has, function-named, function-name, judgement-has, mode-has, judgement_outline-has, question_outline-has}
-use Rattle.rdx_defs.proofs.PartsOfForms.{IsNamed, IsNamedIn}
+use Rattle.rdx_defs.proofs.InheritedParts.{relation_outline-has, metafunction-has, metafunction_outline-has, function-named, function-name, judgement-has, mode-has, judgement_outline-has, question_outline-has}
+use Rattle.rdx_defs.proofs.PartsOfForms.{IsNamed, IsNamedIn, RelationHas}
 use Rattle.rdx_defs.proofs.ReadableParts.{readable-inherited}
+use Rattle.rdx_defs.proofs.RelationAsks.{relation-asks}
 use Rattle.rdx_defs.proofs.ValidForms.{IsGoodMetafunction, relation-good, metafunction-good}
 use Rattle.rdx_defs.proofs.ValidJudgements.{IsValidJudgement, judgement-good, IsValidQuestion, question-good}
 
@@ -48,22 +50,24 @@ gained L d = crossed_for (ends_in d) L
 -- ---- relations
 
 -- where the early checks refuse nothing, what patterns bind are names
-pub relation-early : (S : Scope) (ns : List (List ℕ)) (d : Sexp) (r : RelationForm) (ss : List Stand) → IsReadable d → relation_form d ≡ Some r
-    → ss ≡ bare_stands.relation_stands S r → early_refusal ns ss ≡ None → OutlineHas S (can_bind ns) (relation_outline r)
-relation-early S ns d r ss h f q e =
-    relation-binds S IsReadableTaken (CanBind ns) (can-bind ns) r (early-names ns (bare_stands.relation_stands S r) (ap (early_refusal ns) (sym q) ∙ e)) (relation_outline-has IsReadable IsReadableTaken readable-inherited S r (relation-has IsReadable IsReadableTaken readable-inherited d r h f))
+pub relation-early : (S : Scope) (ns : List (List ℕ)) (r : RelationForm) (ds : List Sexp) (ss : List Stand) → RelationHas IsReadable r
+    → ss ≡ bare_stands.relation_stands S r ds → early_refusal ns ss ≡ None → OutlineHas S (can_bind ns) (relation_outline r)
+relation-early S ns r ds ss h q e =
+    relation-binds S IsReadableTaken (CanBind ns) (can-bind ns) r ds (early-names ns (bare_stands.relation_stands S r ds) (ap (early_refusal ns) (sym q) ∙ e))
+    (relation_outline-has IsReadable IsReadableTaken readable-inherited S r h)
 
 -- where no check refuses, its patterns are well formed, and it is valid
-pub relation-valid : (S : Scope) (L : Language) (d : Sexp) (r : RelationForm) (x : List ℕ) → IsReadable d → relation_form d ≡ Some r → relation_refusal S (names_of L) d ≡ None
-    → OutlineHas S (can_read S (gained L d) (names_of L)) (relation_outline r) × (is_valid_over (callable S) (Some (gained L d)) (relation_reading S (names_of L) x r) ≡ true)
-relation-valid S L d r x h f e =
+pub relation-valid : (S : Scope) (L : Language) (r : RelationForm) (ds : List Sexp) (x : List ℕ) → RelationHas IsReadable r → expanded_refusal S (names_of L) r ds ≡ None
+    → OutlineHas S (can_read S (crossed_for (expanded_ends r) L) (names_of L)) (relation_outline r)
+    × (is_valid_over (callable S) (Some (crossed_for (expanded_ends r) L)) (expanded_reading S (names_of L) x r) ≡ true)
+relation-valid S L r ds x h e =
     let ns = names_of L in
-    let ys = ends_in d in
-    let k = relation-passed S ns d r f e in
-    let parts = relation-has (AsksWithin ys) (TakenWithin ys) (within-inherited ys) d r (asks-within d h) f in
-    let o = relation_outline-has (AsksWithin ys) (TakenWithin ys) (within-inherited ys) S r parts in
-    let b : bad_names (bare_stands.relation_stands S r) ≡ [] = ap bad_names (sym (bare-relation S ns d r)) ∙ bad_names-bare (relation_stands S ns d (Some r)) ∙ k.names in
-    relation-good S L ys d r x (relation-binds S (TakenWithin ys) (BindsWithin ys ns) (binds-within ys ns) r b o) k
+    let ys = expanded_ends r in
+    let ss = expanded_stands S ns r ++ shortcuts_stand [] ds in
+    let k = relation-passed S ns r ds e in
+    let o = relation_outline-has (AsksWithin ys) (TakenWithin ys) (within-inherited ys) S r (relation-asks r h) in
+    let b : bad_names (bare_stands.relation_stands S r ds) ≡ [] = ap bad_names (sym (bare-relation S ns r ds)) ∙ bad_names-bare ss ∙ k.names in
+    relation-good S L ys r ds x (relation-binds S (TakenWithin ys) (BindsWithin ys ns) (binds-within ys ns) r ds b o) k
 
 -- ---- metafunctions
 

@@ -2,6 +2,7 @@
 use Rattle.std.proofs.Common.{◌≡◌, ◌++◌, ◌∙◌, ℕ, Bool, true, false, not, List, [], ◌∷◌, map, refl, sym, ap, subst, if◌then◌else◌}
 use Rattle.std.proofs.lemmas.Bool.{eqb-true}
 use Rattle.std.proofs.lemmas.Grind.{flat_map-append}
+use Rattle.std.proofs.lemmas.List.{map-append}
 use Rattle.std.specs.Cmp.Lexicographic.{bytes_decides}
 use Rattle.std.specs.List.{list_any, list_all}
 use Rattle.std.specs.Prelude.{◌&&◌, ◌||◌, Option, Some, None, option_map, is_some, length, flat_map, bytes_eq, nat_eq}
@@ -14,25 +15,26 @@ use Rattle.rdx_grammar.specs.Names.{begins_with_dots, is_bad_name}
 use Rattle.rdx_grammar.specs.Occurrences.{Occurrence, occurrences}
 use Rattle.rdx_grammar.specs.Parts.{text_of}
 use Rattle.rdx_grammar.specs.PatternChecks as patterns
-use Rattle.rdx_grammar.specs.PatternChecks.{keyword_faults, bad_binder, bad_binders, bad_occurrence, bad_occurrences, clashes}
+use Rattle.rdx_grammar.specs.PatternChecks.{keyword_faults, bad_binder, bad_binders, bad_occurrence, bad_occurrences}
 use Rattle.rdx_grammar.specs.declared.patterns.position.Position.TheVariants.{Query}
 use Rattle.rdx_grammar.proofs.Booleans.{and_true, and_both, or_true}
 use Rattle.rdx_grammar.proofs.DepthsRead.{bound_use}
 use Rattle.rdx_grammar.proofs.Firsts.{none_both, none_first}
 use Rattle.rdx_defs.specs.Arguments.{Arguments, fitting, is_misfit, data_at, data_by, patterns_in, templates_in}
-use Rattle.rdx_defs.specs.Bound.{is_bound}
+use Rattle.rdx_defs.specs.Bound.{Bound, is_bound}
 use Rattle.rdx_defs.specs.ExtraReading.{templates_reading}
 use Rattle.rdx_defs.specs.Scope.{Scope, has_metafunction, mode_of}
-use Rattle.rdx_defs.specs.StandChecks.{is_bound_as, shape_fault, shape_faults, bad_name, bad_names, bad_place, bad_places, depth_fault, depth_faults, unknown_name, unknown_names, undriven_place, undriven_places, mode_fault, mode_faults}
+use Rattle.rdx_defs.specs.StandChecks.{is_bound_as, shape_fault, shape_faults, bad_name, bad_names, bad_place, bad_places, other_depths, depth_fault, depth_faults, unknown_name, unknown_names, undriven_place, undriven_places, mode_fault, mode_faults}
 use Rattle.rdx_defs.specs.Stands.{Stand, asked, arrow, pattern, template, condition, fresh, bound_among, names_bound, bound_in, flagged_stand, arguments_by, arguments_stand, misfits}
 use Rattle.rdx_defs.specs.TemplateChecks.{bad_parts, shallow_parts, undriven_parts}
 use Rattle.rdx_defs.specs.TemplateOccurrences.{TemplatePart, template_parts, host_parts}
 use Rattle.rdx_defs.specs.TemplateReading.{template_reading, host_reading}
 use Rattle.rdx_defs.specs.TemplateShapes.{template_shapes}
-use Rattle.rdx_defs.proofs.AgreeingUses.{clashes-both}
 use Rattle.rdx_defs.proofs.Depths.{depth-bound}
 use Rattle.rdx_defs.proofs.Fitting.{template_fits, host_fits}
 use Rattle.rdx_defs.proofs.FormRefusals.{ArePassed}
+use Rattle.rdx_defs.proofs.NamesBound.{named_at}
+use Rattle.rdx_defs.proofs.OtherDepths.{other-both}
 use Rattle.rdx_defs.proofs.RepeatedNames.{not_false, bound_place, bound_places}
 
 -- ---- names that are bound
@@ -90,7 +92,7 @@ ArePassedTemplates S bs (t ∷ ts) = ArePassedParts S bs (template_parts S (name
 pub record IsPassedPattern (ns : List (List ℕ)) (bs : List patterns.Bound) (os : List Occurrence) : Type 0 where
   pub names : bad_binders os ≡ []
   pub places : bad_occurrences ns os ≡ []
-  pub depths : clashes bs (bound_among ns os) ≡ []
+  pub depths : other_depths (names_bound bs) (bound_among ns os) ≡ []
 
 -- a pattern, and another behind it
 both-patterns : (ns : List (List ℕ)) (bs : List patterns.Bound) (os qs : List Occurrence) → IsPassedPattern ns bs os → IsPassedPattern ns (bs ++ bound_among ns os) qs
@@ -98,7 +100,12 @@ both-patterns : (ns : List (List ℕ)) (bs : List patterns.Bound) (os qs : List 
 both-patterns ns bs os qs h k = record {
   names = flat_map-append bad_binder os qs ∙ (λ i. h.names i ++ k.names i);
   places = flat_map-append (bad_occurrence ns) os qs ∙ (λ i. h.places i ++ k.places i);
-  depths = ap (clashes bs) (flat_map-append (patterns.bound_by ns Query) os qs) ∙ clashes-both bs (bound_among ns os) (bound_among ns qs) h.depths k.depths;
+  depths =
+      let cs = bound_among ns os in
+      let ds = bound_among ns qs in
+      let e : other_depths (names_bound bs ++ names_bound cs) ds ≡ [] =
+      ap (λ (es : Bound). other_depths es ds) (sym (map-append named_at bs cs)) ∙ k.depths in
+      ap (other_depths (names_bound bs)) (flat_map-append (patterns.bound_by ns Query) os qs) ∙ other-both (names_bound bs) cs ds ∙ (λ i. h.depths i ++ e i);
 }
 
 module _ (S : Scope) (ns : List (List ℕ)) where
@@ -123,7 +130,7 @@ module _ (S : Scope) (ns : List (List ℕ)) where
       let z = none_both (keyword_faults os) (shape_faults ss) h.shapes in
       let a = none_both (bad_binders os) (bad_names ss) h.names in
       let b = none_both (bad_occurrences ns os) (bad_places S ns ss) h.places in
-      let c = none_both (clashes bs (bound_among ns os)) (depth_faults S ns ss) h.depths in (
+      let c = none_both (other_depths (names_bound bs) (bound_among ns os)) (depth_faults S ns ss) h.depths in (
         record { names = a.0; places = b.0; depths = c.0 },
         record { shapes = z.1; made = h.made; names = a.1; places = b.1; depths = c.1; known = h.known; driving = h.driving; modes = h.modes },
       )

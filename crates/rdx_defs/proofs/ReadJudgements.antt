@@ -1,7 +1,6 @@
 -- Judgements, and premises by themselves, as they are read.
-use Rattle.std.proofs.Common.{◌≡◌, ◌∙◌, ℕ, List, [], Bor, sym, ap}
+use Rattle.std.proofs.Common.{◌≡◌, ◌∙◌, Bor, ap}
 use Rattle.std.specs.Prelude.{Option, Some, None, IfSome, IsSome, option_map}
-use Rattle.rdx_sexp.specs.Sexp.{Sexp}
 use Rattle.rdx_sexp.specs.declared.datum.Datum.{Datum}
 use Rattle.rdx_lang.specs.Programs.{Premise}
 use Rattle.rdx_lang.specs.ProgramView.{premise_of}

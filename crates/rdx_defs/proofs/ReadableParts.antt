@@ -1,8 +1,8 @@
 -- That data are readable passes to the parts of a form.
 use Rattle.std.proofs.Common.{◌<◌, suc, List, [], ◌∷◌, arith}
 use Rattle.rdx_base.specs.declared.place.Span.{Span}
-use Rattle.rdx_sexp.specs.Sexp.{Sexp, Sexps, list, nil, cons}
-use Rattle.rdx_sexp.specs.Size.{sexps_depth, AreSpelled}
+use Rattle.rdx_sexp.specs.Sexp.{Sexp, Sexps, list}
+use Rattle.rdx_sexp.specs.Size.{sexps_depth}
 use Rattle.rdx_grammar.specs.Parts.{listed}
 use Rattle.rdx_grammar.specs.Readable.{IsReadable}
 use Rattle.rdx_defs.specs.Inside.PartsHave.{AreReadable, IsReadableTaken}
@@ -10,7 +10,7 @@ use Rattle.rdx_defs.proofs.InheritedParts.{items-readable, all-readable}
 use Rattle.rdx_defs.proofs.PartsOfForms.{Each, IsInherited}
 
 -- each by itself
-each-readable : (ds : List Sexp) → AreReadable ds → Each IsReadable ds
+pub each-readable : (ds : List Sexp) → AreReadable ds → Each IsReadable ds
 each-readable [] h = tt
 each-readable (d ∷ ds) h = (h.0, each-readable ds h.1)
 

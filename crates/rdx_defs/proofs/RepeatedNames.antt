@@ -1,17 +1,16 @@
 -- Names that come again, by the texts that come before them.
-use Rattle.std.proofs.Common.{◌≡◌, ◌++◌, ◌∙◌, ◌+◌, ◌<◌, ℕ, Bool, true, false, List, [], ◌∷◌, None, get_or, length, map, drop, refl, sym, ap}
+use Rattle.std.proofs.Common.{◌≡◌, ◌++◌, ◌∙◌, ◌+◌, ◌<◌, ℕ, Bool, true, false, List, [], ◌∷◌, get_or, length, map, drop, refl, sym, ap}
 use Rattle.std.specs.List.{list_any}
 use Rattle.std.specs.Prelude.{◌||◌, not, flat_map, bytes_eq}
 use Rattle.rdx_lang.proofs.Rest.{rest_at}
 use Rattle.rdx_grammar.specs.Inside.Repeats.{HaveSame}
 use Rattle.rdx_grammar.specs.Parts.{text_of}
 use Rattle.rdx_grammar.specs.PatternChecks.{when}
-use Rattle.rdx_grammar.specs.Refusal.{first, or_else}
-use Rattle.rdx_grammar.proofs.Firsts.{first-append, none_both}
+use Rattle.rdx_grammar.proofs.Firsts.{none_both}
 use Rattle.rdx_sexp.specs.Sexp.{Sexp}
 use Rattle.rdx_defs.specs.Inside.NamesAgain.{texts_bound, name_again, bound_with, names_again}
 use Rattle.rdx_defs.specs.StandChecks.{label, is_bound_as, repeated_name, names_with, repeated_names}
-use Rattle.rdx_defs.specs.Stands.{Stand, misshaped, function, judgement, asked, arrow, pattern, template, condition, plain, misfit, fresh, named, bound_among}
+use Rattle.rdx_defs.specs.Stands.{Stand, misshaped, function, judgement, asked, arrow, pattern, template, condition, plain, misfit, fresh, named, repeated, bound_among}
 use Rattle.rdx_defs.proofs.BareChecks.{bare}
 use Rattle.rdx_defs.proofs.NamesBound.{any-append, or_flip}
 
@@ -59,6 +58,7 @@ name-same xs ys bs cs (plain os) h k = refl
 name-same xs ys bs cs (misfit d n) h k = refl
 name-same xs ys bs cs (fresh es d) h k = ap (λ b. when b d) (k (text_of d))
 name-same xs ys bs cs (named again d) h k = ap (λ b. when b d) (h (label d))
+name-same xs ys bs cs (repeated d) h k = refl
 
 -- the names of cases and rules behind it
 names-more : (xs ys : List (List ℕ)) (s : Stand) → HaveSame xs ys → HaveSame (names_with xs s) (names_with ys s)
@@ -74,6 +74,7 @@ names-more xs ys (plain os) h = h
 names-more xs ys (misfit d n) h = h
 names-more xs ys (fresh es d) h = h
 names-more xs ys (named again d) h = λ x. ap (λ b. bytes_eq x (label d) || b) (h x)
+names-more xs ys (repeated d) h = h
 
 -- those that are bound behind it
 bound-more : (ns bs cs : List (List ℕ)) (s : Stand) → HaveSame bs cs → HaveSame (bound_with ns bs s) (bound_with ns cs s)
@@ -89,6 +90,7 @@ bound-more ns bs cs (plain os) h = h
 bound-more ns bs cs (misfit d n) h = h
 bound-more ns bs cs (fresh es d) h = same-behind bs cs (text_of d ∷ []) h
 bound-more ns bs cs (named again d) h = h
+bound-more ns bs cs (repeated d) h = h
 
 -- several things
 again-same : (ns xs ys bs cs : List (List ℕ)) (ss : List Stand) → HaveSame xs ys → HaveSame bs cs → names_again ns xs bs ss ≡ names_again ns ys cs ss
@@ -97,17 +99,14 @@ again-same ns xs ys bs cs (s ∷ ss) h k =
     let f = again-same ns (names_with xs s) (names_with ys s) (bound_with ns bs s) (bound_with ns cs s) ss (names-more xs ys s h) (bound-more ns bs cs s k) in
     λ i. name-same xs ys bs cs s h k i ++ f i
 
--- where a thing is no name that comes again, what comes again from it on comes again behind it
+-- what comes again from a thing on is what comes again there and behind it
 pub again-later : {C : Type 0} (ns : List (List ℕ)) (v : C → Stand) (ss : List C) (i : ℕ) (s : C) (xs ys bs cs : List (List ℕ)) → i < length ss → s ≡ get_or ss i s
-    → first (name_again xs bs (v s)) ≡ None → HaveSame ys (names_with xs (v s)) → HaveSame cs (bound_with ns bs (v s))
-    → first (names_again ns xs bs (map v (drop i ss))) ≡ first (names_again ns ys cs (map v (drop (i + 1) ss)))
-again-later ns v ss i s xs ys bs cs h e none same bound =
+    → HaveSame ys (names_with xs (v s)) → HaveSame cs (bound_with ns bs (v s))
+    → names_again ns xs bs (map v (drop i ss)) ≡ name_again xs bs (v s) ++ names_again ns ys cs (map v (drop (i + 1) ss))
+again-later ns v ss i s xs ys bs cs h e same bound =
     let rest = map v (drop (i + 1) ss) in
-    let ds = names_again ns (names_with xs (v s)) (bound_with ns bs (v s)) rest in
-    ap (λ rs. first (names_again ns xs bs rs)) (rest_at v ss i s h e)
-    ∙ first-append (name_again xs bs (v s)) ds
-    ∙ ap (λ o. or_else o (first ds)) none
-    ∙ ap first (sym (again-same ns ys (names_with xs (v s)) cs (bound_with ns bs (v s)) rest same bound))
+    ap (names_again ns xs bs) (rest_at v ss i s h e)
+    ∙ ap (λ (ds : List Sexp). name_again xs bs (v s) ++ ds) (sym (again-same ns ys (names_with xs (v s)) cs (bound_with ns bs (v s)) rest same bound))
 
 -- ---- without what is bound
 
@@ -125,6 +124,7 @@ name-bare xs bs (plain os) = refl
 name-bare xs bs (misfit d n) = refl
 name-bare xs bs (fresh es d) = refl
 name-bare xs bs (named again d) = refl
+name-bare xs bs (repeated d) = refl
 
 -- the names behind it
 names-bare : (xs : List (List ℕ)) (s : Stand) → names_with xs (bare s) ≡ names_with xs s
@@ -140,6 +140,7 @@ names-bare xs (plain os) = refl
 names-bare xs (misfit d n) = refl
 names-bare xs (fresh es d) = refl
 names-bare xs (named again d) = refl
+names-bare xs (repeated d) = refl
 
 -- those that are bound behind it
 bound-bare : (ns bs : List (List ℕ)) (s : Stand) → bound_with ns bs (bare s) ≡ bound_with ns bs s
@@ -155,6 +156,7 @@ bound-bare ns bs (plain os) = refl
 bound-bare ns bs (misfit d n) = refl
 bound-bare ns bs (fresh es d) = refl
 bound-bare ns bs (named again d) = refl
+bound-bare ns bs (repeated d) = refl
 
 -- several things
 pub again-bare : (ns xs bs : List (List ℕ)) (ss : List Stand) → names_again ns xs bs (map bare ss) ≡ names_again ns xs bs ss
@@ -180,6 +182,7 @@ bound_place (plain os) = []
 bound_place (misfit d n) = []
 bound_place (fresh bs d) = when (list_any (is_bound_as d) bs) d
 bound_place (named again d) = []
+bound_place (repeated d) = []
 
 -- all of them
 abbrev pub bound_places : List Stand → List Sexp
@@ -199,6 +202,7 @@ place-none xs (plain os) e = refl
 place-none xs (misfit d n) e = refl
 place-none xs (fresh bs d) e = e
 place-none xs (named again d) e = refl
+place-none xs (repeated d) e = absurd cc
 
 -- and there are none
 pub places-none : (xs : List (List ℕ)) (ss : List Stand) → repeated_names xs ss ≡ [] → bound_places ss ≡ []

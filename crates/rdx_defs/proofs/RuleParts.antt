@@ -1,6 +1,6 @@
 -- What the rules of a form have, one by one.
 use Rattle.std.proofs.Common.{◌≡◌, ◌++◌, ◌<◌, ℕ, zero, suc, List, [], ◌∷◌, length, get_or, sym, subst, arith}
-use Rattle.std.specs.Prelude.{Option, Some, None}
+use Rattle.std.specs.Prelude.{Option, Some}
 use Rattle.rdx_sexp.specs.Sexp.{Sexp}
 use Rattle.rdx_lang.specs.Programs.{Mode}
 use Rattle.rdx_defs.specs.Inside.Branches.{RuleBranch, in_rule, rule_branch, rule_branches}

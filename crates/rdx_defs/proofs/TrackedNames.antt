@@ -1,17 +1,17 @@
 -- The names that come again in a form are told by the texts that come before them, without the symbols that are bound before each place.
 use Rattle.std.proofs.Common.{◌≡◌, ◌++◌, ◌∙◌, ℕ, Bool, true, false, not, List, [], ◌∷◌, map, refl, sym, ap, subst, if◌then◌else◌}
 use Rattle.std.proofs.lemmas.List.{append_assoc, append-nil, map-append}
-use Rattle.std.specs.List.{list_any, list_all}
-use Rattle.std.specs.Prelude.{◌||◌, ◌&&◌, Option, Some, None, bytes_eq, codes}
+use Rattle.std.specs.List.{list_any}
+use Rattle.std.specs.Prelude.{◌||◌, Option, Some, None, bytes_eq, codes}
 use Rattle.rdx_sexp.specs.Sexp.{Sexp, leaf, list, integer, truth, text, symbol, keyword}
 use Rattle.rdx_lang.specs.Programs.{Mode}
-use Rattle.rdx_grammar.specs.Occurrences.{occurrences}
+use Rattle.rdx_grammar.specs.Kinds.{is_among}
 use Rattle.rdx_grammar.specs.Parts.{parts, text_of, is_symbol, is_word}
 use Rattle.rdx_grammar.specs.PatternChecks as patterns
 use Rattle.rdx_grammar.specs.PatternChecks.{when}
 use Rattle.rdx_defs.specs.Arguments.{Arguments, is_misfit, data_at, patterns_in}
 use Rattle.rdx_defs.specs.Bound.{Bound}
-use Rattle.rdx_defs.specs.ExtraForms.{ExtraForm, such_that, provided, confirmed, holding, freshly, name, no_extra, ExtraPlace, of_case, of_clause, of_rule, condition_behind, extra_among, extra_form, is_extra_head, extra_behind, premise_among, form_at}
+use Rattle.rdx_defs.specs.ExtraForms.{ExtraForm, such_that, provided, confirmed, holding, freshly, name, no_extra, ExtraPlace, of_case, of_clause, of_rule, condition_behind, extra_among, is_extra_head, extra_behind, premise_among, form_at}
 use Rattle.rdx_defs.specs.Headed.{Headed, headed}
 use Rattle.rdx_defs.specs.Inside.BareStands.{lone_pattern}
 use Rattle.rdx_defs.specs.Inside.Branches.{clause_branch, contract_patterns}
@@ -20,13 +20,14 @@ use Rattle.rdx_defs.specs.JudgementForms.{RuleForm, rule_form, own_rule, OptionF
 use Rattle.rdx_defs.specs.JudgementRefusal.{result_stands, lone_premise_stands}
 use Rattle.rdx_defs.specs.JudgementStands as judgements
 use Rattle.rdx_defs.specs.JudgementStands.{rule_arguments, bound_by_inputs, bound_by_rule, conclusion_stands, premises_stand, name_stands, rule_stands, rules_stand, flags_stand, mode_stands, lone_patterns, given_stands, option_stands, options_stand, missing_mode, judgement_stands}
-use Rattle.rdx_defs.specs.MetafunctionForms.{ClauseForm, clause_form, ContractForm, MetafunctionForm}
+use Rattle.rdx_defs.specs.MetafunctionForms.{ClauseForm, clause_form, MetafunctionForm}
 use Rattle.rdx_defs.specs.MetafunctionStands.{clause_stands, clauses_stand, contract_stands, function_stands}
 use Rattle.rdx_defs.specs.RelationForms.{CaseForm, case_form, RelationForm, is_keyword}
-use Rattle.rdx_defs.specs.RelationStands.{case_stands, cases_stand, domain_stands, relation_stands}
+use Rattle.rdx_defs.specs.RelationStands.{case_stands, cases_stand, domain_stands, expanded_stands, arrows_stand, shortcut_stands, arrows_with, shortcuts_stand}
 use Rattle.rdx_defs.specs.Scope.{Scope, mode_of}
+use Rattle.rdx_defs.specs.Shorthand.{Shortcut, shortcut_form, is_known_arrow}
 use Rattle.rdx_defs.specs.StandChecks.{is_bound_as, repeated_name, names_with, repeated_names}
-use Rattle.rdx_defs.specs.Stands.{Stand, misshaped, function, judgement, asked, arrow, pattern, template, condition, plain, misfit, fresh, named, bound_in, names_bound, bound_by_patterns, flagged_stand, plain_argument, arguments_by, arguments_stand, misfits, premise_arguments, held_stands, bound_by_premise, bound_freshly, fresh_stands, bound_by_extra, extra_stands, is_named, extras_stand}
+use Rattle.rdx_defs.specs.Stands.{Stand, misshaped, function, judgement, asked, arrow, pattern, template, condition, plain, misfit, fresh, named, repeated, bound_in, names_bound, bound_by_patterns, flagged_stand, plain_argument, arguments_by, arguments_stand, misfits, premise_arguments, held_stands, bound_by_premise, bound_freshly, fresh_stands, bound_by_extra, extra_stands, is_named, extras_stand}
 use Rattle.rdx_defs.proofs.LoneStands.{branch_stands, contract-lone}
 
 -- ---- things that know which texts are bound before them
@@ -45,6 +46,7 @@ Knows bound (plain os) = Unit {0}
 Knows bound (misfit d n) = Unit {0}
 Knows bound (fresh bs d) = texts_bound bs ≡ bound
 Knows bound (named again d) = Unit {0}
+Knows bound (repeated d) = Unit {0}
 
 -- a symbol is bound where its text is among theirs
 bound-text : (d : Sexp) (bs : List patterns.Bound) → list_any (is_bound_as d) bs ≡ list_any (bytes_eq (text_of d)) (texts_bound bs)
@@ -65,6 +67,7 @@ known-again seen bound (plain os) h = refl
 known-again seen bound (misfit d n) h = refl
 known-again seen bound (fresh bs d) h = ap (λ b. when b d) (bound-text d bs ∙ ap (list_any (bytes_eq (text_of d))) h)
 known-again seen bound (named again d) h = refl
+known-again seen bound (repeated d) h = refl
 
 module _ (ns : List (List ℕ)) where
   -- each of several does, with what those before it bind
@@ -110,6 +113,7 @@ IsUnmade (plain os) = Unit {0}
 IsUnmade (misfit d n) = Unit {0}
 IsUnmade (fresh bs d) = ⊥
 IsUnmade (named again d) = Unit {0}
+IsUnmade (repeated d) = Unit {0}
 
 -- none of several is
 abbrev AreUnmade : List Stand → Type 0
@@ -130,6 +134,7 @@ unmade-knows bound (plain os) h = tt
 unmade-knows bound (misfit d n) h = tt
 unmade-knows bound (fresh bs d) h = absurd h
 unmade-knows bound (named again d) h = tt
+unmade-knows bound (repeated d) h = tt
 
 -- so do several
 unmade-known : (ns bound : List (List ℕ)) (ss : List Stand) → AreUnmade ss → AreKnown ns bound ss
@@ -511,10 +516,37 @@ module _ (S : Scope) (ns : List (List ℕ)) where
   domain-known None = tt
   domain-known (Some p) = (tt, tt)
 
-  -- a form
-  pub relation-again : (d : Sexp) (r : RelationForm)
-      → repeated_names [] (relation_stands S ns d (Some r)) ≡ names_again ns [] [] (relation_stands S ns d (Some r))
-  relation-again d r =
+  -- the arrows of a shortcut
+  arrows-unmade : (seen : List (List ℕ)) (s : Shortcut) → AreUnmade (arrows_stand seen s)
+  arrows-unmade seen s =
+      let b = is_known_arrow seen s.old in
+      let c = is_among seen (text_of s.new) in
+      let os = if b then [] else arrow s.old ∷ [] in
+      let rs = if c then repeated s.new ∷ [] else [] in
+      unmade-both os rs (unmade-either b [] (arrow s.old ∷ []) tt (tt, tt)) (unmade-either c (repeated s.new ∷ []) [] (tt, tt) tt)
+
+  -- a shortcut
+  shortcut-unmade : (seen : List (List ℕ)) (d : Sexp) (o : Option Shortcut) → AreUnmade (shortcut_stands seen d o)
+  shortcut-unmade seen d None = (tt, tt)
+  shortcut-unmade seen d (Some s) = arrows-unmade seen s
+
+  -- shortcuts
+  shortcuts-unmade : (seen : List (List ℕ)) (ds : List Sexp) → AreUnmade (shortcuts_stand seen ds)
+  shortcuts-unmade seen [] = tt
+  shortcuts-unmade seen (d ∷ ds) =
+      let o = shortcut_form d in
+      unmade-both (shortcut_stands seen d o) (shortcuts_stand (arrows_with seen o) ds) (shortcut-unmade seen d o) (shortcuts-unmade (arrows_with seen o) ds)
+
+  -- a form without shorthand
+  expanded-known : (r : RelationForm) → AreKnown ns [] (expanded_stands S ns r)
+  expanded-known r =
       let ss = domain_stands r.domain in
-      let rs = cases_stand S ns r.cases in
-      are-known ns [] [] (ss ++ rs) (known-both ns [] ss rs (domain-known r.domain) (cases-known (bound_behind ns [] ss) r.cases))
+      known-both ns [] ss (cases_stand S ns r.cases) (domain-known r.domain) (cases-known (bound_behind ns [] ss) r.cases)
+
+  -- and with shortcuts behind it
+  pub relation-again : (r : RelationForm) (ds : List Sexp)
+      → repeated_names [] (expanded_stands S ns r ++ shortcuts_stand [] ds) ≡ names_again ns [] [] (expanded_stands S ns r ++ shortcuts_stand [] ds)
+  relation-again r ds =
+      let ss = expanded_stands S ns r in
+      let rs = shortcuts_stand [] ds in
+      are-known ns [] [] (ss ++ rs) (known-both ns [] ss rs (expanded-known r) (unmade-known ns (bound_behind ns [] ss) rs (shortcuts-unmade [] ds)))

@@ -2,10 +2,11 @@
 use Rattle.std.proofs.Common.{◌≡◌, ◌++◌, ◌∙◌, List, [], ◌∷◌, Option, Some, None, refl, sym, ap}
 use Rattle.std.specs.Prelude.{option_map}
 use Rattle.rdx_sexp.specs.Sexp.{Sexp}
-use Rattle.rdx_grammar.specs.Refusal.{unnamed, named, first, first_refusal, or_else}
+use Rattle.rdx_grammar.specs.Refusal.{unnamed, named, first_refusal, or_else}
 use Rattle.rdx_grammar.specs.Unbuilt.{unbuilt_at}
 use Rattle.rdx_grammar.specs.declared.shape.fault.DefKind.TheVariants.{Shape, BadPattern, EllipsisDepth, EllipsisVariable, RacketEscape}
 use Rattle.rdx_defs.specs.Bound.{Bound}
+use Rattle.rdx_defs.specs.Earliest.{earliest, start}
 use Rattle.rdx_defs.specs.Inside.PartRefusal.{late_refusal}
 use Rattle.rdx_defs.specs.Inside.PartView.{unrepeated}
 use Rattle.rdx_defs.specs.Scope.{Scope}
@@ -46,18 +47,18 @@ or_else-none (Some x) = refl
 
 -- the first check, and those behind it, which look at what stands there but for repeated items
 refused_late : (S : Scope) (bs : Bound) (ds : List Sexp) (ps : List TemplatePart)
-    → parts_refusal S bs ds ps ≡ or_else (option_map (unnamed Shape) (first ds)) (late_refusal bs (first (undriven_parts S bs ps)) (unrepeated ps))
+    → parts_refusal S bs ds ps ≡ or_else (option_map (unnamed Shape) (earliest start ds)) (late_refusal bs (earliest start (undriven_parts S bs ps)) (unrepeated ps))
 refused_late S bs ds ps =
-    λ i. or_else (option_map (unnamed Shape) (first ds))
+    λ i. or_else (option_map (unnamed Shape) (earliest start ds))
     (first_refusal
-    (option_map (unnamed BadPattern) (first (sym (bad_unrepeated ps) i))
-    ∷ option_map (named EllipsisDepth) (first (sym (shallow_unrepeated bs ps) i))
-    ∷ option_map (unnamed EllipsisVariable) (first (undriven_parts S bs ps))
-    ∷ option_map (unnamed RacketEscape) (first (sym (escapes_unrepeated ps) i))
+    (option_map (unnamed BadPattern) (earliest start (sym (bad_unrepeated ps) i))
+    ∷ option_map (named EllipsisDepth) (earliest start (sym (shallow_unrepeated bs ps) i))
+    ∷ option_map (unnamed EllipsisVariable) (earliest start (undriven_parts S bs ps))
+    ∷ option_map (unnamed RacketEscape) (earliest start (sym (escapes_unrepeated ps) i))
     ∷ []))
 
 -- the whole refusal of a datum with these data at fault by the first check, in which these parts stand
 pub refused-by_parts : (S : Scope) (bs : Bound) (d : Sexp) (ds : List Sexp) (ps : List TemplatePart)
     → first_refusal (unbuilt_at d ∷ parts_refusal S bs ds ps ∷ [])
-    ≡ or_else (unbuilt_at d) (or_else (option_map (unnamed Shape) (first ds)) (late_refusal bs (first (undriven_parts S bs ps)) (unrepeated ps)))
+    ≡ or_else (unbuilt_at d) (or_else (option_map (unnamed Shape) (earliest start ds)) (late_refusal bs (earliest start (undriven_parts S bs ps)) (unrepeated ps)))
 refused-by_parts S bs d ds ps = ap (or_else (unbuilt_at d)) (or_else-none (parts_refusal S bs ds ps) ∙ refused_late S bs ds ps)

@@ -1,5 +1,5 @@
 -- What the patterns and the extras of a form stand for is valid, where no check refuses them.
-use Rattle.std.proofs.Common.{◌≡◌, ◌++◌, ◌∙◌, ◌+◌, ℕ, Bool, true, false, not, List, [], ◌∷◌, length, map, refl, sym, ap, ap₂, subst, arith}
+use Rattle.std.proofs.Common.{◌≡◌, ◌++◌, ◌∙◌, ℕ, Bool, true, false, not, List, [], ◌∷◌, length, map, refl, sym, ap, ap₂, subst, arith}
 use Rattle.std.proofs.lemmas.List.{append_assoc, append-nil, length-map, map-append}
 use Rattle.std.proofs.lemmas.Bool.{eq-eqb}
 use Rattle.std.specs.List.{list_any, list_all}
@@ -15,19 +15,17 @@ use Rattle.rdx_lang.specs.Scopes.{bound_by, extras_uses}
 use Rattle.rdx_lang.specs.Valid.{is_used, is_valid_extra, are_valid_extras}
 use Rattle.rdx_lang.specs.WellFormed.{defined, has_known_nonterminals, have_known_nonterminals, is_well_formed_in}
 use Rattle.rdx_grammar.specs.Ends.{crossed_for}
-use Rattle.rdx_grammar.specs.Heads.{patterns as items_of_list}
 use Rattle.rdx_grammar.specs.Names.{is_bad_name, begins_with_dots}
 use Rattle.rdx_grammar.specs.Nonterminals.{names_of}
 use Rattle.rdx_grammar.specs.Occurrences.{occurrences}
 use Rattle.rdx_grammar.specs.Parts.{text_of}
 use Rattle.rdx_grammar.specs.PatternChecks as patterns
-use Rattle.rdx_grammar.specs.PatternChecks.{when, differ, clashes}
+use Rattle.rdx_grammar.specs.PatternChecks.{clashes}
 use Rattle.rdx_grammar.specs.Reading.{reading}
 use Rattle.rdx_grammar.specs.declared.patterns.position.Position.TheVariants.{Query}
 use Rattle.rdx_grammar.proofs.Among.{bytes_eq-sym}
 use Rattle.rdx_grammar.proofs.Booleans.{and_both, or_false}
 use Rattle.rdx_grammar.proofs.DepthsRead.{bound_use, reading-makes, items-make}
-use Rattle.rdx_grammar.proofs.Firsts.{none_first}
 use Rattle.rdx_grammar.proofs.FittingNames.{fitting-reading, fitting-items}
 use Rattle.rdx_grammar.proofs.PassedPatterns.{are-passed}
 use Rattle.rdx_grammar.proofs.KnownReadings.{pattern_known, items_known_to}
@@ -43,23 +41,13 @@ use Rattle.rdx_defs.specs.Scope.{Scope, mode_of, callable, has_metafunction}
 use Rattle.rdx_defs.specs.StandChecks.{is_bound_as}
 use Rattle.rdx_defs.specs.Stands.{template, names_bound, premise_arguments, arguments_stand, misfits, premise_stands, held_stands, bound_by_premise, bound_freshly, fresh_stands, bound_by_extra, bound_by_extras, extra_stands, is_named, extras_stand}
 use Rattle.rdx_defs.specs.TemplateReading.{template_reading, host_reading}
+use Rattle.rdx_defs.proofs.AlikeSymbols.{AreAlike, alike-none, alike-behind, alike-made, clash-none}
 use Rattle.rdx_defs.proofs.AskingParts.{BindsWithin}
 use Rattle.rdx_defs.proofs.BoundParts.{taken-written}
 use Rattle.rdx_defs.proofs.FormRefusals.{ArePassed}
-use Rattle.rdx_defs.proofs.NamesBound.{any-append}
 use Rattle.rdx_defs.proofs.PartsOfForms.{bound}
 use Rattle.rdx_defs.proofs.PassedStands.{mode-fits, IsPassedPattern, passed-both, pattern-first, template-first, fresh-first, host-passed, arguments-passed, misfits-false, asked-first, fits-uses, all-fit, host-uses}
 use Rattle.rdx_defs.proofs.PatternLists.{single-items, inputs-counted, outputs-counted, twice-not, each-bound, each-uses, fitting-each, each-known}
-
--- ---- symbols that clash with fewer before them
-
--- what clashes with none of several clashes with none of some of them
-clashes-fewer : (xs ys bs : List patterns.Bound) → clashes (xs ++ ys) bs ≡ [] → clashes xs bs ≡ []
-clashes-fewer xs ys [] e = refl
-clashes-fewer xs ys (b ∷ bs) e =
-    let h = none_first (list_any (differ b) (xs ++ ys)) b.symbol (clashes (b ∷ (xs ++ ys)) bs) e in
-    let k = (or_false (list_any (differ b) xs) (list_any (differ b) ys) (sym (any-append (differ b) xs ys) ∙ h.0)).0 in
-    λ i. when (k i) b.symbol ++ clashes-fewer (b ∷ xs) ys bs h.1 i
 
 -- ---- names to be made
 
@@ -85,29 +73,37 @@ module _ (S : Scope) (L : Language) (ys : List (List ℕ)) where
 
   -- ---- patterns
 
+  -- behind symbols that are alike, those of what is taken are, where it passes
+  pub alike-taken : (bs : List patterns.Bound) (w : Takes) → AreAlike bs → IsPassedPattern ns bs (taken_occurrences w) → AreAlike (bs ++ bound_by_taken ns w)
+  alike-taken bs w a g = alike-behind bs (bound_by_taken ns w) a g.depths
+
+  -- so they don't clash
+  unclashing : (bs : List patterns.Bound) (w : Takes) → AreAlike bs → IsPassedPattern ns bs (taken_occurrences w) → clashes [] (bound_by_taken ns w) ≡ []
+  unclashing bs w a g = clash-none bs (bound_by_taken ns w) (alike-taken bs w a g)
+
   -- what is taken, where it passes, is well formed, and makes these uses
-  pub taken-passed : (bs : List patterns.Bound) (w : Takes) → BindsWithin ys ns w → IsPassedPattern ns bs (taken_occurrences w)
+  pub taken-passed : (bs : List patterns.Bound) (w : Takes) → AreAlike bs → BindsWithin ys ns w → IsPassedPattern ns bs (taken_occurrences w)
       → IsPattern M ns w × (uses 0 (taken_reading ns w) ≡ map bound_use (bound_by_taken ns w))
-  taken-passed bs (one p) h g =
+  taken-passed bs (one p) a h g =
       let os = occurrences 0 p in
       let r = reading ns Query p in
       let d = h.asks.readable in
-      let f = fitting-reading ns Query p d.nested d.spelled g.names g.places (clashes-fewer [] bs (bound_by_taken ns (one p)) g.depths) in (
+      let f = fitting-reading ns Query p d.nested d.spelled g.names g.places (unclashing bs (one p) a g) in (
         record { binds = h.binds; well_formed = and_both (has_known_nonterminals (defined M) r) (has_fitting_names r) (pattern_known L ys p g.places h.asks.ends) f },
         (reading-makes ns Query 0 p (are-passed ns 4294967296 os (taken-written (one p) d) g.names g.places)).0,
       )
-  taken-passed bs (several ds) h g =
+  taken-passed bs (several ds) a h g =
       let os = taken_occurrences (several ds) in
       let r = seq (argument_items ns ds) in
       let d = h.binds.readable in
-      let f = fitting-items ns Query (sexps ds) (let l = d.nested in omega (arith, l)) d.spelled g.names g.places (clashes-fewer [] bs (bound_by_taken ns (several ds)) g.depths) in (
+      let f = fitting-items ns Query (sexps ds) (let l = d.nested in omega (arith, l)) d.spelled g.names g.places (unclashing bs (several ds) a g) in (
         record { binds = h.binds; well_formed = and_both (has_known_nonterminals (defined M) r) (has_fitting_names r) (items_known_to L ys (sexps ds) g.places h.asks.1) f },
         (items-make ns Query 0 (sexps ds) (are-passed ns 4294967296 os (taken-written (several ds) d) g.names g.places)).0,
       )
-  taken-passed bs (each ds) h g =
+  taken-passed bs (each ds) a h g =
       let r = list_reading ns ds in
       let d = h.binds.readable in
-      let f = fitting-each ns ds d g.names g.places (clashes-fewer [] bs (bound_by_taken ns (each ds)) g.depths) in (
+      let f = fitting-each ns ds d g.names g.places (unclashing bs (each ds) a g) in (
         record { binds = h.binds; well_formed = and_both (have_known_nonterminals (defined M) (items_reading ns ds)) (has_fitting_names r) (each-known L ys ds h.asks g.places) f },
         each-uses ns ds d g.names g.places,
       )
@@ -117,7 +113,7 @@ module _ (S : Scope) (L : Language) (ys : List (List ℕ)) where
   alone-good [] h k = tt
   alone-good (p ∷ ps) h k =
       let a = pattern-first S ns [] (occurrences 0 p) (map lone_pattern ps) k in
-      ((taken-passed [] (one p) h.0 a.0).0, alone-good ps h.1 a.1)
+      ((taken-passed [] (one p) alike-none h.0 a.0).0, alone-good ps h.1 a.1)
 
   -- ---- premises
 
@@ -128,8 +124,8 @@ module _ (S : Scope) (L : Language) (ys : List (List ℕ)) where
     pub makes : uses 0 (premise_reading S ns (names_bound bs) q).outputs ≡ map bound_use (bound_by_premise S ns (Some q))
 
   -- a premise that passes
-  pub premise-good : (bs : List patterns.Bound) (d : Sexp) (q : Headed) → PremiseHas S (bound (BindsWithin ys ns)) (Some q) → ArePassed S ns (premise_stands S ns bs d q) → IsGoodPremise bs q
-  premise-good bs d q h k =
+  pub premise-good : (bs : List patterns.Bound) (d : Sexp) (q : Headed) → AreAlike bs → PremiseHas S (bound (BindsWithin ys ns)) (Some q) → ArePassed S ns (premise_stands S ns bs d q) → IsGoodPremise bs q
+  premise-good bs d q alike h k =
       let o = mode_of S (text_of q.head) in
       let a = premise_arguments S q in
       let ds = q.arguments in
@@ -139,7 +135,7 @@ module _ (S : Scope) (L : Language) (ys : List (List ℕ)) where
       let u = passed-both S ns (misfits (is_misfit o ds) d q.head) (arguments_stand ns bs (names_bound bs) a) s.1 in
       let m = mode-fits o ds s.0 (misfits-false S ns (is_misfit o ds) d q.head u.0) in
       let v = arguments-passed S ns bs bs a u.1 in
-      let w = taken-passed bs (each (patterns_in a)) h.1.patterns v.0 in
+      let w = taken-passed bs (each (patterns_in a)) alike h.1.patterns v.0 in
       let ins : length (templates_in a) ≡ input_count m.mode =
       ap (λ (n : Option Mode). length (data_by (option_map (map not) (option_map (map not) n)) ds)) m.fits
       ∙ ap (λ (bs : List Bool). length (data_at bs ds)) (twice-not m.mode) ∙ inputs-counted m.mode ds m.long in
@@ -179,13 +175,13 @@ module _ (S : Scope) (L : Language) (ys : List (List ℕ)) where
       × (extras_uses (held_reading S ns (names_bound bs) o ++ extras_reading k S ns (bs ++ bound_by_premise S ns o) ds)
       ≡ map bound_use (bound_by_premise S ns o ++ bound_by_extras k S ns ds)))
 
-  premise-more : (k : ExtraPlace) (bs : List patterns.Bound) (d : Sexp) (o : Option Headed) (ds : List Sexp) → PremiseHas S (bound (BindsWithin ys ns)) o
+  premise-more : (k : ExtraPlace) (bs : List patterns.Bound) (d : Sexp) (o : Option Headed) (ds : List Sexp) → AreAlike bs → PremiseHas S (bound (BindsWithin ys ns)) o
       → ArePassed S ns (held_stands S ns bs d o) → AreGood k (bs ++ bound_by_premise S ns o) ds → AreGoodBehind k bs o ds
-  premise-more k bs d None ds h f g = ((tt, g.0), ((λ us e. g.1.0 us (e ∙ ap (map bound_use) (sym (append-nil bs)))), g.1.1))
-  premise-more k bs d (Some q) ds h f g =
+  premise-more k bs d None ds a h f g = ((tt, g.0), ((λ us e. g.1.0 us (e ∙ ap (map bound_use) (sym (append-nil bs)))), g.1.1))
+  premise-more k bs d (Some q) ds a h f g =
       let p = premise_reading S ns (names_bound bs) q in
       let cs = bound_by_premise S ns (Some q) in
-      let r = premise-good bs d q h f in (
+      let r = premise-good bs d q a h f in (
         (r.has, g.0),
         (
           (λ us e.
@@ -232,13 +228,13 @@ module _ (S : Scope) (L : Language) (ys : List (List ℕ)) where
       × (extras_uses (extra_reading S ns bs e ++ extras_reading k S ns (bs ++ bound_by_extra S ns e) ds)
       ≡ map bound_use (bound_by_extra S ns e ++ bound_by_extras k S ns ds)))
 
-  one-more : (k : ExtraPlace) (bs : List patterns.Bound) (again : Bool) (d : Sexp) (e : ExtraForm) (ds : List Sexp) → ExtraHas S (bound (BindsWithin ys ns)) e
+  one-more : (k : ExtraPlace) (bs : List patterns.Bound) (again : Bool) (d : Sexp) (e : ExtraForm) (ds : List Sexp) → AreAlike bs → ExtraHas S (bound (BindsWithin ys ns)) e
       → ArePassed S ns (extra_stands S ns bs again d e) → AreGood k (bs ++ bound_by_extra S ns e) ds → AreGoodWith k bs e ds
-  one-more k bs again d (such_that p t) ds h f g =
+  one-more k bs again d (such_that p t) ds alike h f g =
       let F = has_metafunction S in
       let a = pattern-first S ns bs (occurrences 0 p) (template (names_bound bs) t ∷ []) f in
       let b = template-first S ns bs t [] a.1 in
-      let q = taken-passed bs (one p) h.0 a.0 in
+      let q = taken-passed bs (one p) alike h.0 a.0 in
       let r = reading ns Query p in (
         ((q.0, h.1), g.0),
         (
@@ -250,7 +246,7 @@ module _ (S : Scope) (L : Language) (ys : List (List ℕ)) where
           ap₂ (λ (vs ws : List Use). vs ++ ws) q.1 g.1.1 ∙ sym (map-append bound_use (bound_by_taken ns (one p)) (bound_by_extras k S ns ds)),
         ),
       )
-  one-more k bs again d (provided t) ds h f g =
+  one-more k bs again d (provided t) ds alike h f g =
       let F = has_metafunction S in
       let b = host-passed S ns bs t f in (
         (h, g.0),
@@ -261,7 +257,7 @@ module _ (S : Scope) (L : Language) (ys : List (List ℕ)) where
           g.1.1,
         ),
       )
-  one-more k bs again d (confirmed t) ds h f g =
+  one-more k bs again d (confirmed t) ds alike h f g =
       let F = has_metafunction S in
       let b = template-first S ns bs t [] f in (
         (h, g.0),
@@ -272,15 +268,45 @@ module _ (S : Scope) (L : Language) (ys : List (List ℕ)) where
           g.1.1,
         ),
       )
-  one-more k bs again d (holding c) ds h f g = premise-more k bs c (headed c) ds h f g
-  one-more k bs again d (freshly made) ds h f g = ((h, g.0), fresh-more k bs made ds f g)
-  one-more k bs again d name ds h f g = ((tt, g.0), ((λ us e. g.1.0 us (e ∙ ap (map bound_use) (sym (append-nil bs)))), g.1.1))
-  one-more k bs again d no_extra ds h f g = ((tt, g.0), ((λ us e. g.1.0 us (e ∙ ap (map bound_use) (sym (append-nil bs)))), g.1.1))
+  one-more k bs again d (holding c) ds alike h f g = premise-more k bs c (headed c) ds alike h f g
+  one-more k bs again d (freshly made) ds alike h f g = ((h, g.0), fresh-more k bs made ds f g)
+  one-more k bs again d name ds alike h f g = ((tt, g.0), ((λ us e. g.1.0 us (e ∙ ap (map bound_use) (sym (append-nil bs)))), g.1.1))
+  one-more k bs again d no_extra ds alike h f g = ((tt, g.0), ((λ us e. g.1.0 us (e ∙ ap (map bound_use) (sym (append-nil bs)))), g.1.1))
 
-  pub extras-good : (k : ExtraPlace) (bs : List patterns.Bound) (again : Bool) (ds : List Sexp) → ExtrasHave S (bound (BindsWithin ys ns)) k ds
+  -- behind symbols that are alike, those of a premise that passes are
+  alike-premise : (bs : List patterns.Bound) (d : Sexp) (o : Option Headed) → AreAlike bs → ArePassed S ns (held_stands S ns bs d o) → AreAlike (bs ++ bound_by_premise S ns o)
+  alike-premise bs d None a f = subst AreAlike (sym (append-nil bs)) a
+  alike-premise bs d (Some q) a f =
+      let o = mode_of S (text_of q.head) in
+      let b = premise_arguments S q in
+      let s = asked-first S ns q.head (misfits (is_misfit o q.arguments) d q.head ++ arguments_stand ns bs (names_bound bs) b) f in
+      let u = passed-both S ns (misfits (is_misfit o q.arguments) d q.head) (arguments_stand ns bs (names_bound bs) b) s.1 in
+      let v = arguments-passed S ns bs bs b u.1 in
+      subst (λ (cs : List patterns.Bound). AreAlike (bs ++ cs)) (each-bound ns (patterns_in b)) (alike-taken bs (each (patterns_in b)) a v.0)
+
+  -- so are names to be made
+  alike-fresh : (bs : List patterns.Bound) (ds : List Sexp) → AreAlike bs → ArePassed S ns (fresh_stands bs ds) → AreAlike (bs ++ map bound_freshly ds)
+  alike-fresh bs [] a f = subst AreAlike (sym (append-nil bs)) a
+  alike-fresh bs (d ∷ ds) a f =
+      let cs = bs ++ bound_freshly d ∷ [] in
+      let p = fresh-first S ns bs d (fresh_stands cs ds) f in
+      subst AreAlike (append_assoc bs (bound_freshly d ∷ []) (map bound_freshly ds)) (alike-fresh cs ds (alike-made bs d a p.0.0) p.1)
+
+  -- and those of an extra
+  alike-extra : (bs : List patterns.Bound) (again : Bool) (d : Sexp) (e : ExtraForm) → AreAlike bs → ArePassed S ns (extra_stands S ns bs again d e)
+      → AreAlike (bs ++ bound_by_extra S ns e)
+  alike-extra bs again d (such_that p t) a f = alike-taken bs (one p) a (pattern-first S ns bs (occurrences 0 p) (template (names_bound bs) t ∷ []) f).0
+  alike-extra bs again d (provided t) a f = subst AreAlike (sym (append-nil bs)) a
+  alike-extra bs again d (confirmed t) a f = subst AreAlike (sym (append-nil bs)) a
+  alike-extra bs again d (holding c) a f = alike-premise bs c (headed c) a f
+  alike-extra bs again d (freshly ds) a f = alike-fresh bs ds a f
+  alike-extra bs again d name a f = subst AreAlike (sym (append-nil bs)) a
+  alike-extra bs again d no_extra a f = subst AreAlike (sym (append-nil bs)) a
+
+  pub extras-good : (k : ExtraPlace) (bs : List patterns.Bound) (again : Bool) (ds : List Sexp) → AreAlike bs → ExtrasHave S (bound (BindsWithin ys ns)) k ds
       → ArePassed S ns (extras_stand k S ns bs again ds) → AreGood k bs ds
-  extras-good k bs again [] h f = (tt, ((λ us e. refl), refl))
-  extras-good k bs again (d ∷ ds) h f =
+  extras-good k bs again [] a h f = (tt, ((λ us e. refl), refl))
+  extras-good k bs again (d ∷ ds) a h f =
       let e = form_at k d in
       let p = passed-both S ns (extra_stands S ns bs again d e) (extras_stand k S ns (bs ++ bound_by_extra S ns e) (is_named again e) ds) f in
-      one-more k bs again d e ds h.0 p.0 (extras-good k (bs ++ bound_by_extra S ns e) (is_named again e) ds h.1 p.1)
+      one-more k bs again d e ds a h.0 p.0 (extras-good k (bs ++ bound_by_extra S ns e) (is_named again e) ds (alike-extra bs again d e a p.0) h.1 p.1)

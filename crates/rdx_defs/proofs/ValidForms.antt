@@ -31,19 +31,20 @@ use Rattle.rdx_defs.specs.MetafunctionForms.{ClauseForm, clause_form, ContractFo
 use Rattle.rdx_defs.specs.MetafunctionReading.{argument_items, with_clause, clauses_reading, closed_items, contract_reading}
 use Rattle.rdx_defs.specs.MetafunctionStands.{clause_stands, clauses_stand, contract_stands, function_stands}
 use Rattle.rdx_defs.specs.RelationForms.{CaseForm, case_form, RelationForm}
-use Rattle.rdx_defs.specs.RelationReading.{rules_reading, relation_reading}
-use Rattle.rdx_defs.specs.RelationStands.{case_stands, cases_stand, domain_stands, relation_stands}
+use Rattle.rdx_defs.specs.RelationReading.{rules_reading, expanded_reading}
+use Rattle.rdx_defs.specs.RelationStands.{case_stands, cases_stand, domain_stands, expanded_stands, shortcuts_stand}
 use Rattle.rdx_defs.specs.Scope.{Scope, callable, has_metafunction}
 use Rattle.rdx_defs.specs.StandChecks.{bad_name, bad_names}
 use Rattle.rdx_defs.specs.Stands.{misshaped, function, template, names_bound, bound_by_extras, extras_stand}
 use Rattle.rdx_defs.specs.TemplateReading.{template_reading}
+use Rattle.rdx_defs.proofs.AlikeSymbols.{alike-none}
 use Rattle.rdx_defs.proofs.AskingParts.{BindsWithin}
 use Rattle.rdx_defs.proofs.BranchRules.{rules-branches}
 use Rattle.rdx_defs.proofs.FormRefusals.{ArePassed}
 use Rattle.rdx_defs.proofs.LoneStands.{branch_stands, contract-lone, domain-lone}
 use Rattle.rdx_defs.proofs.PartsOfForms.{bound}
 use Rattle.rdx_defs.proofs.PassedStands.{passed-both, pattern-first, template-first, arrow-first, fits-uses}
-use Rattle.rdx_defs.proofs.ValidExtras.{taken-passed, alone-good, extras-good}
+use Rattle.rdx_defs.proofs.ValidExtras.{alike-taken, taken-passed, alone-good, extras-good}
 
 -- Forms are read over the names of L and over M, which is L with the cross nonterminals to those of ys that are nonterminals of it.
 module _ (S : Scope) (L : Language) (ys : List (List ℕ)) where
@@ -72,8 +73,8 @@ module _ (S : Scope) (L : Language) (ys : List (List ℕ)) where
       let others = extras_stand b.place S ns (bound_by_taken ns b.takes) again b.extras in
       let a = pattern-first S ns [] (taken_occurrences b.takes) (template (names_bound all) b.result ∷ others) k in
       let c = template-first S ns all b.result others a.1 in
-      let q = taken-passed S L ys [] b.takes h.takes a.0 in
-      let g = extras-good S L ys b.place (bound_by_taken ns b.takes) again b.extras h.extras c.1 in
+      let q = taken-passed S L ys [] b.takes alike-none h.takes a.0 in
+      let g = extras-good S L ys b.place (bound_by_taken ns b.takes) again b.extras (alike-taken S L ys [] b.takes alike-none a.0) h.extras c.1 in
       let u : case_uses p es ≡ map bound_use all =
       ap₂ (λ (vs ws : List Use). vs ++ ws) q.1 g.1.1 ∙ sym (map-append bound_use (bound_by_taken ns b.takes) (bound_by_extras b.place S ns b.extras)) in (
         record { takes = q.0; result = h.result; extras = g.0 },
@@ -107,11 +108,12 @@ module _ (S : Scope) (L : Language) (ys : List (List ℕ)) where
   domain-good None h = refl
   domain-good (Some p) h = h.0.well_formed
 
-  -- a form
-  pub relation-good : (d : Sexp) (r : RelationForm) (x : List ℕ) → OutlineHas S (bound (BindsWithin ys ns)) (relation_outline r) → ArePassed S ns (relation_stands S ns d (Some r))
-      → OutlineHas S (can_read S M ns) (relation_outline r) × (is_valid_over (callable S) (Some M) (relation_reading S ns x r) ≡ true)
-  relation-good d r x h k =
-      let p = passed-both S ns (domain_stands r.domain) (cases_stand S ns r.cases) k in
+  -- a form without shorthand, whatever shortcuts stand behind it
+  pub relation-good : (r : RelationForm) (ds : List Sexp) (x : List ℕ) → OutlineHas S (bound (BindsWithin ys ns)) (relation_outline r)
+      → ArePassed S ns (expanded_stands S ns r ++ shortcuts_stand [] ds)
+      → OutlineHas S (can_read S M ns) (relation_outline r) × (is_valid_over (callable S) (Some M) (expanded_reading S ns x r) ≡ true)
+  relation-good r ds x h k =
+      let p = passed-both S ns (domain_stands r.domain) (cases_stand S ns r.cases) (passed-both S ns (expanded_stands S ns r) (shortcuts_stand [] ds) k).0 in
       let a = alone-good S L ys (domain_patterns r.domain) h.alone (subst (ArePassed S ns) (domain-lone r.domain) p.0) in
       let c = cases-good r.cases h.branches p.1 in
       let v : list_all (is_valid_rule (callable S) M) (rules_reading S ns r.cases) ≡ true = ap (list_all (is_valid_rule (callable S) M)) (rules-branches S ns r.cases) ∙ c.1 in (

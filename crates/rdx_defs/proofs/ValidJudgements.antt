@@ -1,5 +1,5 @@
 -- What a form of a judgement that is not refused stands for is valid over its language.
-use Rattle.std.proofs.Common.{◌≡◌, ◌++◌, ◌∙◌, ◌+◌, ℕ, Bool, true, false, not, List, [], ◌∷◌, length, map, IsTrue, refl, sym, ap, ap₂, subst, if◌then◌else◌}
+use Rattle.std.proofs.Common.{◌≡◌, ◌++◌, ◌∙◌, ℕ, Bool, true, false, not, List, [], ◌∷◌, length, map, IsTrue, refl, sym, ap, ap₂, subst, if◌then◌else◌}
 use Rattle.std.proofs.lemmas.Bool.{eq-eqb}
 use Rattle.std.proofs.lemmas.List.{length-map, map-append}
 use Rattle.std.specs.Cmp.Lexicographic.{bytes_decides}
@@ -7,14 +7,14 @@ use Rattle.std.specs.List.{list_all}
 use Rattle.std.specs.Prelude.{◌&&◌, IsSome, Option, Some, None, option_map, codes, bytes_eq, nat_eq}
 use Rattle.rdx_sexp.specs.Sexp.{Sexp, leaf, list, integer, truth, text, symbol, keyword}
 use Rattle.rdx_term.specs.Spelling.{is_name}
-use Rattle.rdx_lang.specs.Depths.{Use, uses, closed_items_fit, has_fitting_names}
+use Rattle.rdx_lang.specs.Depths.{Use, uses}
 use Rattle.rdx_lang.specs.Fitting.{fits}
 use Rattle.rdx_lang.specs.Modes.{input_count, output_count, are_single, is_list_of, rule_fits_mode}
 use Rattle.rdx_lang.specs.Patterns.{Language}
 use Rattle.rdx_lang.specs.Programs.{Mode, JudgementRule, holds}
 use Rattle.rdx_lang.specs.Scopes.{bound_by, case_uses}
 use Rattle.rdx_lang.specs.Valid.{is_valid_extra, are_valid_extras, is_valid_judgement_rule, is_valid_judgement_contract, is_valid_judgement}
-use Rattle.rdx_lang.specs.WellFormed.{defined, has_known_nonterminals, is_well_formed_in}
+use Rattle.rdx_lang.specs.WellFormed.{is_well_formed_in}
 use Rattle.rdx_grammar.specs.Ends.{crossed_for}
 use Rattle.rdx_grammar.specs.Names.{is_bad_name}
 use Rattle.rdx_grammar.specs.Nonterminals.{names_of}
@@ -23,7 +23,7 @@ use Rattle.rdx_grammar.specs.Parts.{text_of, is_word}
 use Rattle.rdx_grammar.specs.Readable.{IsReadable}
 use Rattle.rdx_grammar.specs.Reading.{reading}
 use Rattle.rdx_grammar.specs.declared.patterns.position.Position.TheVariants.{Query}
-use Rattle.rdx_grammar.proofs.Booleans.{and_true, and_both}
+use Rattle.rdx_grammar.proofs.Booleans.{and_both}
 use Rattle.rdx_grammar.proofs.DepthsRead.{bound_use}
 use Rattle.rdx_grammar.proofs.Firsts.{none_first}
 use Rattle.rdx_defs.specs.Arguments.{is_misfit, data_by, patterns_in, templates_in}
@@ -44,6 +44,7 @@ use Rattle.rdx_defs.specs.Scope.{Scope, callable, has_metafunction}
 use Rattle.rdx_defs.specs.StandChecks.{bad_names}
 use Rattle.rdx_defs.specs.Stands.{Stand, misshaped, judgement, template, names_bound, bound_by_premise, bound_by_extras, arguments_stand, misfits, held_stands}
 use Rattle.rdx_defs.specs.TemplateReading.{template_reading}
+use Rattle.rdx_defs.proofs.AlikeSymbols.{AreAlike, alike-none}
 use Rattle.rdx_defs.proofs.AskingParts.{BindsWithin}
 use Rattle.rdx_defs.proofs.BoundParts.{symbol-name}
 use Rattle.rdx_defs.proofs.FormRefusals.{ArePassed}
@@ -51,7 +52,7 @@ use Rattle.rdx_defs.proofs.PartsOfForms.{IsNamed, HeadedHas, HeadedHasIn, bound}
 use Rattle.rdx_defs.proofs.PassedStands.{mode-fits, passed-both, pattern-first, template-first, arguments-passed, misfits-false, fits-uses, all-fit}
 use Rattle.rdx_defs.proofs.PatternLists.{single-items, inputs-counted, outputs-counted, each-bound}
 use Rattle.rdx_defs.proofs.RepeatedNames.{not_false}
-use Rattle.rdx_defs.proofs.ValidExtras.{taken-passed, premise-good, extras-good}
+use Rattle.rdx_defs.proofs.ValidExtras.{alike-taken, taken-passed, premise-good, extras-good}
 use Rattle.rdx_defs.proofs.ValidForms.{AreWell, with-well, closed-well_formed}
 
 -- ---- keywords
@@ -122,8 +123,9 @@ module _ (S : Scope) (L : Language) (ys : List (List ℕ)) where
       let f = mode-fits o ds refl (misfits-false S ns (is_misfit o ds) r.conclusion r.parts.head u.0) in
       let same : f.mode ≡ m = (let e = f.is in cc) in
       let v = arguments-passed S ns [] all a u.1 in
-      let w = taken-passed S L ys [] (each (patterns_in a)) h.arguments.patterns v.0 in
-      let g = extras-good S L ys of_rule bs true r.premises h.premises p.premises in
+      let w = taken-passed S L ys [] (each (patterns_in a)) alike-none h.arguments.patterns v.0 in
+      let alike : AreAlike bs = subst AreAlike (each-bound ns (patterns_in a)) (alike-taken S L ys [] (each (patterns_in a)) alike-none v.0) in
+      let g = extras-good S L ys of_rule bs true r.premises alike h.premises p.premises in
       let inputs : uses 0 R.inputs ≡ map bound_use bs = w.1 ∙ ap (map bound_use) (each-bound ns (patterns_in a)) in
       let used : case_uses R.inputs R.extras ≡ map bound_use all =
       ap₂ (λ (vs ws : List Use). vs ++ ws) inputs g.1.1 ∙ sym (map-append bound_use bs (bound_by_extras of_rule S ns r.premises)) in
@@ -174,7 +176,7 @@ module _ (S : Scope) (L : Language) (ys : List (List ℕ)) where
   alone-before [] qs h k f = f h
   alone-before (p ∷ ps) qs h k f =
       let a = pattern-first S ns [] (occurrences 0 p) (map lone_pattern ps) k in
-      ((taken-passed S L ys [] (one p) h.0 a.0).0, alone-before ps qs h.1 a.1 f)
+      ((taken-passed S L ys [] (one p) alike-none h.0 a.0).0, alone-before ps qs h.1 a.1 f)
 
   -- what an option gives, before others
   given-good : (m : Option Mode) (k d : Sexp) (o : Option Headed) (qs : List Sexp) → AloneHave (BindsWithin ys ns) (given_patterns k o ++ qs)
@@ -403,7 +405,7 @@ module _ (S : Scope) (L : Language) (ys : List (List ℕ)) where
           absurd (let z = (subst (λ (o : Option Headed). ArePassed S ns (held_stands S ns [] d o)) e p).shapes in cc)
       by_form (Some q) e =
           let p = passed-both S ns held behind k in
-          let g = premise-good S L ys [] d q (subst (λ (o : Option Headed). PremiseHas S (bound (BindsWithin ys ns)) o) e h.questions.0.premise)
+          let g = premise-good S L ys [] d q alike-none (subst (λ (o : Option Headed). PremiseHas S (bound (BindsWithin ys ns)) o) e h.questions.0.premise)
           (subst (λ (o : Option Headed). ArePassed S ns (held_stands S ns [] d o)) e p.0) in
           let bs = bound_by_premise S ns (Some q) in
           record {

@@ -13,3 +13,7 @@ pub mod ByNames
 pub mod NamesAgain
 pub mod FormRefusals
 pub mod ScopeParts
+pub mod ExpandedAnswers
+pub mod ShortcutViews
+pub mod Arrows
+pub mod Filling

@@ -1,3 +1,4 @@
+pub mod Earliest
 pub mod Bound
 pub mod Scope
 pub mod Operations
@@ -16,8 +17,11 @@ pub mod StandChecks
 pub mod StandRefusal
 pub mod ExtraReading
 pub mod RelationForms
+pub mod Shorthand
+pub mod Expansion
 pub mod RelationStands
 pub mod RelationReading
+pub mod RelationEnds
 pub mod RelationRefusal
 pub mod MetafunctionForms
 pub mod MetafunctionStands
@@ -35,6 +39,7 @@ pub mod MetafunctionLaws
 pub mod JudgementLaws
 pub mod Examples
 pub mod RelationExamples
+pub mod ShorthandExamples
 pub mod MetafunctionExamples
 pub mod JudgementExamples
 pub mod Inside

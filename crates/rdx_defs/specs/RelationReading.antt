@@ -5,6 +5,7 @@ use Rattle.rdx_lang.specs.Programs.{Rule, Relation}
 use Rattle.rdx_grammar.specs.Parts.{text_of}
 use Rattle.rdx_grammar.specs.Reading.{reading}
 use Rattle.rdx_grammar.specs.declared.patterns.position.Position.TheVariants.{Query}
+use Rattle.rdx_defs.specs.Expansion.{expanded_form}
 use Rattle.rdx_defs.specs.ExtraForms.{ExtraForm, such_that, provided, confirmed, holding, freshly, name, no_extra, of_case, form_at}
 use Rattle.rdx_defs.specs.ExtraReading.{extras_reading}
 use Rattle.rdx_defs.specs.RelationForms.{CaseForm, case_form, RelationForm}
@@ -48,11 +49,15 @@ abbrev pub rules_reading : Scope → List (List ℕ) → List Sexp → List Rule
 rules_reading S ns [] = []
 rules_reading S ns (d ∷ ds) = with_rule S ns (case_form d) (rules_reading S ns ds)
 
--- the relation of this name that a form with these parts stands for
-abbrev pub relation_reading : Scope → List (List ℕ) → List ℕ → RelationForm → Relation
-relation_reading S ns x r = record {
+-- the relation of this name that a form without shorthand with these parts stands for
+abbrev pub expanded_reading : Scope → List (List ℕ) → List ℕ → RelationForm → Relation
+expanded_reading S ns x r = record {
   name = x;
   language = text_of r.language;
   domain = option_map (reading ns Query) r.domain;
   rules = rules_reading S ns r.cases;
 }
+
+-- and one with these parts, which may have shorthand
+abbrev pub relation_reading : Scope → List (List ℕ) → List ℕ → RelationForm → Relation
+relation_reading S ns x r = expanded_reading S ns x (expanded_form r)

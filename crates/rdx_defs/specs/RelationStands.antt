@@ -1,12 +1,16 @@
 -- What stands in a form of a relation.
-use Rattle.std.specs.Prelude.{ℕ, false, List, [], ◌∷◌, ◌++◌, Option, Some, None}
+use Rattle.std.specs.Prelude.{ℕ, false, List, [], ◌∷◌, ◌++◌, Option, Some, None, if◌then◌else◌}
 use Rattle.rdx_sexp.specs.Sexp.{Sexp}
+use Rattle.rdx_grammar.specs.Kinds.{is_among}
 use Rattle.rdx_grammar.specs.Occurrences.{occurrences}
+use Rattle.rdx_grammar.specs.Parts.{text_of}
 use Rattle.rdx_grammar.specs.PatternChecks as patterns
+use Rattle.rdx_defs.specs.Expansion.{expanded_form}
 use Rattle.rdx_defs.specs.ExtraForms.{of_case}
 use Rattle.rdx_defs.specs.RelationForms.{CaseForm, case_form, RelationForm}
 use Rattle.rdx_defs.specs.Scope.{Scope}
-use Rattle.rdx_defs.specs.Stands.{Stand, misshaped, arrow, pattern, template, bound_in, names_bound, bound_by_extras, extras_stand}
+use Rattle.rdx_defs.specs.Shorthand.{behind_with, Shortcut, shortcut_form, is_known_arrow}
+use Rattle.rdx_defs.specs.Stands.{Stand, misshaped, arrow, pattern, template, repeated, bound_in, names_bound, bound_by_extras, extras_stand}
 
 -- the symbols that bind names in the pattern and the extras of a case
 abbrev pub bound_by_case : Scope → List (List ℕ) → CaseForm → List patterns.Bound
@@ -29,7 +33,31 @@ abbrev pub domain_stands : Option Sexp → List Stand
 domain_stands None = []
 domain_stands (Some p) = pattern [] (occurrences 0 p) ∷ []
 
--- what stands in the form d, which has these parts
+-- what stands in the form d without shorthand, which has these parts
+abbrev pub expanded_stands : Scope → List (List ℕ) → RelationForm → List Stand
+expanded_stands S ns r = domain_stands r.domain ++ cases_stand S ns r.cases
+
+-- the arrows of a shortcut that are at fault, behind shortcuts with these arrows; the rest of it is looked at where cases use it
+abbrev pub arrows_stand : List (List ℕ) → Shortcut → List Stand
+arrows_stand seen s =
+    (if is_known_arrow seen s.old then [] else arrow s.old ∷ []) ++ (if is_among seen (text_of s.new) then repeated s.new ∷ [] else [])
+
+-- what stands in d, which has to be a shortcut
+abbrev pub shortcut_stands : List (List ℕ) → Sexp → Option Shortcut → List Stand
+shortcut_stands seen d None = misshaped d ∷ []
+shortcut_stands seen d (Some s) = arrows_stand seen s
+
+-- these arrows with that of a shortcut
+abbrev pub arrows_with : List (List ℕ) → Option Shortcut → List (List ℕ)
+arrows_with seen None = seen
+arrows_with seen (Some s) = text_of s.new ∷ seen
+
+-- what stands in data that have to be shortcuts
+abbrev pub shortcuts_stand : List (List ℕ) → List Sexp → List Stand
+shortcuts_stand seen [] = []
+shortcuts_stand seen (d ∷ ds) = shortcut_stands seen d (shortcut_form d) ++ shortcuts_stand (arrows_with seen (shortcut_form d)) ds
+
+-- what stands in the form d, which has these parts: in what it is without shorthand, and in its shortcuts
 abbrev pub relation_stands : Scope → List (List ℕ) → Sexp → Option RelationForm → List Stand
 relation_stands S ns d None = misshaped d ∷ []
-relation_stands S ns d (Some r) = domain_stands r.domain ++ cases_stand S ns r.cases
+relation_stands S ns d (Some r) = expanded_stands S ns (expanded_form r) ++ shortcuts_stand [] (behind_with r.cases)

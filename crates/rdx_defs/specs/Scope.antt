@@ -1,5 +1,5 @@
 -- What the whole file defines: metafunctions and judgements are known in all of it, also before their forms.
-use Rattle.std.specs.Prelude.{ℕ, Bool, List, [], ◌∷◌, Option, Some, None, map, is_some, bytes_eq, if◌then◌else◌}
+use Rattle.std.specs.Prelude.{ℕ, Bool, List, [], ◌∷◌, Option, Some, None, map, bytes_eq, if◌then◌else◌}
 use Rattle.std.specs.List.{list_any}
 use Rattle.rdx_lang.specs.Modes.{Callable}
 use Rattle.rdx_lang.specs.Programs.{Mode}

@@ -26,7 +26,7 @@ pub data Stand : Type 0 where
   judgement : Sexp → Stand
   -- the name of a judgement in a premise
   asked : Sexp → Stand
-  -- the arrow of a case
+  -- the arrow of a case, or an arrow that no shortcut has where one has to stand
   arrow : Sexp → Stand
   -- a pattern in which these stand, and the symbols that bind names before it
   pattern : List patterns.Bound → List Occurrence → Stand
@@ -42,6 +42,8 @@ pub data Stand : Type 0 where
   fresh : List patterns.Bound → Sexp → Stand
   -- the name of a case or a rule, and whether none may come here
   named : Bool → Sexp → Stand
+  -- the arrow of a shortcut, which an earlier one has
+  repeated : Sexp → Stand
 
 -- what stands in the arguments of a clause, which are the items of a list pattern
 abbrev pub argument_occurrences : List Sexp → List Occurrence

@@ -1,9 +1,10 @@
 -- When a template or a host expression is refused.
 use Rattle.std.specs.Prelude.{List, [], ◌∷◌, Option, option_map}
 use Rattle.rdx_sexp.specs.Sexp.{Sexp}
-use Rattle.rdx_grammar.specs.Refusal.{Refusal, unnamed, named, first, first_refusal}
+use Rattle.rdx_grammar.specs.Refusal.{Refusal, unnamed, named, first_refusal}
 use Rattle.rdx_grammar.specs.Unbuilt.{unbuilt_at}
 use Rattle.rdx_grammar.specs.declared.shape.fault.DefKind.TheVariants.{Shape, BadPattern, EllipsisDepth, EllipsisVariable, RacketEscape}
+use Rattle.rdx_defs.specs.Earliest.{start, earliest}
 use Rattle.rdx_defs.specs.Bound.{Bound}
 use Rattle.rdx_defs.specs.Scope.{Scope}
 use Rattle.rdx_defs.specs.TemplateChecks.{bad_parts, shallow_parts, undriven_parts, escapes}
@@ -14,11 +15,11 @@ use Rattle.rdx_defs.specs.TemplateShapes.{template_shapes, host_shapes}
 abbrev pub parts_refusal : Scope → Bound → List Sexp → List TemplatePart → Option Refusal
 parts_refusal S bs ds ps =
     first_refusal
-    (option_map (unnamed Shape) (first ds)  -- S1
-    ∷ option_map (unnamed BadPattern) (first (bad_parts ps))  -- S5
-    ∷ option_map (named EllipsisDepth) (first (shallow_parts bs ps))  -- S6
-    ∷ option_map (unnamed EllipsisVariable) (first (undriven_parts S bs ps))  -- S9
-    ∷ option_map (unnamed RacketEscape) (first (escapes ps))  -- S10
+    (option_map (unnamed Shape) (earliest start ds)  -- S1
+    ∷ option_map (unnamed BadPattern) (earliest start (bad_parts ps))  -- S5
+    ∷ option_map (named EllipsisDepth) (earliest start (shallow_parts bs ps))  -- S6
+    ∷ option_map (unnamed EllipsisVariable) (earliest start (undriven_parts S bs ps))  -- S9
+    ∷ option_map (unnamed RacketEscape) (earliest start (escapes ps))  -- S10
     ∷ [])
 
 -- the refusal of a datum as a template in this scope, where these names are bound; S0 comes first

@@ -6,6 +6,7 @@ ghost use Rattle.rdx_defs.specs.JudgementLaws.{NeverBothJudgement, NeverNeitherJ
 ghost use Rattle.rdx_defs.specs.MetafunctionExamples.{CallsAnother, ClosesContract, NamedClauseRefused, OtherNameRefused};
 ghost use Rattle.rdx_defs.specs.MetafunctionLaws.{NeverBothMetafunction, NeverNeitherMetafunction, OneMetafunction, OneMetafunctionRefusal};
 ghost use Rattle.rdx_defs.specs.RelationExamples.{ArrowRefused, BindsBehind, ClashRefused, ExtraRefused, FreshRefused, MakesFresh, NameRefused, ResultRefused};
+ghost use Rattle.rdx_defs.specs.ShorthandExamples.{AgainRefused, GoesOn, LaterRefused, OneEach, PlainStays, PutInStays, SameRefused};
 ghost use Rattle.rdx_defs.specs.RelationLaws.{NeverBothRelation, NeverNeitherRelation, OneRelation, OneRelationRefusal};
 
 /// Where given names are bound, a datum is one template at most, or has one refusal at most, and
@@ -81,6 +82,18 @@ pub fn worked_relations()
     ensures shallow { ResultRefused }
     ensures clash { ClashRefused }
     ensures bound_before { FreshRefused }
+{}
+
+/// Worked examples: what forms of relations are without their shorthand, and where others are
+/// refused.
+pub fn worked_shorthand()
+    ensures goes_on { GoesOn }
+    ensures one_each { OneEach }
+    ensures put_in { PutInStays }
+    ensures plain { PlainStays }
+    ensures same_symbol { SameRefused }
+    ensures again { AgainRefused }
+    ensures later { LaterRefused }
 {}
 
 /// Worked examples: what data are as metafunctions, and where others are refused as ones.

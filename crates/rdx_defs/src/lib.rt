@@ -4,16 +4,18 @@
 //! where some names are bound; [`read_metafunction`], [`read_judgement`] and [`read_relation`] give
 //! the metafunction that a `define-metafunction` form is, the judgement that a `define-judgment-form`
 //! form is, and the relation that a `reduction-relation` form is, over a language, and
-//! [`read_premise`] a premise by itself; or they refuse it at the first place of the check with the
-//! least number that refuses it. Metafunctions and judgements are known in the whole file, so each of
-//! these is given a [`Scope`], which [`scope_of`] finds before any form is read. What forms mean
-//! follows the Redex reference manual ("Terms", "Other Relations", "Reduction Relations"), and host
-//! expressions the Racket reference.
+//! [`read_premise`] a premise by itself; or they refuse it by the check with the least number that
+//! refuses it, at its earliest place in the file. Metafunctions and judgements are known in the whole
+//! file, so each of these is given a [`Scope`], which [`scope_of`] finds before any form is read.
+//! [`expand_with`] gives the cases of a relation without the shorthand that shortcuts behind `with`
+//! define. What forms mean follows the Redex reference manual ("Terms", "Other Relations", "Reduction
+//! Relations"), and host expressions the Racket reference.
 #![tactic(auto)]
 
 mod arguments;
 mod branches;
 mod crosses;
+mod earliest;
 mod extras;
 mod judgements;
 pub mod laws;
@@ -22,13 +24,15 @@ mod operations;
 mod relations;
 mod scope;
 mod scopes;
+mod shorthand;
 mod stands;
 mod templates;
 
 pub use judgements::{ReadPremise, judgement_name, read_judgement, read_premise};
 pub use metafunctions::{metafunction_name, read_metafunction};
 pub use operations::operation_text;
-pub use relations::read_relation;
+pub use relations::{read_relation, relation_ends};
 pub use scope::Scope;
 pub use scopes::{judgement_languages, scope_of};
+pub use shorthand::expand_with;
 pub use templates::{read_host, read_template};

@@ -1,8 +1,10 @@
 // Reduction relations.
 
+mod ends;
 pub(crate) mod forms;
 mod reader;
 pub(crate) mod readings;
 pub(crate) mod stands;
 
+pub use ends::relation_ends;
 pub use reader::read_relation;

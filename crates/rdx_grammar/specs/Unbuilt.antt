@@ -2,22 +2,18 @@
 use Rattle.std.specs.Prelude.{ℕ, Bool, false, not, ◌&&◌, ◌||◌, List, [], ◌∷◌, Option, Some, None, codes, bytes_eq, nat_eq, if◌then◌else◌}
 use Rattle.std.specs.List.{starts_with}
 use Rattle.rdx_sexp.specs.Sexp.{integer, truth, text, symbol, keyword, Atom, Sexp, Sexps, leaf, list, nil, cons}
-use Rattle.rdx_grammar.specs.Names.{is_one_of, begins_with_dots}
+use Rattle.rdx_grammar.specs.Names.{begins_with_dots}
 use Rattle.rdx_grammar.specs.Refusal.{Refusal, unnamed}
 use Rattle.rdx_grammar.specs.declared.shape.fault.DefKind.TheVariants.{Unbuilt}
-
--- the words that forms to come are written with
-abbrev pub words_to_come : List (List ℕ)
-words_to_come = codes "with" ∷ []
 
 -- y stands somewhere in x
 abbrev pub occurs_in : List ℕ → List ℕ → Bool
 occurs_in y [] = starts_with nat_eq [] y
 occurs_in y (b ∷ x) = starts_with nat_eq (b ∷ x) y || occurs_in y x
 
--- a form to come gives the symbol a meaning: a word, or a mismatch name
+-- a form to come gives the symbol a meaning: it is a mismatch name
 abbrev pub is_word_to_come : List ℕ → Bool
-is_word_to_come x = is_one_of words_to_come x || (occurs_in (codes "_!_") x && not (begins_with_dots x))
+is_word_to_come x = occurs_in (codes "_!_") x && not (begins_with_dots x)
 
 -- such a symbol, or the keyword `#:binding-forms`
 abbrev pub is_atom_to_come : Atom → Bool

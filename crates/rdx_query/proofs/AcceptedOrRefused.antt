@@ -17,6 +17,7 @@ use Rattle.rdx_grammar.specs.Unbuilt.{unbuilt_at}
 use Rattle.rdx_grammar.specs.Refused.{recursion_at}
 use Rattle.rdx_grammar.specs.declared.shape.fault.DefKind.TheVariants.{Shape, RacketEscape}
 use Rattle.rdx_grammar.specs.declared.patterns.position.Position.TheVariants as position
+use Rattle.rdx_defs.specs.Earliest.{start}
 use Rattle.rdx_defs.specs.Headed.{Headed, headed}
 use Rattle.rdx_defs.specs.JudgementForms.{JudgementForm, judgement_form}
 use Rattle.rdx_defs.specs.JudgementReading.{judgement_reading}
@@ -26,7 +27,8 @@ use Rattle.rdx_defs.specs.MetafunctionReading.{metafunction_reading}
 use Rattle.rdx_defs.specs.RelationForms.{RelationForm, relation_form}
 use Rattle.rdx_defs.specs.RelationReading.{relation_reading}
 use Rattle.rdx_defs.specs.RelationStands.{relation_stands}
-use Rattle.rdx_defs.specs.Stands.{held_stands, bound_by_premise}
+use Rattle.rdx_defs.specs.StandChecks.{shape_faults, shape_at, bad_name_at, bad_place_at, depth_fault_at, unknown_name_at, undriven_at, escape_at as stands_escape_at, mode_fault_at}
+use Rattle.rdx_defs.specs.Stands.{misshaped, held_stands, bound_by_premise}
 use Rattle.rdx_query.specs.ClosureForms.{closed_relation, closure_names, closure_language_at, unknown_closed_at, closure_shape_at, no_nonterminal_at, misshaped_refusal, context_refusal_by, context_relation_by, compatible_refusal_by, compatible_relation_by}
 use Rattle.rdx_query.specs.DefineForms.{define_refusal_by, defined_relation, kind_refusal, kind_relation, relation_by}
 use Rattle.rdx_query.specs.DefineParts.{DefineKind, by_cases, by_contexts, by_crosses, DefineParts, ClosureParts, define_parts, closure_parts, with_symbol}
@@ -46,6 +48,8 @@ use Rattle.rdx_query.specs.MetafunctionForms.{function_names, function_refusal_b
 use Rattle.rdx_query.specs.Queries.{Query, matches, whether, splits, reducts, tagged}
 use Rattle.rdx_query.specs.RelationForms.{relation_names, cases_refusal_over, bad_relation_at}
 use Rattle.rdx_query.specs.StepForms.{StepParts, step_parts, steps_refusal}
+use Rattle.rdx_grammar.proofs.Firsts.{none_or}
+use Rattle.rdx_defs.proofs.EarliestPlaces.{earliest-none}
 use Rattle.rdx_query.proofs.CheckNumbers.{none-at}
 use Rattle.rdx_query.proofs.FoundByName.{HasValue, mapped, relation-found}
 use Rattle.rdx_query.proofs.OneReading.{accepts-scope, accepts-languages, accepts-ends}
@@ -152,7 +156,15 @@ step-parts K d (Some q) e = record { value = q; is = refl }
 premise-parts : (K : Known) (d : Sexp) (h : HoldsParts) (o : Option Headed)
     → holds_refusal_over K d o (held_stands K.scope (asked_names K o) [] h.premise o ++ result_stands (bound_by_premise K.scope (asked_names K o) o) h.result) ≡ None
     → HasValue Headed o
-premise-parts K d h None e = absurd (not_passed (unbuilt_at d) (unnamed Shape h.premise) e)
+premise-parts K d h None e =
+    let ns = asked_names K None in
+    let behind = result_stands (bound_by_premise K.scope ns None) h.result in
+    let ss = misshaped h.premise ∷ behind in
+    let last = first_refusal (unknown_name_at K.scope ss ∷ undriven_at K.scope ss ∷ stands_escape_at K.scope ss ∷ mode_fault_at ss ∷ []) in
+    let late = or_else (bad_name_at ss) (or_else (bad_place_at K.scope ns ss) (or_else (depth_fault_at K.scope ns ss) last)) in
+    let shaped : shape_at ss ≡ None = (none_or (shape_at ss) late (none_or (unbuilt_at d) (or_else (shape_at ss) late) e).1).0 in
+    let none : h.premise ∷ shape_faults behind ≡ [] = earliest-none start (unnamed Shape) (shape_faults ss) shaped in
+    absurd cc
 premise-parts K d h (Some q) e = record { value = q; is = refl }
 
 holds-parts : (K : Known) (d : Sexp) (o : Option HoldsParts) → holds_refusal K d o ≡ None → HasValue Query (holds_by K o)

@@ -7,10 +7,11 @@ use Rattle.rdx_grammar.specs.Heads.{Roles, patterns as items_of_list, next, rest
 use Rattle.rdx_grammar.specs.Parts.{text_of}
 use Rattle.rdx_grammar.specs.PatternChecks as patterns
 use Rattle.rdx_grammar.specs.Reading.{is_pattern}
-use Rattle.rdx_grammar.specs.Refusal.{Refusal, unnamed, or_else, first}
+use Rattle.rdx_grammar.specs.Refusal.{Refusal, unnamed, or_else}
 use Rattle.rdx_grammar.specs.declared.shape.fault.DefKind.TheVariants.{Shape}
 use Rattle.rdx_defs.specs.Arguments.{is_misfit}
 use Rattle.rdx_defs.specs.Bound.{Bound}
+use Rattle.rdx_defs.specs.Earliest.{start, earliest}
 use Rattle.rdx_defs.specs.ExtraForms as forms
 use Rattle.rdx_defs.specs.ExtraForms.{ExtraForm, such_that, provided, confirmed, holding, freshly, name, no_extra, form_at}
 use Rattle.rdx_defs.specs.Headed.{Headed, headed}
@@ -19,8 +20,9 @@ use Rattle.rdx_defs.specs.MetafunctionForms.{ClauseForm, clause_form, ContractFo
 use Rattle.rdx_defs.specs.MetafunctionStands.{clause_stands, clauses_stand, contract_stands, patterns_stand, function_stands}
 use Rattle.rdx_defs.specs.Scope.{Scope, mode_of}
 use Rattle.rdx_defs.specs.StandChecks.{shape_faults, shape_at, repeated_names, repeated_at, repeated_name_at}
-use Rattle.rdx_defs.specs.Stands.{Stand, misshaped, function, judgement, asked, arrow, pattern, template, condition, plain, misfit, fresh, named, bound_in, plain_argument, flagged_stand, arguments_by, arguments_stand, misfits, names_bound, premise_arguments, held_stands, bound_by_premise, bound_by_extra, extra_stands, is_named, extras_stand}
+use Rattle.rdx_defs.specs.Stands.{Stand, misshaped, function, judgement, asked, arrow, pattern, template, condition, plain, misfit, fresh, named, repeated, bound_in, plain_argument, flagged_stand, arguments_by, arguments_stand, misfits, names_bound, premise_arguments, held_stands, bound_by_premise, bound_by_extra, extra_stands, is_named, extras_stand}
 use Rattle.rdx_defs.specs.TemplateShapes.{template_shapes, host_shapes}
+use Rattle.rdx_defs.proofs.EarliestPlaces.{earliest-none}
 use Rattle.rdx_defs.proofs.TrackedNames.{MakesNone, clause-none}
 
 -- ---- what stands there
@@ -39,6 +41,7 @@ IsNameless (plain os) = Unit {0}
 IsNameless (misfit d n) = Unit {0}
 IsNameless (fresh bs d) = ⊥
 IsNameless (named again d) = again ≡ true
+IsNameless (repeated d) = ⊥
 
 -- all are such
 abbrev pub AreNameless : List Stand → Type 0
@@ -189,11 +192,13 @@ no_repeats seen (plain os ∷ ss) a e = no_repeats seen ss a.1 (behind_none (pat
 no_repeats seen (misfit d n ∷ ss) a e = no_repeats seen ss a.1 e
 no_repeats seen (fresh bs d ∷ ss) a e = absurd a.0
 no_repeats seen (named again d ∷ ss) a e = absurd (no_name again d (shape_faults ss) a.0 e)
+no_repeats seen (repeated d ∷ ss) a e = absurd a.0
 
 -- so that check is never the one that is reported
 pub without_repeats : (ss : List Stand) (o : Option Refusal) → AreNameless ss → or_else (shape_at ss) (or_else (repeated_name_at ss) o) ≡ or_else (shape_at ss) o
-without_repeats ss o a = by_shapes (shape_faults ss) refl
+without_repeats ss o a = by_shape (shape_at ss) refl
   where
-    by_shapes : (ds : List Sexp) → shape_faults ss ≡ ds → or_else (option_map (unnamed Shape) (first ds)) (or_else (repeated_name_at ss) o) ≡ or_else (option_map (unnamed Shape) (first ds)) o
-    by_shapes [] e = ap (λ ns. or_else (option_map repeated_at (first ns)) o) (no_repeats [] ss a e)
-    by_shapes (d ∷ ds) e = refl
+    by_shape : (r : Option Refusal) → shape_at ss ≡ r → or_else r (or_else (repeated_name_at ss) o) ≡ or_else r o
+    by_shape None e =
+        ap (λ ns. or_else (option_map repeated_at (earliest start ns)) o) (no_repeats [] ss a (earliest-none start (unnamed Shape) (shape_faults ss) e))
+    by_shape (Some r) e = refl

@@ -1,44 +1,12 @@
 -- What a form asks for, by its parts.
 use Rattle.std.proofs.Common.{◌≡◌, ℕ, List, [], ◌∷◌, Option, Some, None, refl, ap, ◌∙◌, if◌then◌else◌}
-use Rattle.std.specs.Prelude.{Bool, true, false, option_map}
+use Rattle.std.specs.Prelude.{Bool, true, false}
 use Rattle.rdx_sexp.specs.Sexp.{integer, truth, text, symbol, keyword, Sexp, leaf, list}
 use Rattle.rdx_term.specs.Spelling.{is_name}
 use Rattle.rdx_grammar.specs.Parts.{symbol_text, text_or_none, is_symbol}
 use Rattle.rdx_grammar.specs.Reading.{name_in}
-use Rattle.rdx_query.specs.DefineParts.{DefineParts, ClosureParts, with_symbol}
-use Rattle.rdx_query.specs.Ends.{closure_ends, kind_ends, define_ends}
-use Rattle.rdx_query.specs.Inside.PartViews.{Defining, defining_by}
-
--- a form without such parts asks for nothing
-pub no-parts : (o : Option DefineParts) → option_map defining_by o ≡ None → define_ends o ≡ []
-no-parts None e = refl
-no-parts (Some q) e = absurd cc
-
--- one with such parts asks by what its list says
-pub by-parts : (o : Option DefineParts) (p : Defining) → option_map defining_by o ≡ Some p → define_ends o ≡ kind_ends p.kind p.body
-by-parts None p e = absurd cc
-by-parts (Some q) p e = let k : defining_by q ≡ p = cc in ap (λ (r : Defining). kind_ends r.kind r.body) k
-
--- a closure that has no such parts asks for nothing
-pub no-closure : (o : Option ClosureParts) → o ≡ None → closure_ends (with_symbol o) ≡ []
-no-closure None e = refl
-no-closure (Some q) e = absurd cc
-
--- one by something else than a symbol asks for nothing
-pub no-symbol : (q : ClosureParts) → symbol_text q.by ≡ None → closure_ends (with_symbol (Some q)) ≡ []
-no-symbol q e = by_test (is_symbol q.by) (not_symbol q.by e)
-  where
-    not_symbol : (d : Sexp) → symbol_text d ≡ None → is_symbol d ≡ false
-    not_symbol (leaf (symbol x) s) f = absurd cc
-    not_symbol (leaf (integer n) s) f = refl
-    not_symbol (leaf (truth b) s) f = refl
-    not_symbol (leaf (text t) s) f = refl
-    not_symbol (leaf (keyword k) s) f = refl
-    not_symbol (list ds s) f = refl
-
-    by_test : (b : Bool) → b ≡ false → closure_ends (if b then Some q else None) ≡ []
-    by_test true f = absurd cc
-    by_test false f = refl
+use Rattle.rdx_query.specs.DefineParts.{ClosureParts, with_symbol}
+use Rattle.rdx_query.specs.Ends.{closure_ends}
 
 -- one by a symbol asks for what this is, where it is a name
 pub by-symbol : (q : ClosureParts) (x : List ℕ) → symbol_text q.by ≡ Some x → closure_ends (with_symbol (Some q)) ≡ (if is_name x then x ∷ [] else [])

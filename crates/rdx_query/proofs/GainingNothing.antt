@@ -1,5 +1,5 @@
 -- A language that has all cross nonterminals for which the file asks gains none where a form is read over it.
-use Rattle.std.proofs.Common.{◌≡◌, ◌<◌, ℕ, Bool, true, false, inl, inr, length, get_or, List, [], ◌∷◌, Option, Some, Result, Ok, Err, map, refl, sym, ◌∙◌, ap, subst, if◌then◌else◌}
+use Rattle.std.proofs.Common.{◌≡◌, ◌<◌, ℕ, Bool, true, false, inl, inr, length, get_or, List, [], ◌∷◌, Some, Result, Ok, Err, map, refl, sym, ◌∙◌, ap, subst, if◌then◌else◌}
 use Rattle.std.specs.Prelude.{IsTrue, OnOk, OnErr}
 use Rattle.rdx_sexp.specs.Sexp.{Sexp, Sexps, leaf, list, nil, cons}
 use Rattle.rdx_lang.proofs.CrossesAgain.{crosses_once}
@@ -92,9 +92,9 @@ parts-ask zs (list es s) ds e h =
 pub data-asked : (zs : List (List ℕ)) (d : Sexp) → AreAmong (form_ends d) zs → AreAmong (ends_in d) zs
 data-asked zs d a = λ y i. a y (append-right (define_ends (define_parts d)) (ends_in d) y i)
 
--- so does the closure that it defines
-pub closure-asked : (zs : List (List ℕ)) (d : Sexp) → AreAmong (form_ends d) zs → AreAmong (define_ends (define_parts d)) zs
-closure-asked zs d a = λ y i. a y (append-left (define_ends (define_parts d)) (ends_in d) y i)
+-- so does the relation that it defines
+pub define-asked : (zs : List (List ℕ)) (d : Sexp) → AreAmong (form_ends d) zs → AreAmong (define_ends (define_parts d)) zs
+define-asked zs d a = λ y i. a y (append-left (define_ends (define_parts d)) (ends_in d) y i)
 
 -- and the list in a form that defines a relation
 pub body-asks : (zs : List (List ℕ)) (d : Sexp) (q : DefineParts) → define_parts d ≡ Some q → AreAmong (form_ends d) zs → AreAmong (ends_in q.body) zs

@@ -3,12 +3,13 @@ use Rattle.std.proofs.Common.{◌≡◌, false, List, [], ◌∷◌, None, Resul
 use Rattle.std.specs.Prelude.{option_map}
 use Rattle.rdx_sexp.specs.Sexp.{Sexp}
 use Rattle.rdx_lang.specs.declared.template.HostExpr.{HostExpr}
-use Rattle.rdx_grammar.specs.Refusal.{unnamed, named, or_else, first}
+use Rattle.rdx_grammar.specs.Refusal.{unnamed, named, or_else}
 use Rattle.rdx_grammar.specs.Unbuilt.{has_word_to_come}
 use Rattle.rdx_grammar.specs.declared.shape.fault.DefFault.{DefFault}
 use Rattle.rdx_grammar.specs.declared.shape.fault.DefFault.TheVariants.{Refused, NoMemory}
 use Rattle.rdx_grammar.specs.declared.shape.fault.DefKind.TheVariants.{Shape, BadPattern, EllipsisDepth, EllipsisVariable, RacketEscape}
 use Rattle.rdx_defs.specs.Answers.{ReadsHost}
+use Rattle.rdx_defs.specs.Earliest.{start, earliest}
 use Rattle.rdx_defs.specs.Scope.{Scope}
 use Rattle.rdx_defs.specs.TemplateChecks.{bad_parts, shallow_parts, undriven_parts, escapes}
 use Rattle.rdx_defs.specs.TemplateOccurrences.{TemplatePart, single, repeated, malformed, escape, host_parts}
@@ -29,10 +30,10 @@ no_shallow (escape d ∷ ps) = no_shallow ps
 -- the checks of a host expression where no name is bound
 abbrev pub host_checks : Scope → Sexp → Checks
 host_checks S d =
-    (1, option_map (unnamed Shape) (first (host_shapes d)))
-    ∷ (5, option_map (unnamed BadPattern) (first (bad_parts (host_parts S [] 0 d))))
-    ∷ (9, option_map (unnamed EllipsisVariable) (first (undriven_parts S [] (host_parts S [] 0 d))))
-    ∷ (10, option_map (unnamed RacketEscape) (first (escapes (host_parts S [] 0 d))))
+    (1, option_map (unnamed Shape) (earliest start (host_shapes d)))
+    ∷ (5, option_map (unnamed BadPattern) (earliest start (bad_parts (host_parts S [] 0 d))))
+    ∷ (9, option_map (unnamed EllipsisVariable) (earliest start (undriven_parts S [] (host_parts S [] 0 d))))
+    ∷ (10, option_map (unnamed RacketEscape) (earliest start (escapes (host_parts S [] 0 d))))
     ∷ []
 
 -- their numbers ascend
@@ -49,9 +50,9 @@ host-checks S d = (
 pub host-refusal : (S : Scope) (d : Sexp) → has_word_to_come d ≡ false → host_refusal S [] d ≡ refused (host_checks S d)
 host-refusal S d b =
     let ps = host_parts S [] 0 d in
-    let last = or_else (option_map (unnamed EllipsisVariable) (first (undriven_parts S [] ps))) (or_else (option_map (unnamed RacketEscape) (first (escapes ps))) None) in
-    (λ i. or_else (unbuilt_at-built d b i) (or_else (or_else (option_map (unnamed Shape) (first (host_shapes d)))
-    (or_else (option_map (unnamed BadPattern) (first (bad_parts ps))) (or_else (option_map (named EllipsisDepth) (first (no_shallow ps i))) last))) None))
+    let last = or_else (option_map (unnamed EllipsisVariable) (earliest start (undriven_parts S [] ps))) (or_else (option_map (unnamed RacketEscape) (earliest start (escapes ps))) None) in
+    (λ i. or_else (unbuilt_at-built d b i) (or_else (or_else (option_map (unnamed Shape) (earliest start (host_shapes d)))
+    (or_else (option_map (unnamed BadPattern) (earliest start (bad_parts ps))) (or_else (option_map (named EllipsisDepth) (earliest start (no_shallow ps i))) last))) None))
     ∙ or_none (refused (host_checks S d))
 
 -- what is read of it is refused so

@@ -17,10 +17,11 @@ use Rattle.rdx_grammar.specs.PatternRefusal as pattern
 use Rattle.rdx_grammar.specs.Reading.{reading}
 use Rattle.rdx_grammar.specs.declared.patterns.position.Position.TheVariants as position
 use Rattle.rdx_grammar.specs.PatternChecks.{when}
-use Rattle.rdx_grammar.specs.Refusal.{Refusal, named, or_else, first, first_refusal}
+use Rattle.rdx_grammar.specs.Refusal.{Refusal, named, or_else, first_refusal}
 use Rattle.rdx_grammar.specs.Unbuilt.{unbuilt_at}
 use Rattle.rdx_grammar.specs.declared.shape.fault.DefKind.TheVariants.{UnknownName}
 use Rattle.rdx_defs.specs.Arguments.{is_misfit}
+use Rattle.rdx_defs.specs.Earliest.{start}
 use Rattle.rdx_defs.specs.Headed.{Headed, headed}
 use Rattle.rdx_defs.specs.JudgementForms.{JudgementForm, judgement_form}
 use Rattle.rdx_defs.specs.JudgementReading.{judgement_reading}
@@ -41,19 +42,20 @@ use Rattle.rdx_query.specs.FormKinds as kind
 use Rattle.rdx_query.specs.FormKinds.{FormKind, defines, asks, passes, to_come, form_kind}
 use Rattle.rdx_query.specs.Forms.{refusal_by_kind, definition_by_kind, query_by_kind}
 use Rattle.rdx_query.specs.HoldsForms.{HoldsParts, holds_parts, asked_names, asked_unknown_at, holds_refusal, holds_refusal_over, holds_by, holds_over}
-use Rattle.rdx_query.specs.HostForms.{host_of_datum}
+use Rattle.rdx_query.specs.HostForms.{host_of_datum, bad_host_at, undriven_host_at, host_escape_at}
 use Rattle.rdx_query.specs.JudgementForms.{form_name, form_names, judgement_refusal_by, judgement_by, defined_judgement}
 use Rattle.rdx_query.specs.Known.{Known, empty_program, extended_by, known_as, with_definition}
 use Rattle.rdx_query.specs.LanguageForms.{named_base, name_taken_at, unknown_at, unknown_by, plain_language, extended_language}
-use Rattle.rdx_query.specs.MatchForms.{QueryParts, query_parts, query_shape_at, checked_parts, query_host, bad_query_at, undriven_host_at, query_escape_at, query_refusal, query_over}
+use Rattle.rdx_query.specs.MatchForms.{QueryParts, query_parts, query_shape_at, checked_parts, query_host, bad_query_at, query_escape_at, query_refusal, query_over}
 use Rattle.rdx_query.specs.MetafunctionForms.{function_taken_at, defined_function}
 use Rattle.rdx_query.specs.Queries.{Query, matches, whether, splits, value, holds, reducts, tagged, KnowsRelation, KnowsJudgement, NamesKnown}
 use Rattle.rdx_query.specs.RelationForms.{define_shape_at, bad_relation_at, cases_refusal, relation_names, relation_language}
-use Rattle.rdx_query.specs.StepForms.{StepParts, step_parts, steps_shape_at, checked_steps, steps_host, bad_host_at, host_escape_at, unknown_relation_at, unknown_relation_by, steps_refusal}
+use Rattle.rdx_query.specs.StepForms.{StepParts, step_parts, steps_shape_at, checked_steps, steps_host, unknown_relation_at, unknown_relation_by, steps_refusal}
 use Rattle.rdx_query.proofs.ClosureChecks.{language-known, same-language}
 use Rattle.rdx_query.proofs.DefinedJudgements.{judgements_in, mapped-some}
 use Rattle.rdx_query.proofs.FoundByName.{judgement-among}
 use Rattle.rdx_grammar.proofs.Firsts.{none_or}
+use Rattle.rdx_defs.proofs.EarliestPlaces.{earliest-none}
 
 -- ---- names stay known
 
@@ -285,13 +287,14 @@ by_value : (K : Known) (h : Host) (r : Query) → (let o : Option Query = Some (
 by_value K h r m = let g : value h ≡ r = cc in subst (IsAwaited K) g tt
 
 -- a datum where a test holds, before others
-none_when : (b : Bool) (d : Sexp) (ds : List Sexp) → option_map (named UnknownName) (first (when (not b) d ++ ds)) ≡ None → b ≡ true
+none_when : (b : Bool) (d : Sexp) (ds : List Sexp) → when (not b) d ++ ds ≡ [] → b ≡ true
 none_when true d ds e = refl
 none_when false d ds e = absurd cc
 
 -- the judgement of a premise in which S8 refuses nothing
 asked-known : (S : Scope) (j : Sexp) (ss : List Stand) → unknown_name_at S (asked j ∷ ss) ≡ None → IsSome (mode_of S (text_of j))
-asked-known S j ss e = none_when (is_some (mode_of S (text_of j))) j (unknown_names S ss) e
+asked-known S j ss e =
+    none_when (is_some (mode_of S (text_of j))) j (unknown_names S ss) (earliest-none start (named UnknownName) (unknown_names S (asked j ∷ ss)) e)
 
 -- an accepted form that asks whether a premise is met
 by_premise : (K : Known) (d : Sexp) (h : HoldsParts) (o : Option Headed) (r : Query)

@@ -1,5 +1,5 @@
 -- Which check refuses a query.
-use Rattle.std.proofs.Common.{◌≡◌, ◌++◌, ℕ, Bool, true, false, List, [], ◌∷◌, Option, Some, None, Result, Ok, Err, refl, sym, ◌∙◌, ap, subst, arith, if◌then◌else◌}
+use Rattle.std.proofs.Common.{◌≡◌, ℕ, Bool, true, false, List, [], ◌∷◌, Option, Some, None, Result, Ok, Err, refl, sym, ◌∙◌, ap, subst, arith, if◌then◌else◌}
 use Rattle.std.specs.Prelude.{option_map, bytes_eq}
 use Rattle.std.specs.Cmp.Lexicographic.{bytes_decides}
 use Rattle.rdx_sexp.specs.Sexp.{Sexp}
@@ -13,12 +13,10 @@ use Rattle.rdx_grammar.specs.Answers.{ReadsPattern}
 use Rattle.rdx_grammar.specs.Nonterminals.{names_of}
 use Rattle.rdx_grammar.specs.Occurrences.{occurrences}
 use Rattle.rdx_grammar.specs.Parts.{text_of}
-use Rattle.rdx_grammar.specs.PatternChecks as patterns
-use Rattle.rdx_grammar.specs.PatternChecks.{keyword_faults, bad_occurrences}
 use Rattle.rdx_grammar.specs.PatternRefusal.{keyword_at, bad_binder_at, bad_occurrence_at, depth_clash_at, escape_at, pattern_refusal}
 use Rattle.rdx_grammar.specs.Reading.{reading}
 use Rattle.rdx_grammar.specs.Readable.{IsReadable}
-use Rattle.rdx_grammar.specs.Refusal.{Refusal, refusal_of, unnamed, named, or_else, first}
+use Rattle.rdx_grammar.specs.Refusal.{Refusal, refusal_of, named, or_else}
 use Rattle.rdx_grammar.specs.Unbuilt.{has_word_to_come}
 use Rattle.rdx_grammar.specs.declared.shape.fault.DefFault.{DefFault}
 use Rattle.rdx_grammar.specs.declared.shape.fault.DefFault.TheVariants.{Refused, NoMemory}
@@ -26,13 +24,11 @@ use Rattle.rdx_grammar.specs.declared.shape.fault.DefKind.TheVariants.{Shape, Un
 use Rattle.rdx_grammar.specs.declared.shape.fault.DefRefusal.{DefRefusal}
 use Rattle.rdx_grammar.specs.declared.patterns.position.Position.TheVariants as position
 use Rattle.rdx_defs.specs.Answers.{ReadsHost}
-use Rattle.rdx_defs.specs.TemplateChecks.{bad_parts, escapes}
 use Rattle.rdx_defs.specs.TemplateRefusal.{host_refusal}
-use Rattle.rdx_defs.specs.TemplateShapes.{host_shapes}
-use Rattle.rdx_query.specs.HostForms.{parts_of_host}
+use Rattle.rdx_query.specs.HostForms.{parts_of_host, host_shape_at, bad_host_at, undriven_host_at, host_escape_at}
 use Rattle.rdx_query.specs.Known.{Known, or_empty}
 use Rattle.rdx_query.specs.LanguageForms.{named_base, unknown_at, unknown_by}
-use Rattle.rdx_query.specs.MatchForms.{QueryParts, query_parts, query_shape_at, query_refusal, query_over, bad_query_at, undriven_host_at, query_escape_at}
+use Rattle.rdx_query.specs.MatchForms.{QueryParts, query_parts, query_shape_at, query_refusal, query_over, bad_query_at, query_escape_at}
 use Rattle.rdx_query.specs.Inside.Asking.{IsFit, IsAsked}
 use Rattle.rdx_query.specs.Inside.Earlier.{earlier, IsFaultAt, IsRefusedBy, IsFirstFault}
 use Rattle.rdx_query.proofs.CheckNumbers.{or_none, Checks, AreChecks, refused, merge, merged, merge-checks, unnamed-number, named-number}
@@ -80,10 +76,10 @@ pattern-refused ns p (Err NoMemory) a = tt
 
 -- ---- chains
 
--- the first of two lists is refused before others
-both-first : (f : Sexp → Refusal) (xs ys : List Sexp) (o : Option Refusal) → or_else (option_map f (first (xs ++ ys))) o ≡ or_else (option_map f (first xs)) (or_else (option_map f (first ys)) o)
-both-first f [] ys o = refl
-both-first f (x ∷ xs) ys o = refl
+-- two refusals come before others as one behind the other
+one-behind : (o p q : Option Refusal) → or_else (or_else o p) q ≡ or_else o (or_else p q)
+one-behind None p q = refl
+one-behind (Some r) p q = refl
 
 -- ---- the checks of a query that has its shape
 
@@ -106,16 +102,16 @@ module _ (K : Known) (d : Sexp) (q : QueryParts) (f : IsFit d q) where
       let unknown_last : Option Refusal = or_else (unknown_at K (Some q.language)) (or_else (bad_binder_at os) (or_else (bad_query_at names os ps) bad_last)) in
       let behind : Option Refusal → Option Refusal = λ o. or_else (depth_clash_at names os) (or_else (undriven_host_at K ps) o) in
       let before : Option Refusal → Option Refusal = λ o.
-      or_else (keyword_at os) (or_else (option_map (unnamed Shape) (first (host_shapes q.host))) (or_else (unknown_at K (Some q.language)) (or_else (bad_binder_at os) o)))
+      or_else (keyword_at os) (or_else (host_shape_at q.host) (or_else (unknown_at K (Some q.language)) (or_else (bad_binder_at os) o)))
       in
       let between : Option Refusal → Option Refusal = λ o.
-      or_else (bad_occurrence_at names os) (or_else (option_map (unnamed BadPattern) (first (bad_parts ps))) o)
+      or_else (bad_occurrence_at names os) (or_else (bad_host_at ps) o)
       in
       ap (query_refusal K d) f.parts
       ∙ (λ i. or_else (unbuilt_at-built d f.built i) (or_else (query_shape_at d (if f.symbol i then Some q else None)) unknown_last))
-      ∙ both-first (unnamed Shape) (keyword_faults os) (host_shapes q.host) unknown_last
-      ∙ ap before (both-first (unnamed BadPattern) (bad_occurrences names os) (bad_parts ps) bad_last)
-      ∙ ap (λ o. before (between (behind o))) (both-first (unnamed RacketEscape) (patterns.escapes os) (escapes ps) None)
+      ∙ one-behind (keyword_at os) (host_shape_at q.host) unknown_last
+      ∙ ap before (one-behind (bad_occurrence_at names os) (bad_host_at ps) bad_last)
+      ∙ ap (λ o. before (between (behind o))) (one-behind (escape_at os) (host_escape_at ps) None)
 
   -- no word to come stands in the pattern
   pattern-built : has_word_to_come q.pattern ≡ false

@@ -15,10 +15,9 @@ use Rattle.rdx_grammar.specs.declared.shape.fault.DefFault.TheVariants.{Refused,
 use Rattle.rdx_grammar.specs.declared.shape.fault.DefKind.TheVariants.{UnknownName}
 use Rattle.rdx_defs.specs.Answers.{ReadsHost}
 use Rattle.rdx_defs.specs.TemplateRefusal.{host_refusal}
-use Rattle.rdx_query.specs.HostForms.{parts_of_host, host_of_datum}
+use Rattle.rdx_query.specs.HostForms.{parts_of_host, host_of_datum, bad_host_at, undriven_host_at, host_escape_at}
 use Rattle.rdx_query.specs.Known.{Known}
-use Rattle.rdx_query.specs.MatchForms.{undriven_host_at}
-use Rattle.rdx_query.specs.StepForms.{StepParts, step_parts, steps_shape_at, bad_host_at, host_escape_at, unknown_relation_by, unknown_relation_at, steps_refusal}
+use Rattle.rdx_query.specs.StepForms.{StepParts, step_parts, steps_shape_at, unknown_relation_by, unknown_relation_at, steps_refusal}
 use Rattle.rdx_query.specs.Inside.Asking.{IsStepFit, IsStepping}
 use Rattle.rdx_query.specs.Inside.Earlier.{earlier, IsFaultAt, IsRefusedBy}
 use Rattle.rdx_query.proofs.CheckNumbers.{or_none, HasNumber, Checks, AreChecks, refused, merge, merged, named-number}

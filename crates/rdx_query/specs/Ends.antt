@@ -5,6 +5,7 @@ use Rattle.std.specs.Prelude.{ℕ, List, [], ◌++◌, Option, Some, None, flat_
 use Rattle.rdx_sexp.specs.Sexp.{Sexp}
 use Rattle.rdx_grammar.specs.Ends.{ends_in}
 use Rattle.rdx_grammar.specs.Reading.{name_in}
+use Rattle.rdx_defs.specs.RelationEnds.{relation_ends}
 use Rattle.rdx_query.specs.DefineParts.{DefineKind, by_cases, by_contexts, by_crosses, DefineParts, ClosureParts, define_parts, closure_parts, with_symbol}
 
 -- the nonterminal of a compatible closure
@@ -12,9 +13,9 @@ abbrev pub closure_ends : Option ClosureParts → List (List ℕ)
 closure_ends None = []
 closure_ends (Some q) = name_in q.by
 
--- of a form with such a list, where that says so
+-- of a form with such a list, where that says so: cases ask for those of what they are without shorthand
 abbrev pub kind_ends : DefineKind → Sexp → List (List ℕ)
-kind_ends by_cases body = []
+kind_ends by_cases body = relation_ends body
 kind_ends by_contexts body = []
 kind_ends by_crosses body = closure_ends (with_symbol (closure_parts body))
 
@@ -24,7 +25,7 @@ define_ends None = []
 define_ends (Some q) = kind_ends q.kind q.body
 
 -- the nonterminals to which a form asks for cross nonterminals: `(define R (compatible-closure R0 L e))` for those to e, and so each list
--- `(cross e)` in it
+-- `(cross e)` in it, and in what a relation is without its shorthand, where such a list may stand that stands nowhere in the form
 abbrev pub form_ends : Sexp → List (List ℕ)
 form_ends d = define_ends (define_parts d) ++ ends_in d
 

@@ -1,23 +1,19 @@
 -- Forms that match a pattern against a term or split the term by it, `(head L p h)`: when they are refused, and what they ask else.
-use Rattle.std.specs.Prelude.{ℕ, List, [], ◌∷◌, ◌++◌, Option, Some, None, option_map, if◌then◌else◌}
+use Rattle.std.specs.Prelude.{ℕ, List, [], ◌∷◌, Option, Some, None, option_map, if◌then◌else◌}
 use Rattle.rdx_sexp.specs.Sexp.{Sexp}
 use Rattle.rdx_lang.specs.Patterns.{Pattern}
 use Rattle.rdx_lang.specs.Templates.{Host}
 use Rattle.rdx_grammar.specs.Nonterminals.{names_of}
 use Rattle.rdx_grammar.specs.Parts.{parts, is_symbol, text_of}
-use Rattle.rdx_grammar.specs.PatternChecks as patterns
-use Rattle.rdx_grammar.specs.PatternChecks.{keyword_faults, bad_occurrences}
-use Rattle.rdx_grammar.specs.PatternRefusal.{bad_binder_at, depth_clash_at}
+use Rattle.rdx_grammar.specs.PatternRefusal.{keyword_at, bad_binder_at, bad_occurrence_at, depth_clash_at, escape_at}
 use Rattle.rdx_grammar.specs.Reading.{reading}
-use Rattle.rdx_grammar.specs.Refusal.{Refusal, unnamed, first, first_refusal}
+use Rattle.rdx_grammar.specs.Refusal.{Refusal, unnamed, or_else, first_refusal}
 use Rattle.rdx_grammar.specs.Unbuilt.{unbuilt_at}
 use Rattle.rdx_grammar.specs.Occurrences.{Occurrence, occurrences}
-use Rattle.rdx_grammar.specs.declared.shape.fault.DefKind.TheVariants.{Shape, BadPattern, EllipsisVariable, RacketEscape}
+use Rattle.rdx_grammar.specs.declared.shape.fault.DefKind.TheVariants.{Shape}
 use Rattle.rdx_grammar.specs.declared.patterns.position.Position.TheVariants as position
-use Rattle.rdx_defs.specs.TemplateChecks.{bad_parts, undriven_parts, escapes}
 use Rattle.rdx_defs.specs.TemplateOccurrences.{TemplatePart}
-use Rattle.rdx_defs.specs.TemplateShapes.{host_shapes}
-use Rattle.rdx_query.specs.HostForms.{parts_of_host, host_of_datum}
+use Rattle.rdx_query.specs.HostForms.{parts_of_host, host_of_datum, host_shape_at, bad_host_at, undriven_host_at, host_escape_at}
 use Rattle.rdx_query.specs.Known.{Known}
 use Rattle.rdx_query.specs.LanguageForms.{named_base, unknown_at}
 use Rattle.rdx_query.specs.Queries.{Query}
@@ -49,8 +45,7 @@ checked_parts (Some q) = if is_symbol q.language then Some q else None
 -- S1: the query has not its parts, or a keyword stands in its pattern, or something in its host expression has not its shape
 abbrev pub query_shape_at : Sexp → Option QueryParts → Option Refusal
 query_shape_at d None = Some (unnamed Shape d)
-query_shape_at d (Some q) =
-    option_map (unnamed Shape) (first (keyword_faults (occurrences 0 q.pattern) ++ host_shapes q.host))
+query_shape_at d (Some q) = or_else (keyword_at (occurrences 0 q.pattern)) (host_shape_at q.host)
 
 -- the name of its language
 abbrev pub query_language : Option QueryParts → Option Sexp
@@ -69,15 +64,11 @@ query_host K (Some q) = parts_of_host K q.host
 
 -- S5: its pattern means nothing, over these nonterminals, or a template does
 abbrev pub bad_query_at : List (List ℕ) → List Occurrence → List TemplatePart → Option Refusal
-bad_query_at ns os ps = option_map (unnamed BadPattern) (first (bad_occurrences ns os ++ bad_parts ps))
-
--- S9: an ellipsis in its host expression drives no name, since none is bound
-abbrev pub undriven_host_at : Known → List TemplatePart → Option Refusal
-undriven_host_at K ps = option_map (unnamed EllipsisVariable) (first (undriven_parts K.scope [] ps))
+bad_query_at ns os ps = or_else (bad_occurrence_at ns os) (bad_host_at ps)
 
 -- S10: its pattern would ask Racket, or its host expression
 abbrev pub query_escape_at : List Occurrence → List TemplatePart → Option Refusal
-query_escape_at os ps = option_map (unnamed RacketEscape) (first (patterns.escapes os ++ escapes ps))
+query_escape_at os ps = or_else (escape_at os) (host_escape_at ps)
 
 -- ---- all checks
 

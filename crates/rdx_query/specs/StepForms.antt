@@ -4,15 +4,12 @@ use Rattle.rdx_sexp.specs.Sexp.{Sexp}
 use Rattle.rdx_lang.specs.Programs.{Relation, relation_named}
 use Rattle.rdx_lang.specs.Templates.{Host}
 use Rattle.rdx_grammar.specs.Parts.{parts, is_symbol, text_of}
-use Rattle.rdx_grammar.specs.Refusal.{Refusal, unnamed, named, first, first_refusal}
+use Rattle.rdx_grammar.specs.Refusal.{Refusal, unnamed, named, first_refusal}
 use Rattle.rdx_grammar.specs.Unbuilt.{unbuilt_at}
-use Rattle.rdx_grammar.specs.declared.shape.fault.DefKind.TheVariants.{Shape, BadPattern, UnknownName, RacketEscape}
-use Rattle.rdx_defs.specs.TemplateChecks.{bad_parts, escapes}
+use Rattle.rdx_grammar.specs.declared.shape.fault.DefKind.TheVariants.{Shape, UnknownName}
 use Rattle.rdx_defs.specs.TemplateOccurrences.{TemplatePart}
-use Rattle.rdx_defs.specs.TemplateShapes.{host_shapes}
-use Rattle.rdx_query.specs.HostForms.{parts_of_host, host_of_datum}
+use Rattle.rdx_query.specs.HostForms.{parts_of_host, host_of_datum, host_shape_at, bad_host_at, undriven_host_at, host_escape_at}
 use Rattle.rdx_query.specs.Known.{Known}
-use Rattle.rdx_query.specs.MatchForms.{undriven_host_at}
 use Rattle.rdx_query.specs.Queries.{Query}
 
 -- ---- the parts
@@ -41,20 +38,12 @@ checked_steps (Some q) = if is_symbol q.relation then Some q else None
 -- S1: the form has not its parts, or something in its host expression has not its shape
 abbrev pub steps_shape_at : Sexp → Option StepParts → Option Refusal
 steps_shape_at d None = Some (unnamed Shape d)
-steps_shape_at d (Some q) = option_map (unnamed Shape) (first (host_shapes q.host))
+steps_shape_at d (Some q) = host_shape_at q.host
 
 -- what stands in its host expression
 abbrev pub steps_host : Known → Option StepParts → List TemplatePart
 steps_host K None = []
 steps_host K (Some q) = parts_of_host K q.host
-
--- S5: a template in it means nothing
-abbrev pub bad_host_at : List TemplatePart → Option Refusal
-bad_host_at ps = option_map (unnamed BadPattern) (first (bad_parts ps))
-
--- S10: it would ask Racket
-abbrev pub host_escape_at : List TemplatePart → Option Refusal
-host_escape_at ps = option_map (unnamed RacketEscape) (first (escapes ps))
 
 -- the name r, where no relation was found by it
 abbrev pub unknown_relation_by : Option Relation → Sexp → Option Refusal

@@ -1,27 +1,22 @@
 // The nonterminals to which a file asks for cross nonterminals.
 ghost use Rattle.std.specs.Prelude.{◌≡◌, ◌++◌, IfOk, OnOk};
-ghost use Rattle.rdx_query.specs.DefineParts.{define_parts};
+ghost use Rattle.rdx_query.specs.DefineParts.{by_crosses, define_parts};
 ghost use Rattle.rdx_query.specs.Ends as model;
 
 use crate::parts::{DefineKind, closure_parts, define_parts};
+use rdx_defs::relation_ends;
 use rdx_grammar::ends_in;
 use rdx_grammar::shape::symbol;
 use rdx_sexp::Datum;
 use rdx_term::{Name, NoMemory};
 use std::alloc::Global;
 
-// Adds the nonterminal of a compatible closure, if the form defines one.
-fn add_closure_ends(form: &Datum, ends: &mut Vec<Name>) -> Result<(), NoMemory>
+// Adds the nonterminal of a compatible closure that a list says.
+fn add_closure_ends(body: &Datum, ends: &mut Vec<Name>) -> Result<(), NoMemory>
     ensures { OnOk result (ends.new.items ≡ ends.old.items
-        ++ model.define_ends (define_parts form.now)) }
+        ++ model.kind_ends by_crosses body.now) }
 {
-    let Some(parts) = define_parts(form) else {
-        return Ok(());
-    };
-    if parts.kind != DefineKind::Crosses {
-        return Ok(());
-    }
-    let Some(closure) = closure_parts(parts.body) else {
+    let Some(closure) = closure_parts(body) else {
         return Ok(());
     };
     let Some(text) = symbol(closure.by) else {
@@ -33,11 +28,26 @@ fn add_closure_ends(form: &Datum, ends: &mut Vec<Name>) -> Result<(), NoMemory>
     }
 }
 
+// Adds those for which the form asks by the relation that it defines, if it does.
+fn add_define_ends(alloc: Global, form: &Datum, ends: &mut Vec<Name>) -> Result<(), NoMemory>
+    ensures { OnOk result (ends.new.items ≡ ends.old.items
+        ++ model.define_ends (define_parts form.now)) }
+{
+    let Some(parts) = define_parts(form) else {
+        return Ok(());
+    };
+    match parts.kind {
+        DefineKind::Cases => Ok(ends.append(&mut relation_ends(alloc, parts.body)?)?),
+        DefineKind::Contexts => Ok(()),
+        DefineKind::Crosses => add_closure_ends(parts.body, ends),
+    }
+}
+
 // Adds those to which the form asks for cross nonterminals.
 fn add_ends(alloc: Global, form: &Datum, ends: &mut Vec<Name>) -> Result<(), NoMemory>
     ensures { OnOk result (ends.new.items ≡ ends.old.items ++ model.form_ends form.now) }
 {
-    add_closure_ends(form, ends)?;
+    add_define_ends(alloc, form, ends)?;
     Ok(ends.append(&mut ends_in(alloc, form)?)?)
 }
 

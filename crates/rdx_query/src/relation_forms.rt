@@ -4,6 +4,7 @@ ghost use Rattle.rdx_lang.specs.Closures.{has_well_formed_patterns};
 ghost use Rattle.rdx_lang.specs.Patterns.{Language};
 ghost use Rattle.rdx_lang.specs.ProgramView.{relation_of};
 ghost use Rattle.rdx_defs.specs.Answers.{ReadsRelation};
+ghost use Rattle.rdx_defs.specs.RelationEnds.{relation_ends};
 ghost use Rattle.rdx_defs.specs.Scope.{scope_of};
 ghost use Rattle.rdx_grammar.specs.Names as names;
 ghost use Rattle.rdx_grammar.specs.Nonterminals.{names_of};
@@ -11,7 +12,6 @@ ghost use Rattle.rdx_grammar.specs.Parts.{is_symbol, text_of};
 ghost use Rattle.rdx_grammar.specs.Readable.{IsReadable};
 ghost use Rattle.rdx_grammar.specs.Refusal.{first_refusal, refusal_of};
 ghost use Rattle.rdx_sexp.specs.Size.{IsSpelledSexp};
-ghost use Rattle.rdx_grammar.specs.Ends.{ends_in};
 ghost use Rattle.rdx_grammar.specs.Inside.Among.{AreAmong};
 ghost use Rattle.rdx_query.specs.Inside.Fitting.{AreCrossed, IsRelationOf, language_at};
 ghost use Rattle.rdx_query.specs.Inside.Defining.{RelatesOver};
@@ -94,7 +94,7 @@ fn read_over(
     requires readable { IsReadable body.now }
     requires crossed { AreCrossed (known_of known.old).program.languages
         (known_of known.old).ends }
-    requires ends { AreAmong (ends_in body.now) (known_of known.old).ends }
+    requires ends { AreAmong (relation_ends body.now) (known_of known.old).ends }
     ensures reads { ReadsRelation (scope_of known.old.scope)
         (names_of (named_base (known_of known.old) (option_map (λ d. d.now) language.entry)))
         name.now body.now result }
@@ -124,7 +124,7 @@ pub(crate) fn define_by_cases(
     requires body { IsReadable body.now }
     requires crossed { AreCrossed (known_of known.old).program.languages
         (known_of known.old).ends }
-    requires ends { AreAmong (ends_in body.now) (known_of known.old).ends }
+    requires ends { AreAmong (relation_ends body.now) (known_of known.old).ends }
     ensures relates { RelatesOver (known_of known.old) name.now body.now result }
     ensures fits { IfOk result (λ r. IsRelationOf (known_of known.old).program (relation_of r)) }
     ensures same { known_of known.new ≡ known_of known.old }

@@ -13,7 +13,7 @@ use Rattle.rdx_defs.specs.JudgementStands.{rule_arguments, name_stands, missing_
 use Rattle.rdx_defs.specs.MetafunctionForms.{ClauseForm, clause_form, MetafunctionForm}
 use Rattle.rdx_defs.specs.MetafunctionReading.{text_in}
 use Rattle.rdx_defs.specs.RelationForms.{CaseForm, case_form, RelationForm}
-use Rattle.rdx_defs.specs.RelationStands.{domain_stands}
+use Rattle.rdx_defs.specs.RelationStands.{domain_stands, shortcuts_stand}
 use Rattle.rdx_defs.specs.Scope.{Scope, mode_of}
 use Rattle.rdx_defs.specs.Stands.{Stand, misshaped, function, asked, arrow, pattern, template, condition, fresh, named, plain_argument, premise_arguments, misfits, is_named}
 
@@ -76,9 +76,13 @@ abbrev pub cases_stand : Scope → List Sexp → List Stand
 cases_stand S [] = []
 cases_stand S (d ∷ ds) = case_stands S d (case_form d) ++ cases_stand S ds
 
--- in a relation with these parts
-abbrev pub relation_stands : Scope → RelationForm → List Stand
-relation_stands S r = domain_stands r.domain ++ cases_stand S r.cases
+-- in a relation without shorthand with these parts
+abbrev pub expanded_stands : Scope → RelationForm → List Stand
+expanded_stands S r = domain_stands r.domain ++ cases_stand S r.cases
+
+-- and with these shortcuts behind them
+abbrev pub relation_stands : Scope → RelationForm → List Sexp → List Stand
+relation_stands S r ds = expanded_stands S r ++ shortcuts_stand [] ds
 
 -- in the clause d
 abbrev pub clause_stands : Scope → Sexp → Option ClauseForm → List Stand

@@ -1,6 +1,5 @@
 -- What a form gives by the names that are bound before each place, without the symbols that bind them.
-use Rattle.std.specs.Prelude.{ℕ, Bool, true, false, not, ◌&&◌, List, [], ◌∷◌, ◌++◌, Option, Some, None, map, flat_map, bytes_eq, nat_eq, if◌then◌else◌}
-use Rattle.std.specs.List.{list_any}
+use Rattle.std.specs.Prelude.{ℕ, Bool, true, false, List, [], ◌∷◌, ◌++◌, Option, Some, None, map, flat_map, if◌then◌else◌}
 use Rattle.rdx_sexp.specs.Sexp.{Sexp}
 use Rattle.rdx_lang.specs.Programs as model
 use Rattle.rdx_lang.specs.Programs.{Extra, such_as}
@@ -18,6 +17,7 @@ use Rattle.rdx_defs.specs.ExtraReading.{held_reading}
 use Rattle.rdx_defs.specs.Headed.{Headed, headed}
 use Rattle.rdx_defs.specs.Inside.Branches.{Takes, one, Branch, RuleBranch, Question, Outline, taken_occurrences, bound_by_taken}
 use Rattle.rdx_defs.specs.Scope.{Scope}
+use Rattle.rdx_defs.specs.StandChecks.{other_depths}
 use Rattle.rdx_defs.specs.Stands.{bound_among, names_bound, premise_arguments}
 use Rattle.rdx_defs.specs.TemplateChecks.{bad_parts, shallow_parts, undriven_parts, escapes}
 use Rattle.rdx_defs.specs.TemplateOccurrences.{TemplatePart, template_parts, host_parts}
@@ -71,24 +71,12 @@ input_names ns r = patterns_names ns (patterns_in r.arguments)
 abbrev pub rule_names : Scope → List (List ℕ) → RuleBranch → Bound
 rule_names S ns r = input_names ns r ++ extras_names of_rule S ns r.premises
 
--- ---- depths
-
--- both are one name, at two depths
-abbrev pub are_apart : List ℕ × ℕ → List ℕ × ℕ → Bool
-are_apart e f = bytes_eq e.0 f.0 && not (nat_eq e.1 f.1)
-
--- the symbols that bind a name at another depth than one of these or one before them
-abbrev pub clashes_with : Bound → List patterns.Bound → List Sexp
-clashes_with es [] = []
-clashes_with es (b ∷ bs) =
-    when (list_any (are_apart (text_of b.symbol, b.depth)) es) b.symbol ++ clashes_with (es ++ (text_of b.symbol, b.depth) ∷ []) bs
-
 -- ---- the places at which one of the checks that have to know what is bound refuses
 
 -- in a pattern in which these stand
 abbrev pub pattern_faults : Check → List (List ℕ) → Bound → List Occurrence → List Sexp
 pattern_faults Places ns es os = bad_occurrences ns os
-pattern_faults Depths ns es os = clashes_with es (bound_among ns os)
+pattern_faults Depths ns es os = other_depths es (bound_among ns os)
 pattern_faults Driving ns es os = []
 pattern_faults Escapes ns es os = patterns.escapes os
 

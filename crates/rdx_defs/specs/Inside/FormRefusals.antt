@@ -1,7 +1,8 @@
 -- When a form of a relation, a metafunction or a judgement is refused, by the checks in two groups.
 use Rattle.std.specs.Prelude.{ℕ, List, [], ◌∷◌, Option, option_map}
-use Rattle.rdx_grammar.specs.Refusal.{Refusal, unnamed, named, first, or_else, first_refusal}
+use Rattle.rdx_grammar.specs.Refusal.{Refusal, unnamed, named, or_else, first_refusal}
 use Rattle.rdx_grammar.specs.declared.shape.fault.DefKind.TheVariants.{BadPattern, EllipsisDepth, EllipsisVariable, RacketEscape}
+use Rattle.rdx_defs.specs.Earliest.{start, earliest}
 use Rattle.rdx_defs.specs.Inside.Branches.{Outline}
 use Rattle.rdx_defs.specs.Inside.ByNames.{outline_faults}
 use Rattle.rdx_defs.specs.Inside.NamesAgain.{names_again}
@@ -15,7 +16,7 @@ abbrev pub early_refusal : List (List ℕ) → List Stand → Option Refusal
 early_refusal ns ss =
     first_refusal
     (shape_at ss  -- S1
-    ∷ option_map repeated_at (first (names_again ns [] [] ss))  -- S3
+    ∷ option_map repeated_at (earliest start (names_again ns [] [] ss))  -- S3
     ∷ bad_name_at ss  -- S4
     ∷ [])
 
@@ -23,11 +24,11 @@ early_refusal ns ss =
 abbrev pub late_refusal : Scope → List (List ℕ) → List Stand → Outline → Option Refusal
 late_refusal S ns ss o =
     first_refusal
-    (option_map (unnamed BadPattern) (first (outline_faults Places S ns o))  -- S5
-    ∷ option_map (named EllipsisDepth) (first (outline_faults Depths S ns o))  -- S6
+    (option_map (unnamed BadPattern) (earliest start (outline_faults Places S ns o))  -- S5
+    ∷ option_map (named EllipsisDepth) (earliest start (outline_faults Depths S ns o))  -- S6
     ∷ unknown_name_at S ss  -- S8
-    ∷ option_map (unnamed EllipsisVariable) (first (outline_faults Driving S ns o))  -- S9
-    ∷ option_map (unnamed RacketEscape) (first (outline_faults Escapes S ns o))  -- S10
+    ∷ option_map (unnamed EllipsisVariable) (earliest start (outline_faults Driving S ns o))  -- S9
+    ∷ option_map (unnamed RacketEscape) (earliest start (outline_faults Escapes S ns o))  -- S10
     ∷ mode_fault_at ss  -- S11
     ∷ [])
 

@@ -12,8 +12,7 @@ use Rattle.rdx_defs.specs.Inside.Branches as inside
 use Rattle.rdx_defs.specs.MetafunctionForms as metafunctions
 use Rattle.rdx_defs.specs.RelationForms as relations
 use Rattle.rdx_defs.specs.JudgementForms as judgements
-use Rattle.rdx_defs.specs.Scope as scopes
-use Rattle.rdx_defs.specs.Stands.{Stand, misshaped, function, judgement, asked, arrow, pattern, template, condition, plain, misfit, fresh, named}
+use Rattle.rdx_defs.specs.Stands.{Stand, misshaped, function, judgement, asked, arrow, pattern, template, condition, plain, misfit, fresh, named, repeated}
 use Rattle.rdx_defs.specs.declared.arguments.Arguments.{Arguments}
 use Rattle.rdx_defs.specs.declared.arguments.Headed.{Headed}
 use Rattle.rdx_defs.specs.declared.extras.ExtraForm.{ExtraForm}
@@ -160,6 +159,7 @@ stand_of (stands.Plain found) = plain (occurrences_of found.items)
 stand_of (stands.Misfit d j) = misfit d.now (option_map (λ j. j.now) j)
 stand_of (stands.Fresh d) = fresh [] d.now
 stand_of (stands.Named again d) = named again d.now
+stand_of (stands.Repeated d) = repeated d.now
 
 -- and what several are, in their order
 abbrev pub stands_of : List code_stand.Stand → List Stand

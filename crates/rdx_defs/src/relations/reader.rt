@@ -1,19 +1,28 @@
 // Relations over languages.
-ghost use Rattle.std.specs.Prelude.{◌≡◌, Some, IfOk, IsTrue};
+ghost use Rattle.std.specs.Prelude.{◌≡◌, Some, IfOk, IsTrue, option_map};
 ghost use Rattle.rdx_lang.specs.Checked.{language_in};
 ghost use Rattle.rdx_lang.specs.ProgramView.{relation_of};
 ghost use Rattle.rdx_lang.specs.Valid.{is_valid_over};
-ghost use Rattle.rdx_grammar.specs.Ends.{Gained, ends_in};
+ghost use Rattle.rdx_grammar.specs.Ends.{Gained};
 ghost use Rattle.rdx_grammar.specs.Nonterminals.{names_of};
+ghost use Rattle.rdx_grammar.specs.Parts.{text_of};
 ghost use Rattle.rdx_grammar.specs.Readable.{IsReadable};
+ghost use Rattle.rdx_term.specs.Spelling.{is_name};
 ghost use Rattle.rdx_defs.specs.Answers.{ReadsRelation};
+ghost use Rattle.rdx_defs.specs.Inside.Branches.{domain_patterns};
+ghost use Rattle.rdx_defs.specs.Inside.ExpandedAnswers.{ReadsExpanded};
+ghost use Rattle.rdx_defs.specs.Inside.FormViews.{relation_form_of};
+ghost use Rattle.rdx_defs.specs.Inside.PartsHave.{AreReadable};
+ghost use Rattle.rdx_defs.specs.RelationEnds.{expanded_ends, relation_ends};
 ghost use Rattle.rdx_defs.specs.Scope.{callable, scope_of};
 
 use crate::Scope;
-use crate::crosses::add_asked;
-use crate::relations::forms::relation_form;
+use crate::relations::ends::add_ends_of;
+use crate::relations::forms::{RelationForm, relation_form};
 use crate::relations::readings::read_parts;
 use crate::relations::stands::{relation_outline, relation_stands};
+use crate::shorthand::expanding::expanded_cases;
+use crate::shorthand::forms::cut_at_with;
 use crate::stands::refusals::refuse_parts;
 use rdx_grammar::refusal::unnamed;
 use rdx_grammar::unbuilt::has_word_to_come;
@@ -23,8 +32,40 @@ use rdx_sexp::Datum;
 use rdx_term::Name;
 use std::alloc::Global;
 
+// The relation of this name that a form without shorthand with these parts stands for, which was
+// written with these shortcuts.
+fn read_expanded<'a>(
+    alloc: Global,
+    scope: &Scope,
+    language: &mut CheckedLang,
+    name: &Name,
+    form: RelationForm<'a>,
+    shortcuts: &'a [Datum],
+) -> Result<Relation, DefFault>
+    requires domain { AreReadable (domain_patterns (option_map (λ d. d.now) form.domain)) }
+    requires cases { AreReadable form.cases.now }
+    requires named { IsTrue (is_name (text_of form.language.now)) }
+    ensures reads { ReadsExpanded (scope_of scope.now) (names_of (language_in language.old))
+        name.now (relation_form_of form.entry) shortcuts.now result }
+    ensures gains { Gained (language_in language.old)
+        (expanded_ends (relation_form_of form.entry)) result (language_in language.new) }
+    ensures valid { IfOk result (λ r.
+        IsTrue (is_valid_over (callable (scope_of scope.now))
+        (Some (language_in language.new)) (relation_of r))) }
+{
+    let all = language_names(alloc, language)?;
+    let names = Names::new(alloc, &all)?;
+    let found = relation_stands(alloc, scope, form, shortcuts)?;
+    let outline = relation_outline(alloc, form)?;
+    if let Some(refusal) = refuse_parts(alloc, scope, &names, &found, &outline)? {
+        return Err(DefFault::Refused(refusal));
+    }
+    add_ends_of(alloc, language, form)?;
+    Ok(read_parts(alloc, scope, language, &names, name, form, &outline)?)
+}
+
 /// The relation of this name that a `reduction-relation` form stands for over a language, whatever
-/// the name of that is.
+/// the name of that is. Cases whose arrows shortcuts define are read as what they stand for.
 pub fn read_relation(
     alloc: Global,
     scope: &Scope,
@@ -35,7 +76,7 @@ pub fn read_relation(
     requires { IsReadable form.now }
     ensures reads { ReadsRelation (scope_of scope.now) (names_of (language_in language.old))
         name.now form.now result }
-    ensures gains { Gained (language_in language.old) (ends_in form.now) result
+    ensures gains { Gained (language_in language.old) (relation_ends form.now) result
         (language_in language.new) }
     ensures valid { IfOk result (λ r.
         IsTrue (is_valid_over (callable (scope_of scope.now))
@@ -47,13 +88,14 @@ pub fn read_relation(
     let Some(parts) = relation_form(form) else {
         return Err(DefFault::Refused(unnamed(DefKind::Shape, form)));
     };
-    let all = language_names(alloc, language)?;
-    let names = Names::new(alloc, &all)?;
-    let found = relation_stands(alloc, scope, parts)?;
-    let outline = relation_outline(alloc, parts)?;
-    if let Some(refusal) = refuse_parts(alloc, scope, &names, &found, &outline)? {
-        return Err(DefFault::Refused(refusal));
+    let cut = cut_at_with(parts.cases);
+    if cut.shortcuts.is_empty() {
+        let cases = cut.cases;
+        let plain = RelationForm { cases, ..parts };
+        return read_expanded(alloc, scope, language, name, plain, cut.shortcuts);
     }
-    add_asked(alloc, language, form)?;
-    Ok(read_parts(alloc, scope, language, &names, name, parts, &outline)?)
+    let expanded = expanded_cases(alloc, cut)?;
+    let cases = &expanded;
+    let plain = RelationForm { cases, ..parts };
+    read_expanded(alloc, scope, language, name, plain, cut.shortcuts)
 }

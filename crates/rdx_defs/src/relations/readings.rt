@@ -104,7 +104,8 @@ fn read_domain(
     }
 }
 
-/// The relation of this name that a form with these parts and this outline stands for.
+/// The relation of this name that a form without shorthand with these parts and this outline
+/// stands for.
 pub(crate) fn read_parts(
     alloc: Global,
     scope: &Scope,
@@ -121,7 +122,7 @@ pub(crate) fn read_parts(
     requires named { IsTrue (is_name (text_of form.language.now)) }
     ensures { IfOk result (λ r.
         relation_of r
-        ≡ model.relation_reading (scope_of scope.now) names.now name.now
+        ≡ model.expanded_reading (scope_of scope.now) names.now name.now
         (relation_form_of form.entry)) }
 {
     let domain = read_domain(alloc, language, names, form.domain)?;

@@ -1,20 +1,28 @@
 // What stands in a form of a relation.
-ghost use Rattle.std.specs.Prelude.{◌≡◌, ◌++◌, IfOk, map, option_map};
+ghost use Rattle.std.specs.Prelude.{◌≡◌, ◌++◌, [], IfOk, map, option_map};
+ghost use Rattle.rdx_grammar.specs.Inside.Repeats.{texts_in, HaveSame};
 ghost use Rattle.rdx_grammar.specs.Readable.{IsReadable};
 ghost use Rattle.rdx_defs.specs.Inside.BareStands as bare;
 ghost use Rattle.rdx_defs.specs.Inside.Branches as inside;
 ghost use Rattle.rdx_defs.specs.Inside.FormViews.{branch_of, outline_of, relation_form_of, stands_of};
 ghost use Rattle.rdx_defs.specs.Inside.PartsHave.{AreReadable};
+ghost use Rattle.rdx_defs.specs.Inside.ShortcutViews.{shortcut_of};
 ghost use Rattle.rdx_defs.specs.RelationForms as forms;
+ghost use Rattle.rdx_defs.specs.RelationStands as model;
+ghost use Rattle.rdx_defs.specs.Shorthand as shorthand;
 ghost use Rattle.rdx_defs.specs.Scope.{scope_of};
 
 use crate::Scope;
 use crate::branches::{Branch, Outline};
 use crate::relations::forms::{RelationForm, case_branch, case_form};
+use crate::shorthand::checks::{is_known, was_seen};
+use crate::shorthand::forms::{Shortcut, shortcut_form};
 use crate::stands::collecting::{Stand, add_alone, add_branch};
+use rdx_grammar::shape::text;
 use rdx_sexp::Datum;
 use rdx_term::NoMemory;
 use std::alloc::Global;
+use std::collections::BTreeSet;
 
 // Adds what stands in a case, or in what has not the shape of one.
 fn add_case<'a>(
@@ -56,23 +64,86 @@ fn add_cases<'a>(
     Ok(())
 }
 
-/// What stands in a form with these parts.
+// Adds the arrows of a shortcut that are at fault, behind shortcuts with these arrows.
+fn add_arrows<'a>(
+    seen: &BTreeSet<&'a str>,
+    shortcut: Shortcut<'a>,
+    out: &mut Vec<Stand<'a>>,
+) -> Result<(), NoMemory>
+    ensures { IfOk result (λ _.
+        stands_of out.new.items
+        ≡ stands_of out.old.items
+        ++ model.arrows_stand (texts_in seen.now) (shortcut_of shortcut.entry)) }
+{
+    if !is_known(seen, shortcut.old) {
+        out.push(Stand::Arrow(shortcut.old))?;
+    }
+    if was_seen(seen, shortcut.new) {
+        out.push(Stand::Repeated(shortcut.new))?;
+    }
+    Ok(())
+}
+
+// Adds what stands in a shortcut behind these arrows, or in what has not the shape of one. Its arrow
+// is one of these from now on.
+fn add_shortcut<'a>(
+    seen: &mut BTreeSet<&'a str>,
+    d: &'a Datum,
+    out: &mut Vec<Stand<'a>>,
+) -> Result<(), NoMemory>
+    ensures stands { IfOk result (λ _.
+        stands_of out.new.items
+        ≡ stands_of out.old.items
+        ++ model.shortcut_stands (texts_in seen.old) d.now (shorthand.shortcut_form d.now)) }
+    ensures seen { IfOk result (λ _.
+        HaveSame (texts_in seen.new)
+        (model.arrows_with (texts_in seen.old) (shorthand.shortcut_form d.now))) }
+{
+    let Some(shortcut) = shortcut_form(d) else {
+        return Ok(out.push(Stand::Misshaped(d))?);
+    };
+    add_arrows(seen, shortcut, out)?;
+    seen.insert(text(shortcut.new))?;
+    Ok(())
+}
+
+// Adds what stands in data that have to be shortcuts.
+fn add_shortcuts<'a>(
+    alloc: Global,
+    shortcuts: &'a [Datum],
+    out: &mut Vec<Stand<'a>>,
+) -> Result<(), NoMemory>
+    ensures { IfOk result (λ _.
+        stands_of out.new.items
+        ≡ stands_of out.old.items ++ model.shortcuts_stand [] shortcuts.now) }
+{
+    let mut seen = BTreeSet::new(alloc);
+    for d in shortcuts {
+        add_shortcut(&mut seen, d, out)?;
+    }
+    Ok(())
+}
+
+/// What stands in a form without shorthand with these parts, and in these shortcuts.
 pub(crate) fn relation_stands<'a>(
     alloc: Global,
     scope: &Scope,
     form: RelationForm<'a>,
+    shortcuts: &'a [Datum],
 ) -> Result<Vec<Stand<'a>>, NoMemory>
     requires domain { AreReadable (inside.domain_patterns (option_map (λ d. d.now) form.domain)) }
     requires cases { AreReadable form.cases.now }
     ensures { IfOk result (λ found.
         stands_of found.items
-        ≡ bare.relation_stands (scope_of scope.now) (relation_form_of form.entry)) }
+        ≡ bare.relation_stands (scope_of scope.now) (relation_form_of form.entry)
+        shortcuts.now) }
 {
     let mut found = Vec::new(alloc);
     if let Some(domain) = form.domain {
         add_alone(alloc, domain, &mut found)?;
     }
     add_cases(alloc, scope, form.cases, &mut found)?;
+    add_shortcuts(alloc, shortcuts, &mut found)?;
     Ok(found)
 }
 
@@ -103,7 +174,7 @@ fn domain_patterns<'a>(alloc: Global, domain: Option<&'a Datum>) -> Result<Vec<&
     Ok(alone)
 }
 
-/// The outline of a form with these parts.
+/// The outline of a form without shorthand with these parts.
 pub(crate) fn relation_outline<'a>(
     alloc: Global,
     form: RelationForm<'a>,

@@ -2,7 +2,7 @@
 ghost use Rattle.std.specs.Prelude.{◌≡◌, ◌++◌, [], IfOk, option_map};
 ghost use Rattle.rdx_grammar.specs.Inside.Repeats.{texts_in, HaveSame};
 ghost use Rattle.rdx_grammar.specs.OccurrenceView.{occurrences_of};
-ghost use Rattle.rdx_grammar.specs.Refusal.{first};
+ghost use Rattle.rdx_defs.specs.Earliest.{earliest, lesser, start};
 ghost use Rattle.rdx_defs.specs.Inside.FormViews.{misfit_of, stand_of, stands_of};
 ghost use Rattle.rdx_defs.specs.Inside.NamesAgain as inside;
 ghost use Rattle.rdx_defs.specs.Scope.{scope_of};
@@ -11,9 +11,11 @@ ghost use Rattle.rdx_defs.specs.Stands.{bound_among};
 
 use crate::Scope;
 use crate::arguments::mode_of;
+use crate::earliest::{earlier, is_before};
 use crate::stands::collecting::Stand;
+use crate::stands::patterns::{earliest_bad_binder, earliest_keyword};
 use crate::templates::shapes::{shape_in_host, shape_in_template};
-use rdx_grammar::checks::{bound_by, first_bad_binder, first_keyword, when};
+use rdx_grammar::checks::{bound_by, when};
 use rdx_grammar::names::{begins_with_dots, is_bad_name};
 use rdx_grammar::occurrences::Occurrence;
 use rdx_grammar::shape::{is_word, text};
@@ -24,7 +26,7 @@ use std::alloc::Global;
 use std::collections::BTreeSet;
 
 fn shape_fault<'a>(s: &Stand<'a>) -> Option<&'a Datum>
-    ensures { option_map (λ d. d.now) result ≡ first (model.shape_fault (stand_of s.now)) }
+    ensures { option_map (λ d. d.now) result ≡ earliest start (model.shape_fault (stand_of s.now)) }
 {
     match s {
         Stand::Misshaped(d) => Some(*d),
@@ -33,25 +35,27 @@ fn shape_fault<'a>(s: &Stand<'a>) -> Option<&'a Datum>
         | Stand::Asked(_)
         | Stand::Arrow(_)
         | Stand::Misfit(_, _)
-        | Stand::Fresh(_) => None,
-        Stand::Pattern(found) | Stand::Plain(found) => first_keyword(found),
+        | Stand::Fresh(_)
+        | Stand::Repeated(_) => None,
+        Stand::Pattern(found) | Stand::Plain(found) => earliest_keyword(found),
         Stand::Template(t) => shape_in_template(t),
         Stand::Condition(h) => shape_in_host(h),
         Stand::Named(again, d) => when(*again, d),
     }
 }
 
-/// The first thing that has not its shape, keyword in a pattern or a template, operation with a wrong
-/// number of arguments, or name where none may come.
-pub(crate) fn first_shape_fault<'a>(found: &[Stand<'a>]) -> Option<&'a Datum>
-    ensures { option_map (λ d. d.now) result ≡ first (model.shape_faults (stands_of found.now)) }
+/// The earliest thing that has not its shape, keyword in a pattern or a template, operation with a
+/// wrong number of arguments, or name where none may come.
+#[tactic(auto, using(std::proofs::lemmas::Grind::common_steps, crate::proofs::EarliestPlaces::lesser_assoc, crate::proofs::EarliestPlaces::lesser_none, crate::proofs::EarliestPlaces::earliest_append))]
+pub(crate) fn earliest_shape_fault<'a>(found: &[Stand<'a>]) -> Option<&'a Datum>
+    ensures { option_map (λ d. d.now) result
+        ≡ earliest start (model.shape_faults (stands_of found.now)) }
 {
+    let mut place = None;
     for s in found {
-        if let Some(d) = shape_fault(s) {
-            return Some(d);
-        }
+        place = earlier(place, shape_fault(s));
     }
-    None
+    place
 }
 
 /// The text of the name of a case or a rule.
@@ -93,7 +97,8 @@ fn name_again<'a>(
 ) -> Result<Option<&'a Datum>, NoMemory>
     ensures again { IfOk result (λ r.
         option_map (λ d. d.now) r
-        ≡ first (inside.name_again (texts_in seen.old) (texts_in bound.old) (stand_of s.now))) }
+        ≡ earliest start
+        (inside.name_again (texts_in seen.old) (texts_in bound.old) (stand_of s.now))) }
     ensures seen { IfOk result (λ _.
         HaveSame (texts_in seen.new) (model.names_with (texts_in seen.old) (stand_of s.now))) }
     ensures bound { IfOk result (λ _.
@@ -125,28 +130,29 @@ fn name_again<'a>(
         | Stand::Condition(_)
         | Stand::Plain(_)
         | Stand::Misfit(_, _) => Ok(None),
+        Stand::Repeated(d) => Ok(Some(*d)),
     }
 }
 
-/// The first name of a case or a rule that an earlier one has, or name that is made and is bound
+/// The earliest name of a case or a rule that an earlier one has, or name that is made and is bound
 /// before.
-pub(crate) fn first_repeated<'a>(
+#[tactic(auto, using(crate::proofs::EarliestPlaces::lesser_none))]
+pub(crate) fn earliest_repeated<'a>(
     alloc: Global,
     names: &Names,
     found: &[Stand<'a>],
 ) -> Result<Option<&'a Datum>, NoMemory>
     ensures { IfOk result (λ r.
         option_map (λ d. d.now) r
-        ≡ first (inside.names_again names.now [] [] (stands_of found.now))) }
+        ≡ earliest start (inside.names_again names.now [] [] (stands_of found.now))) }
 {
     let mut seen = BTreeSet::new(alloc);
     let mut bound = BTreeSet::new(alloc);
+    let mut place = None;
     for s in found {
-        if let Some(d) = name_again(names, s, &mut seen, &mut bound)? {
-            return Ok(Some(d));
-        }
+        place = earlier(place, name_again(names, s, &mut seen, &mut bound)?);
     }
-    Ok(None)
+    Ok(place)
 }
 
 // Whether no metafunction may have this name.
@@ -157,12 +163,12 @@ fn is_bad_function(name: &str) -> bool
 }
 
 fn bad_name<'a>(s: &Stand<'a>) -> Option<&'a Datum>
-    ensures { option_map (λ d. d.now) result ≡ first (model.bad_name (stand_of s.now)) }
+    ensures { option_map (λ d. d.now) result ≡ earliest start (model.bad_name (stand_of s.now)) }
 {
     match s {
         Stand::Function(d) => when(is_bad_function(text(d)), d),
         Stand::Judgement(d) | Stand::Fresh(d) => when(is_bad_name(text(d)), d),
-        Stand::Pattern(found) => first_bad_binder(found),
+        Stand::Pattern(found) => earliest_bad_binder(found),
         Stand::Misshaped(_)
         | Stand::Asked(_)
         | Stand::Arrow(_)
@@ -170,25 +176,27 @@ fn bad_name<'a>(s: &Stand<'a>) -> Option<&'a Datum>
         | Stand::Condition(_)
         | Stand::Plain(_)
         | Stand::Misfit(_, _)
-        | Stand::Named(_, _) => None,
+        | Stand::Named(_, _)
+        | Stand::Repeated(_) => None,
     }
 }
 
-/// The first name that a metafunction or a judgement has, or that is bound, and that may not be.
-pub(crate) fn first_bad_name<'a>(found: &[Stand<'a>]) -> Option<&'a Datum>
-    ensures { option_map (λ d. d.now) result ≡ first (model.bad_names (stands_of found.now)) }
+/// The earliest name that a metafunction or a judgement has, or that is bound, and that may not be.
+#[tactic(auto, using(std::proofs::lemmas::Grind::common_steps, crate::proofs::EarliestPlaces::lesser_assoc, crate::proofs::EarliestPlaces::lesser_none, crate::proofs::EarliestPlaces::earliest_append))]
+pub(crate) fn earliest_bad_name<'a>(found: &[Stand<'a>]) -> Option<&'a Datum>
+    ensures { option_map (λ d. d.now) result
+        ≡ earliest start (model.bad_names (stands_of found.now)) }
 {
+    let mut place = None;
     for s in found {
-        if let Some(d) = bad_name(s) {
-            return Some(d);
-        }
+        place = earlier(place, bad_name(s));
     }
-    None
+    place
 }
 
 fn unknown_name<'a>(scope: &Scope, s: &Stand<'a>) -> Option<&'a Datum>
     ensures { option_map (λ d. d.now) result
-        ≡ first (model.unknown_name (scope_of scope.now) (stand_of s.now)) }
+        ≡ earliest start (model.unknown_name (scope_of scope.now) (stand_of s.now)) }
 {
     match s {
         Stand::Asked(d) => when(mode_of(scope, text(d)).is_none(), d),
@@ -202,21 +210,22 @@ fn unknown_name<'a>(scope: &Scope, s: &Stand<'a>) -> Option<&'a Datum>
         | Stand::Plain(_)
         | Stand::Misfit(_, _)
         | Stand::Fresh(_)
-        | Stand::Named(_, _) => None,
+        | Stand::Named(_, _)
+        | Stand::Repeated(_) => None,
     }
 }
 
-/// The first symbol that is no arrow where one has to stand, or no judgement of the file.
-pub(crate) fn first_unknown_name<'a>(scope: &Scope, found: &[Stand<'a>]) -> Option<&'a Datum>
+/// The earliest symbol that is no arrow where one has to stand, or no judgement of the file.
+#[tactic(auto, using(std::proofs::lemmas::Grind::common_steps, crate::proofs::EarliestPlaces::lesser_assoc, crate::proofs::EarliestPlaces::lesser_none, crate::proofs::EarliestPlaces::earliest_append))]
+pub(crate) fn earliest_unknown_name<'a>(scope: &Scope, found: &[Stand<'a>]) -> Option<&'a Datum>
     ensures { option_map (λ d. d.now) result
-        ≡ first (model.unknown_names (scope_of scope.now) (stands_of found.now)) }
+        ≡ earliest start (model.unknown_names (scope_of scope.now) (stands_of found.now)) }
 {
+    let mut place = None;
     for s in found {
-        if let Some(d) = unknown_name(scope, s) {
-            return Some(d);
-        }
+        place = earlier(place, unknown_name(scope, s));
     }
-    None
+    place
 }
 
 /// What does not fit a mode, and the name of the judgement, where there is one.
@@ -226,17 +235,60 @@ pub(crate) struct Misfit<'a> {
     pub(crate) judgement: Option<&'a Datum>,
 }
 
-/// The first thing that does not fit the mode of a judgement, or lacks one.
-pub(crate) fn first_misfit<'a>(found: &[Stand<'a>]) -> Option<Misfit<'a>>
-    ensures { option_map misfit_of result ≡ first (model.mode_faults (stands_of found.now)) }
+// What does not fit a mode, where the thing is such.
+fn misfit_in<'a>(s: &Stand<'a>) -> Option<Misfit<'a>>
+    ensures { option_map misfit_of result
+        ≡ earliest model.misfit_start (model.mode_fault (stand_of s.now)) }
 {
-    for s in found {
-        if let Stand::Misfit(datum, judgement) = s {
-            return Some(Misfit {
-                datum,
-                judgement: *judgement,
-            });
-        }
+    match s {
+        Stand::Misfit(datum, judgement) => Some(Misfit {
+            datum,
+            judgement: *judgement,
+        }),
+        Stand::Misshaped(_)
+        | Stand::Function(_)
+        | Stand::Judgement(_)
+        | Stand::Asked(_)
+        | Stand::Arrow(_)
+        | Stand::Pattern(_)
+        | Stand::Template(_)
+        | Stand::Condition(_)
+        | Stand::Plain(_)
+        | Stand::Fresh(_)
+        | Stand::Named(_, _)
+        | Stand::Repeated(_) => None,
     }
-    None
+}
+
+// The one of two that begins earlier; the first, where both begin at one place.
+fn earlier_misfit<'a>(one: Option<Misfit<'a>>, other: Option<Misfit<'a>>) -> Option<Misfit<'a>>
+    ensures { option_map misfit_of result
+        ≡ lesser model.misfit_start (option_map misfit_of one.entry)
+        (option_map misfit_of other.entry) }
+{
+    let Some(first) = one else {
+        return other;
+    };
+    let Some(second) = other else {
+        return one;
+    };
+    let (sooner, later) = (first.datum, second.datum);
+    if is_before(later.span.start, sooner.span.start) {
+        other
+    } else {
+        one
+    }
+}
+
+/// The earliest thing that does not fit the mode of a judgement, or lacks one.
+#[tactic(auto, using(crate::proofs::EarliestPlaces::lesser_assoc, crate::proofs::EarliestPlaces::lesser_none, crate::proofs::EarliestPlaces::earliest_append))]
+pub(crate) fn earliest_misfit<'a>(found: &[Stand<'a>]) -> Option<Misfit<'a>>
+    ensures { option_map misfit_of result
+        ≡ earliest model.misfit_start (model.mode_faults (stands_of found.now)) }
+{
+    let mut earliest = None;
+    for s in found {
+        earliest = earlier_misfit(earliest, misfit_in(s));
+    }
+    earliest
 }

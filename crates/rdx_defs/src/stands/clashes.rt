@@ -1,35 +1,47 @@
 // Names that are bound at two depths.
-ghost use Rattle.std.specs.Prelude.{◌≡◌, IfOk, option_map};
-ghost use Rattle.std.specs.List.{list_any};
+ghost use Rattle.std.specs.Prelude.{◌≡◌, ◌++◌, IfOk, option_map};
 ghost use Rattle.rdx_grammar.specs.OccurrenceView.{occurrences_of};
-ghost use Rattle.rdx_grammar.specs.Refusal.{first};
-ghost use Rattle.rdx_defs.specs.Inside.ByNames as by_names;
+ghost use Rattle.rdx_defs.specs.Bound as model;
+ghost use Rattle.rdx_defs.specs.Earliest.{earliest, start};
 ghost use Rattle.rdx_defs.specs.Inside.PartsHave.{BindNames};
+ghost use Rattle.rdx_defs.specs.StandChecks.{is_other, other_depths};
 ghost use Rattle.rdx_defs.specs.Stands.{bound_among};
 
+use crate::earliest::earlier;
 use crate::stands::names::bound_name;
-use rdx_grammar::checks::bound_by;
+use crate::templates::bound::depth_of;
+use rdx_grammar::checks::{bound_by, when};
 use rdx_grammar::occurrences::Occurrence;
 use rdx_grammar::{Names, Position};
 use rdx_sexp::Datum;
 use rdx_term::{Name, NoMemory};
 use std::alloc::Global;
 
-// Whether one of these is the same name at another depth.
-fn clashes(bound: &[(Name, u32)], entry: &(Name, u32)) -> bool
-    ensures { result
-        ≡ list_any (λ e. by_names.are_apart entry.now e) bound.now }
+// The depth with which a text is bound among these, or else among those.
+#[tactic(auto, using(crate::proofs::Depths::depth_before, crate::proofs::Depths::depth_behind))]
+fn depth_among(bound: &[(Name, u32)], behind: &[(Name, u32)], text: &str) -> Option<u32>
+    ensures { result ≡ model.depth_of (bound.now ++ behind.now) text.now }
 {
-    for other in bound {
-        if entry.0.text() == other.0.text() && entry.1 != other.1 {
-            return true;
-        }
+    match depth_of(bound, text) {
+        Some(depth) => Some(depth),
+        None => depth_of(behind, text),
     }
-    false
 }
 
-/// The first symbol that binds a name at another depth than one of these or one before it.
-pub(crate) fn first_clash<'a>(
+// Whether this is another depth.
+fn is_another(depth: u32, first: Option<u32>) -> bool
+    ensures { result ≡ is_other depth first }
+{
+    match first {
+        Some(first) => depth != first,
+        None => false,
+    }
+}
+
+/// The earliest symbol that binds a name at another depth than it has first, be that among these
+/// names or at a symbol before it.
+#[tactic(auto, using(crate::proofs::EarliestPlaces::lesser_none))]
+pub(crate) fn earliest_clash<'a>(
     alloc: Global,
     names: &Names,
     bound: &[(Name, u32)],
@@ -38,18 +50,18 @@ pub(crate) fn first_clash<'a>(
     requires { BindNames (bound_among names.now (occurrences_of found.now)) }
     ensures { IfOk result (λ r.
         option_map (λ d. d.now) r
-        ≡ first (by_names.clashes_with bound.now
+        ≡ earliest start (other_depths bound.now
         (bound_among names.now (occurrences_of found.now)))) }
 {
     let mut here = Vec::new(alloc);
+    let mut clash = None;
     for o in found {
         if let Some((depth, d)) = bound_by(names, Position::Query, o) {
             let entry = bound_name(depth, d)?;
-            if clashes(bound, &entry) || clashes(&here, &entry) {
-                return Ok(Some(d));
-            }
+            let first = depth_among(bound, &here, entry.0.text());
+            clash = earlier(clash, when(is_another(entry.1, first), d));
             here.push(entry)?;
         }
     }
-    Ok(None)
+    Ok(clash)
 }

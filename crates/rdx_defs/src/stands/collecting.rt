@@ -47,6 +47,8 @@ pub(crate) enum Stand<'a> {
     Fresh(&'a Datum),
     /// The name of a case or a rule, and whether none may come here.
     Named(bool, &'a Datum),
+    /// The arrow of a shortcut, which an earlier one has.
+    Repeated(&'a Datum),
 }
 
 /// What stands in what is taken.

@@ -2,7 +2,7 @@
 ghost use Rattle.std.specs.Prelude.{◌≡◌, ◌∷◌, [], IfOk, IsTrue, map, option_map};
 ghost use Rattle.rdx_grammar.specs.OccurrenceView.{occurrences_of};
 ghost use Rattle.rdx_grammar.specs.Readable.{IsReadable};
-ghost use Rattle.rdx_grammar.specs.Refusal.{first};
+ghost use Rattle.rdx_defs.specs.Earliest.{earliest, start};
 ghost use Rattle.rdx_defs.specs.Headed as headed;
 ghost use Rattle.rdx_defs.specs.Inside.Branches.{one, taken_occurrences};
 ghost use Rattle.rdx_defs.specs.Inside.ByNames as by_names;
@@ -14,20 +14,22 @@ ghost use Rattle.rdx_defs.specs.Stands.{bound_among};
 use crate::Scope;
 use crate::arguments::{Arguments, headed_list, premise_arguments};
 use crate::branches::{Branch, Outline, Question, RuleBranch, Takes};
+use crate::earliest::earlier;
 use crate::extras::{ExtraForm, ExtraPlace, form_at};
-use crate::stands::clashes::first_clash;
+use crate::stands::clashes::earliest_clash;
 use crate::stands::collecting::in_takes;
 use crate::stands::names::{
     add_argument_names, add_extra_names, branch_names, input_names, lone_names, rule_names,
     share_names, taken_names,
 };
+use crate::stands::patterns::{earliest_bad_occurrence, earliest_escape};
 use crate::templates::driving::{driving_of, driving_of_host};
 use crate::templates::places::{
     bad_in_host, bad_in_template, escape_in_host, escape_in_template, shallow_in_host,
     shallow_in_template,
 };
+use rdx_grammar::Names;
 use rdx_grammar::occurrences::Occurrence;
-use rdx_grammar::{Names, checks};
 use rdx_sexp::Datum;
 use rdx_term::{Name, NoMemory};
 use std::alloc::Global;
@@ -45,7 +47,7 @@ pub(crate) enum Check {
     Escapes,
 }
 
-// The first place at which the check refuses a template.
+// The earliest place at which the check refuses a template.
 fn fault_in_template<'a>(
     alloc: Global,
     check: Check,
@@ -56,7 +58,7 @@ fn fault_in_template<'a>(
     requires { IsReadable t.now }
     ensures { IfOk result (λ r.
         option_map (λ d. d.now) r
-        ≡ first (by_names.template_faults check (scope_of scope.now) bound.now t.now)) }
+        ≡ earliest start (by_names.template_faults check (scope_of scope.now) bound.now t.now)) }
 {
     match check {
         Check::Places => bad_in_template(alloc, scope, bound, t),
@@ -66,7 +68,7 @@ fn fault_in_template<'a>(
     }
 }
 
-// The first one in a host expression.
+// The earliest one in a host expression.
 fn fault_in_host<'a>(
     alloc: Global,
     check: Check,
@@ -77,7 +79,7 @@ fn fault_in_host<'a>(
     requires { IsReadable h.now }
     ensures { IfOk result (λ r.
         option_map (λ d. d.now) r
-        ≡ first (by_names.host_faults check (scope_of scope.now) bound.now h.now)) }
+        ≡ earliest start (by_names.host_faults check (scope_of scope.now) bound.now h.now)) }
 {
     match check {
         Check::Places => bad_in_host(alloc, scope, bound, h),
@@ -87,7 +89,7 @@ fn fault_in_host<'a>(
     }
 }
 
-// The first one in a pattern in which these stand, where these names are bound before.
+// The earliest one in a pattern in which these stand, where these names are bound before.
 fn fault_in_pattern<'a>(
     alloc: Global,
     check: Check,
@@ -98,17 +100,18 @@ fn fault_in_pattern<'a>(
     requires { BindNames (bound_among names.now (occurrences_of found.now)) }
     ensures { IfOk result (λ r.
         option_map (λ d. d.now) r
-        ≡ first (by_names.pattern_faults check names.now bound.now (occurrences_of found.now))) }
+        ≡ earliest start (by_names.pattern_faults check names.now bound.now
+        (occurrences_of found.now))) }
 {
     match check {
-        Check::Places => Ok(checks::first_bad_occurrence(names, found)),
-        Check::Depths => first_clash(alloc, names, bound, found),
+        Check::Places => Ok(earliest_bad_occurrence(names, found)),
+        Check::Depths => earliest_clash(alloc, names, bound, found),
         Check::Driving => Ok(None),
-        Check::Escapes => Ok(checks::first_escape(found)),
+        Check::Escapes => Ok(earliest_escape(found)),
     }
 }
 
-// The first one in what is taken.
+// The earliest one in what is taken.
 fn fault_in_takes<'a>(
     alloc: Global,
     check: Check,
@@ -119,15 +122,15 @@ fn fault_in_takes<'a>(
     requires { CanBind names.now (takes_of takes) }
     ensures { IfOk result (λ r.
         option_map (λ d. d.now) r
-        ≡ first (by_names.pattern_faults check names.now bound.now
+        ≡ earliest start (by_names.pattern_faults check names.now bound.now
         (taken_occurrences (takes_of takes.entry)))) }
 {
     let found = in_takes(alloc, takes)?;
     fault_in_pattern(alloc, check, names, bound, &found)
 }
 
-// The first one in an argument that is a pattern, or else a template, where these names are bound
-// for each.
+// The earliest one in an argument that is a pattern, or else a template, where these names are
+// bound for each.
 fn fault_in_argument<'a>(
     alloc: Global,
     check: Check,
@@ -142,8 +145,8 @@ fn fault_in_argument<'a>(
     requires readable { IsReadable d.now }
     ensures { IfOk result (λ r.
         option_map (λ d. d.now) r
-        ≡ first (by_names.flagged_faults check (scope_of scope.now) names.now before.now all.now
-        (is_pattern ∷ []) (d.now ∷ []))) }
+        ≡ earliest start (by_names.flagged_faults check (scope_of scope.now) names.now before.now
+        all.now (is_pattern ∷ []) (d.now ∷ []))) }
 {
     if is_pattern {
         fault_in_takes(alloc, check, names, before, Takes::One(d))
@@ -152,7 +155,7 @@ fn fault_in_argument<'a>(
     }
 }
 
-// The first one in arguments, behind names that are bound before the first pattern, where these
+// The earliest one in arguments, behind names that are bound before the first pattern, where these
 // names are bound for the templates.
 fn fault_in_arguments<'a>(
     alloc: Global,
@@ -166,24 +169,23 @@ fn fault_in_arguments<'a>(
     requires { ArgumentsHave (scope_of scope.now) (can_bind names.now) (arguments_of arguments) }
     ensures { IfOk result (λ r.
         option_map (λ d. d.now) r
-        ≡ first (by_names.arguments_faults check (scope_of scope.now) names.now before.items
-        all.now (arguments_of arguments.entry))) }
+        ≡ earliest start (by_names.arguments_faults check (scope_of scope.now) names.now
+        before.items all.now (arguments_of arguments.entry))) }
 {
     let Some(mode) = arguments.mode else {
         return Ok(None);
     };
+    let mut place = None;
     for (flag, d) in mode.iter().zip(arguments.items) {
         let is_pattern = arguments.is_pattern(*flag);
         let fault = fault_in_argument(alloc, check, scope, names, is_pattern, &before, all, d)?;
-        if fault.is_some() {
-            return Ok(fault);
-        }
+        place = earlier(place, fault);
         add_argument_names(alloc, names, is_pattern, d, &mut before)?;
     }
-    Ok(None)
+    Ok(place)
 }
 
-// The first one in a datum that has to be a premise.
+// The earliest one in a datum that has to be a premise.
 fn fault_in_premise<'a>(
     alloc: Global,
     check: Check,
@@ -195,7 +197,7 @@ fn fault_in_premise<'a>(
     requires { PremiseHas (scope_of scope.now) (can_bind names.now) (headed.headed d.now) }
     ensures { IfOk result (λ r.
         option_map (λ d. d.now) r
-        ≡ first (by_names.premise_faults check (scope_of scope.now) names.now bound.now
+        ≡ earliest start (by_names.premise_faults check (scope_of scope.now) names.now bound.now
         (headed.headed d.now))) }
 {
     let Some(premise) = headed_list(d) else {
@@ -206,7 +208,8 @@ fn fault_in_premise<'a>(
     fault_in_arguments(alloc, check, scope, names, before, bound, arguments)
 }
 
-// The first one in an extra.
+// The earliest one in an extra.
+#[tactic(auto, using(crate::proofs::EarliestPlaces::lesser_assoc, crate::proofs::EarliestPlaces::lesser_none, crate::proofs::EarliestPlaces::earliest_append))]
 fn fault_in_extra<'a>(
     alloc: Global,
     check: Check,
@@ -218,16 +221,14 @@ fn fault_in_extra<'a>(
     requires { ExtraHas (scope_of scope.now) (can_bind names.now) (extra_form_of extra) }
     ensures { IfOk result (λ r.
         option_map (λ d. d.now) r
-        ≡ first (by_names.extra_faults check (scope_of scope.now) names.now bound.now
+        ≡ earliest start (by_names.extra_faults check (scope_of scope.now) names.now bound.now
         (extra_form_of extra.entry))) }
 {
     match extra {
         ExtraForm::SuchThat(pattern, template) => {
-            let takes = Takes::One(pattern);
-            if let Some(d) = fault_in_takes(alloc, check, names, bound, takes)? {
-                return Ok(Some(d));
-            }
-            fault_in_template(alloc, check, scope, bound, template)
+            let taken = fault_in_takes(alloc, check, names, bound, Takes::One(pattern))?;
+            let given = fault_in_template(alloc, check, scope, bound, template)?;
+            Ok(earlier(taken, given))
         }
         ExtraForm::Provided(host) => fault_in_host(alloc, check, scope, bound, host),
         ExtraForm::Confirmed(template) => fault_in_template(alloc, check, scope, bound, template),
@@ -238,7 +239,8 @@ fn fault_in_extra<'a>(
     }
 }
 
-// The first one in extras.
+// The earliest one in extras.
+#[tactic(auto, using(crate::proofs::EarliestPlaces::lesser_none))]
 fn fault_in_extras<'a>(
     alloc: Global,
     check: Check,
@@ -251,20 +253,21 @@ fn fault_in_extras<'a>(
     requires { ExtrasHave (scope_of scope.now) (can_bind names.now) (place_of place) extras.now }
     ensures { IfOk result (λ r.
         option_map (λ d. d.now) r
-        ≡ first (by_names.extras_faults (place_of place) check (scope_of scope.now) names.now
-        bound.items extras.now)) }
+        ≡ earliest start (by_names.extras_faults (place_of place) check (scope_of scope.now)
+        names.now bound.items extras.now)) }
 {
+    let mut fault = None;
     for d in extras {
         let extra = form_at(place, d);
-        if let Some(d) = fault_in_extra(alloc, check, scope, names, &bound, extra)? {
-            return Ok(Some(d));
-        }
+        let next = fault_in_extra(alloc, check, scope, names, &bound, extra)?;
+        fault = earlier(fault, next);
         add_extra_names(alloc, scope, names, extra, &mut bound)?;
     }
-    Ok(None)
+    Ok(fault)
 }
 
-// The first one in a case or a clause.
+// The earliest one in a case or a clause.
+#[tactic(auto, using(crate::proofs::EarliestPlaces::lesser_assoc, crate::proofs::EarliestPlaces::lesser_none, crate::proofs::EarliestPlaces::earliest_append))]
 fn fault_in_branch<'a>(
     alloc: Global,
     check: Check,
@@ -275,18 +278,14 @@ fn fault_in_branch<'a>(
     requires { BranchHas (scope_of scope.now) (can_bind names.now) (branch_of branch) }
     ensures { IfOk result (λ r.
         option_map (λ d. d.now) r
-        ≡ first (by_names.branch_faults check (scope_of scope.now) names.now
+        ≡ earliest start (by_names.branch_faults check (scope_of scope.now) names.now
         (branch_of branch.entry))) }
 {
-    if let Some(d) = fault_in_takes(alloc, check, names, &[], branch.takes)? {
-        return Ok(Some(d));
-    }
+    let taken = fault_in_takes(alloc, check, names, &[], branch.takes)?;
     let all = branch_names(alloc, scope, names, branch)?;
-    if let Some(d) = fault_in_template(alloc, check, scope, &all, branch.result)? {
-        return Ok(Some(d));
-    }
+    let given = fault_in_template(alloc, check, scope, &all, branch.result)?;
     let bound = taken_names(alloc, names, branch.takes)?;
-    fault_in_extras(
+    let behind = fault_in_extras(
         alloc,
         check,
         scope,
@@ -294,10 +293,12 @@ fn fault_in_branch<'a>(
         branch.place,
         bound,
         branch.extras,
-    )
+    )?;
+    Ok(earlier(taken, earlier(given, behind)))
 }
 
-// The first one in cases or clauses.
+// The earliest one in cases or clauses.
+#[tactic(auto, using(crate::proofs::EarliestPlaces::lesser_none, crate::proofs::EarliestPlaces::earliest_next))]
 fn fault_in_branches<'a>(
     alloc: Global,
     check: Check,
@@ -308,18 +309,18 @@ fn fault_in_branches<'a>(
     requires { BranchesHave (scope_of scope.now) (can_bind names.now) (map branch_of branches.now) }
     ensures { IfOk result (λ r.
         option_map (λ d. d.now) r
-        ≡ first (by_names.branches_faults check (scope_of scope.now) names.now
+        ≡ earliest start (by_names.branches_faults check (scope_of scope.now) names.now
         (map branch_of branches.now))) }
 {
+    let mut fault = None;
     for branch in branches {
-        if let Some(d) = fault_in_branch(alloc, check, scope, names, *branch)? {
-            return Ok(Some(d));
-        }
+        let next = fault_in_branch(alloc, check, scope, names, *branch)?;
+        fault = earlier(fault, next);
     }
-    Ok(None)
+    Ok(fault)
 }
 
-// The first one in the conclusion of a rule.
+// The earliest one in the conclusion of a rule.
 fn fault_in_conclusion<'a>(
     alloc: Global,
     check: Check,
@@ -330,7 +331,7 @@ fn fault_in_conclusion<'a>(
     requires { RuleHas (scope_of scope.now) (can_bind names.now) (rule_branch_of rule) }
     ensures { IfOk result (λ r.
         option_map (λ d. d.now) r
-        ≡ first (by_names.conclusion_faults check (scope_of scope.now) names.now
+        ≡ earliest start (by_names.conclusion_faults check (scope_of scope.now) names.now
         (rule_branch_of rule.entry))) }
 {
     let all = rule_names(alloc, scope, names, rule)?;
@@ -345,7 +346,7 @@ fn fault_in_conclusion<'a>(
     )
 }
 
-// The first one in the premises of a rule.
+// The earliest one in the premises of a rule.
 fn fault_in_premises<'a>(
     alloc: Global,
     check: Check,
@@ -356,7 +357,7 @@ fn fault_in_premises<'a>(
     requires { RuleHas (scope_of scope.now) (can_bind names.now) (rule_branch_of rule) }
     ensures { IfOk result (λ r.
         option_map (λ d. d.now) r
-        ≡ first (by_names.premises_faults check (scope_of scope.now) names.now
+        ≡ earliest start (by_names.premises_faults check (scope_of scope.now) names.now
         (rule_branch_of rule.entry))) }
 {
     let bound = input_names(alloc, names, rule)?;
@@ -371,7 +372,8 @@ fn fault_in_premises<'a>(
     )
 }
 
-// The first one in a rule, as it is written.
+// The earliest one in a rule, as it is written.
+#[tactic(auto, using(crate::proofs::EarliestPlaces::lesser_assoc, crate::proofs::EarliestPlaces::lesser_none, crate::proofs::EarliestPlaces::earliest_append))]
 fn fault_in_rule<'a>(
     alloc: Global,
     check: Check,
@@ -382,22 +384,20 @@ fn fault_in_rule<'a>(
     requires { RuleHas (scope_of scope.now) (can_bind names.now) (rule_branch_of rule) }
     ensures { IfOk result (λ r.
         option_map (λ d. d.now) r
-        ≡ first (by_names.rule_faults check (scope_of scope.now) names.now
+        ≡ earliest start (by_names.rule_faults check (scope_of scope.now) names.now
         (rule_branch_of rule.entry))) }
 {
+    let conclusion = fault_in_conclusion(alloc, check, scope, names, rule)?;
+    let premises = fault_in_premises(alloc, check, scope, names, rule)?;
     if rule.is_last {
-        if let Some(d) = fault_in_premises(alloc, check, scope, names, rule)? {
-            return Ok(Some(d));
-        }
-        return fault_in_conclusion(alloc, check, scope, names, rule);
+        Ok(earlier(premises, conclusion))
+    } else {
+        Ok(earlier(conclusion, premises))
     }
-    if let Some(d) = fault_in_conclusion(alloc, check, scope, names, rule)? {
-        return Ok(Some(d));
-    }
-    fault_in_premises(alloc, check, scope, names, rule)
 }
 
-// The first one in rules.
+// The earliest one in rules.
+#[tactic(auto, using(crate::proofs::EarliestPlaces::lesser_none, crate::proofs::EarliestPlaces::earliest_next))]
 fn fault_in_rules<'a>(
     alloc: Global,
     check: Check,
@@ -408,18 +408,19 @@ fn fault_in_rules<'a>(
     requires { RulesHave (scope_of scope.now) (can_bind names.now) (map rule_branch_of rules.now) }
     ensures { IfOk result (λ r.
         option_map (λ d. d.now) r
-        ≡ first (by_names.rules_faults check (scope_of scope.now) names.now
+        ≡ earliest start (by_names.rules_faults check (scope_of scope.now) names.now
         (map rule_branch_of rules.now))) }
 {
+    let mut fault = None;
     for rule in rules {
-        if let Some(d) = fault_in_rule(alloc, check, scope, names, *rule)? {
-            return Ok(Some(d));
-        }
+        let next = fault_in_rule(alloc, check, scope, names, *rule)?;
+        fault = earlier(fault, next);
     }
-    Ok(None)
+    Ok(fault)
 }
 
-// The first one in a premise by itself, and behind it.
+// The earliest one in a premise by itself, and behind it.
+#[tactic(auto, using(crate::proofs::EarliestPlaces::lesser_assoc, crate::proofs::EarliestPlaces::lesser_none, crate::proofs::EarliestPlaces::earliest_append))]
 fn fault_in_question<'a>(
     alloc: Global,
     check: Check,
@@ -430,22 +431,20 @@ fn fault_in_question<'a>(
     requires { QuestionHas (scope_of scope.now) (can_bind names.now) (question_of question) }
     ensures { IfOk result (λ r.
         option_map (λ d. d.now) r
-        ≡ first (by_names.question_faults check (scope_of scope.now) names.now
+        ≡ earliest start (by_names.question_faults check (scope_of scope.now) names.now
         (question_of question.entry))) }
 {
-    if let Some(d) = fault_in_premise(alloc, check, scope, names, &[], question.premise)? {
-        return Ok(Some(d));
-    }
-    match question.result {
-        Some(template) => {
-            let bound = lone_names(alloc, scope, names, question.premise)?;
-            fault_in_template(alloc, check, scope, &bound, template)
-        }
-        None => Ok(None),
-    }
+    let fault = fault_in_premise(alloc, check, scope, names, &[], question.premise)?;
+    let Some(template) = question.result else {
+        return Ok(fault);
+    };
+    let bound = lone_names(alloc, scope, names, question.premise)?;
+    let given = fault_in_template(alloc, check, scope, &bound, template)?;
+    Ok(earlier(fault, given))
 }
 
-// The first one in premises by themselves.
+// The earliest one in premises by themselves.
+#[tactic(auto, using(crate::proofs::EarliestPlaces::lesser_none, crate::proofs::EarliestPlaces::earliest_next))]
 fn fault_in_questions<'a>(
     alloc: Global,
     check: Check,
@@ -457,18 +456,19 @@ fn fault_in_questions<'a>(
         (map question_of questions.now) }
     ensures { IfOk result (λ r.
         option_map (λ d. d.now) r
-        ≡ first (by_names.questions_faults check (scope_of scope.now) names.now
+        ≡ earliest start (by_names.questions_faults check (scope_of scope.now) names.now
         (map question_of questions.now))) }
 {
+    let mut fault = None;
     for question in questions {
-        if let Some(d) = fault_in_question(alloc, check, scope, names, *question)? {
-            return Ok(Some(d));
-        }
+        let next = fault_in_question(alloc, check, scope, names, *question)?;
+        fault = earlier(fault, next);
     }
-    Ok(None)
+    Ok(fault)
 }
 
-// The first one in patterns that stand by themselves.
+// The earliest one in patterns that stand by themselves.
+#[tactic(auto, using(crate::proofs::EarliestPlaces::lesser_none, crate::proofs::EarliestPlaces::earliest_next))]
 fn fault_in_alone<'a>(
     alloc: Global,
     check: Check,
@@ -478,18 +478,19 @@ fn fault_in_alone<'a>(
     requires { AloneHave (CanBind names.now) (map (λ d. d.now) alone.now) }
     ensures { IfOk result (λ r.
         option_map (λ d. d.now) r
-        ≡ first (by_names.alone_faults check names.now (map (λ d. d.now) alone.now))) }
+        ≡ earliest start (by_names.alone_faults check names.now (map (λ d. d.now) alone.now))) }
 {
+    let mut fault = None;
     for pattern in alone {
-        if let Some(d) = fault_in_takes(alloc, check, names, &[], Takes::One(pattern))? {
-            return Ok(Some(d));
-        }
+        let next = fault_in_takes(alloc, check, names, &[], Takes::One(pattern))?;
+        fault = earlier(fault, next);
     }
-    Ok(None)
+    Ok(fault)
 }
 
-/// The first place at which the check refuses a form of this outline, over these nonterminals.
-pub(crate) fn first_fault<'a>(
+/// The earliest place at which the check refuses a form of this outline, over these nonterminals.
+#[tactic(auto, using(crate::proofs::EarliestPlaces::lesser_assoc, crate::proofs::EarliestPlaces::lesser_none, crate::proofs::EarliestPlaces::earliest_append))]
+pub(crate) fn earliest_fault<'a>(
     alloc: Global,
     check: Check,
     scope: &Scope,
@@ -499,17 +500,12 @@ pub(crate) fn first_fault<'a>(
     requires { OutlineHas (scope_of scope.now) (can_bind names.now) (outline_of outline.now) }
     ensures { IfOk result (λ r.
         option_map (λ d. d.now) r
-        ≡ first (by_names.outline_faults check (scope_of scope.now) names.now
+        ≡ earliest start (by_names.outline_faults check (scope_of scope.now) names.now
         (outline_of outline.now))) }
 {
-    if let Some(d) = fault_in_alone(alloc, check, names, &outline.alone)? {
-        return Ok(Some(d));
-    }
-    if let Some(d) = fault_in_branches(alloc, check, scope, names, &outline.branches)? {
-        return Ok(Some(d));
-    }
-    if let Some(d) = fault_in_rules(alloc, check, scope, names, &outline.rules)? {
-        return Ok(Some(d));
-    }
-    fault_in_questions(alloc, check, scope, names, &outline.questions)
+    let alone = fault_in_alone(alloc, check, names, &outline.alone)?;
+    let branches = fault_in_branches(alloc, check, scope, names, &outline.branches)?;
+    let rules = fault_in_rules(alloc, check, scope, names, &outline.rules)?;
+    let questions = fault_in_questions(alloc, check, scope, names, &outline.questions)?;
+    Ok(earlier(alone, earlier(branches, earlier(rules, questions))))
 }

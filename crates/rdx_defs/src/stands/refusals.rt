@@ -11,11 +11,11 @@ ghost use Rattle.rdx_defs.specs.StandChecks as model;
 use crate::Scope;
 use crate::branches::Outline;
 use crate::stands::checks::{
-    Misfit, first_bad_name, first_misfit, first_repeated, first_shape_fault, first_unknown_name,
-    label,
+    Misfit, earliest_bad_name, earliest_misfit, earliest_repeated, earliest_shape_fault,
+    earliest_unknown_name, label,
 };
 use crate::stands::collecting::Stand;
-use crate::stands::faults::{Check, first_fault};
+use crate::stands::faults::{Check, earliest_fault};
 use rdx_grammar::refusal::{named, named_at, unnamed};
 use rdx_grammar::shape::text;
 use rdx_grammar::{DefKind, DefRefusal, Names};
@@ -62,13 +62,13 @@ fn refuse_early(
     ensures { IfOk result (λ r.
         option_map refusal_of r ≡ inside.early_refusal names.now (stands_of found.now)) }
 {
-    if let Some(d) = first_shape_fault(found) {
+    if let Some(d) = earliest_shape_fault(found) {
         return Ok(Some(unnamed(DefKind::Shape, d)));
     }
-    if let Some(d) = first_repeated(alloc, names, found)? {
+    if let Some(d) = earliest_repeated(alloc, names, found)? {
         return Ok(Some(repeated_at(alloc, d)?));
     }
-    if let Some(d) = first_bad_name(found) {
+    if let Some(d) = earliest_bad_name(found) {
         return Ok(Some(named(alloc, DefKind::BadName, d)?));
     }
     Ok(None)
@@ -89,14 +89,14 @@ fn refuse_modes(alloc: Global, found: &[Stand]) -> Result<Option<DefRefusal>, No
     ensures { IfOk result (λ r.
         option_map refusal_of r ≡ model.mode_fault_at (stands_of found.now)) }
 {
-    match first_misfit(found) {
+    match earliest_misfit(found) {
         Some(misfit) => Ok(Some(misfit_at(alloc, misfit)?)),
         None => Ok(None),
     }
 }
 
-// The refusal by the checks of patterns, depths, names, ellipses, escapes and modes, if one refuses a
-// form of this outline, in which these stand.
+// The refusal by the checks of patterns, depths, names, ellipses, escapes and modes, if one refuses
+// a form of this outline, in which these stand.
 fn refuse_late(
     alloc: Global,
     scope: &Scope,
@@ -110,19 +110,19 @@ fn refuse_late(
         ≡ inside.late_refusal (scope_of scope.now) names.now (stands_of found.now)
         (outline_of outline.now)) }
 {
-    if let Some(d) = first_fault(alloc, Check::Places, scope, names, outline)? {
+    if let Some(d) = earliest_fault(alloc, Check::Places, scope, names, outline)? {
         return Ok(Some(unnamed(DefKind::BadPattern, d)));
     }
-    if let Some(d) = first_fault(alloc, Check::Depths, scope, names, outline)? {
+    if let Some(d) = earliest_fault(alloc, Check::Depths, scope, names, outline)? {
         return Ok(Some(named(alloc, DefKind::EllipsisDepth, d)?));
     }
-    if let Some(d) = first_unknown_name(scope, found) {
+    if let Some(d) = earliest_unknown_name(scope, found) {
         return Ok(Some(named(alloc, DefKind::UnknownName, d)?));
     }
-    if let Some(d) = first_fault(alloc, Check::Driving, scope, names, outline)? {
+    if let Some(d) = earliest_fault(alloc, Check::Driving, scope, names, outline)? {
         return Ok(Some(unnamed(DefKind::EllipsisVariable, d)));
     }
-    if let Some(d) = first_fault(alloc, Check::Escapes, scope, names, outline)? {
+    if let Some(d) = earliest_fault(alloc, Check::Escapes, scope, names, outline)? {
         return Ok(Some(unnamed(DefKind::RacketEscape, d)));
     }
     refuse_modes(alloc, found)

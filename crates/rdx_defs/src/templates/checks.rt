@@ -1,9 +1,10 @@
 // The checks of a template by what stands in it, one by one.
 ghost use Rattle.std.specs.Prelude.{◌≡◌, option_map};
-ghost use Rattle.rdx_grammar.specs.Refusal.{first};
+ghost use Rattle.rdx_defs.specs.Earliest.{earliest, start};
 ghost use Rattle.rdx_defs.specs.Inside.PartView.{part_of, parts_of};
 ghost use Rattle.rdx_defs.specs.TemplateChecks as model;
 
+use crate::earliest::earlier;
 use crate::templates::bound::depth_of;
 use crate::templates::parts::TemplatePart;
 use rdx_grammar::checks::when;
@@ -13,7 +14,7 @@ use rdx_sexp::Datum;
 use rdx_term::Name;
 
 fn bad_part<'a>(part: &TemplatePart<'a>) -> Option<&'a Datum>
-    ensures { option_map (λ d. d.now) result ≡ first (model.bad_part (part_of part.now)) }
+    ensures { option_map (λ d. d.now) result ≡ earliest start (model.bad_part (part_of part.now)) }
 {
     match part {
         TemplatePart::Single(_, d) => when(begins_with_dots(text(d)), d),
@@ -22,16 +23,16 @@ fn bad_part<'a>(part: &TemplatePart<'a>) -> Option<&'a Datum>
     }
 }
 
-/// The first part that means nothing.
-pub(crate) fn first_bad_part<'a>(found: &[TemplatePart<'a>]) -> Option<&'a Datum>
-    ensures { option_map (λ d. d.now) result ≡ first (model.bad_parts (parts_of found.now)) }
+/// The earliest part that means nothing.
+#[tactic(auto, using(crate::proofs::EarliestPlaces::lesser_assoc, crate::proofs::EarliestPlaces::lesser_none, crate::proofs::EarliestPlaces::earliest_append))]
+pub(crate) fn earliest_bad_part<'a>(found: &[TemplatePart<'a>]) -> Option<&'a Datum>
+    ensures { option_map (λ d. d.now) result ≡ earliest start (model.bad_parts (parts_of found.now)) }
 {
+    let mut place = None;
     for part in found {
-        if let Some(d) = bad_part(part) {
-            return Some(d);
-        }
+        place = earlier(place, bad_part(part));
     }
-    None
+    place
 }
 
 // Whether so many ellipses are fewer than this depth.
@@ -46,7 +47,7 @@ fn are_fewer(ellipses: u32, depth: Option<u32>) -> bool
 
 fn shallow_part<'a>(bound: &[(Name, u32)], part: &TemplatePart<'a>) -> Option<&'a Datum>
     ensures { option_map (λ d. d.now) result
-        ≡ first (model.shallow_part bound.now (part_of part.now)) }
+        ≡ earliest start (model.shallow_part bound.now (part_of part.now)) }
 {
     match part {
         TemplatePart::Single(depth, d) => when(are_fewer(*depth, depth_of(bound, text(d))), d),
@@ -54,24 +55,24 @@ fn shallow_part<'a>(bound: &[(Name, u32)], part: &TemplatePart<'a>) -> Option<&'
     }
 }
 
-/// The first name under fewer ellipses than its depth.
-pub(crate) fn first_shallow_part<'a>(
+/// The earliest name under fewer ellipses than its depth.
+#[tactic(auto, using(crate::proofs::EarliestPlaces::lesser_assoc, crate::proofs::EarliestPlaces::lesser_none, crate::proofs::EarliestPlaces::earliest_append))]
+pub(crate) fn earliest_shallow_part<'a>(
     bound: &[(Name, u32)],
     found: &[TemplatePart<'a>],
 ) -> Option<&'a Datum>
     ensures { option_map (λ d. d.now) result
-        ≡ first (model.shallow_parts bound.now (parts_of found.now)) }
+        ≡ earliest start (model.shallow_parts bound.now (parts_of found.now)) }
 {
+    let mut place = None;
     for part in found {
-        if let Some(d) = shallow_part(bound, part) {
-            return Some(d);
-        }
+        place = earlier(place, shallow_part(bound, part));
     }
-    None
+    place
 }
 
 fn escape_in<'a>(part: &TemplatePart<'a>) -> Option<&'a Datum>
-    ensures { option_map (λ d. d.now) result ≡ first (model.escape_in (part_of part.now)) }
+    ensures { option_map (λ d. d.now) result ≡ earliest start (model.escape_in (part_of part.now)) }
 {
     match part {
         TemplatePart::Escape(d) => Some(*d),
@@ -79,14 +80,14 @@ fn escape_in<'a>(part: &TemplatePart<'a>) -> Option<&'a Datum>
     }
 }
 
-/// The first part that would ask Racket.
-pub(crate) fn first_escape<'a>(found: &[TemplatePart<'a>]) -> Option<&'a Datum>
-    ensures { option_map (λ d. d.now) result ≡ first (model.escapes (parts_of found.now)) }
+/// The earliest part that would ask Racket.
+#[tactic(auto, using(crate::proofs::EarliestPlaces::lesser_assoc, crate::proofs::EarliestPlaces::lesser_none, crate::proofs::EarliestPlaces::earliest_append))]
+pub(crate) fn earliest_escape<'a>(found: &[TemplatePart<'a>]) -> Option<&'a Datum>
+    ensures { option_map (λ d. d.now) result ≡ earliest start (model.escapes (parts_of found.now)) }
 {
+    let mut place = None;
     for part in found {
-        if let Some(d) = escape_in(part) {
-            return Some(d);
-        }
+        place = earlier(place, escape_in(part));
     }
-    None
+    place
 }

@@ -4,7 +4,7 @@ ghost use Rattle.std.specs.Rc.{rc_str_bytes};
 ghost use Rattle.rdx_sexp.specs.Sexp.{sexps};
 ghost use Rattle.rdx_grammar.specs.HeadView.{roles_view};
 ghost use Rattle.rdx_grammar.specs.PatternChecks.{when};
-ghost use Rattle.rdx_grammar.specs.Refusal.{first, or_else};
+ghost use Rattle.rdx_defs.specs.Earliest.{earliest, lesser, start};
 ghost use Rattle.rdx_defs.specs.Inside.Reach as model;
 ghost use Rattle.rdx_defs.specs.Scope.{scope_of};
 ghost use Rattle.rdx_defs.specs.TemplateChecks.{undriven_parts};
@@ -12,6 +12,7 @@ ghost use Rattle.rdx_defs.specs.TemplateOccurrences.{template_parts, parts_among
 ghost use Rattle.rdx_defs.specs.TemplateReading.{symbol_template, template_reading, templates_among, host_reading, hosts_behind};
 
 use crate::Scope;
+use crate::earliest::earlier;
 use crate::templates::bound::depth_of;
 use crate::templates::heads::{TemplateHead, template_head};
 use crate::templates::host_heads::{HostHead, host_head};
@@ -19,8 +20,8 @@ use rdx_grammar::heads::{Role, Roles, is_pattern, is_repeated, next, rest};
 use rdx_sexp::{Datum, Form};
 use rdx_term::Name;
 
-/// How many of the ellipses right around a template the names in it drive, and the first item in it
-/// that drives no ellipsis behind it.
+/// How many of the ellipses right around a template the names in it drive, and the earliest item in
+/// it that drives no ellipsis behind it.
 #[derive(Clone, Copy)]
 pub(crate) struct Driving<'a> {
     pub reach: u32,
@@ -59,25 +60,25 @@ fn outside(repeated: bool, reach: u32) -> u32
     }
 }
 
-// The first of two.
-fn or_else<'a>(one: Option<&'a Datum>, other: Option<&'a Datum>) -> Option<&'a Datum>
+// The item, where the ellipsis behind it is driven by nothing in it.
+fn undriven_item(repeated: bool, item: &Datum, reach: u32) -> Option<&Datum>
     ensures { option_map (λ d. d.now) result
-        ≡ or_else (option_map (λ d. d.now) one.entry) (option_map (λ d. d.now) other.entry) }
+        ≡ earliest start (when (model.is_undriven repeated reach) item.now) }
 {
-    if one.is_some() { one } else { other }
-}
-
-// The first undriven item of one item and what stands in it.
-fn undriven_in<'a>(repeated: bool, item: &'a Datum, inner: Driving<'a>) -> Option<&'a Datum>
-    ensures { option_map (λ d. d.now) result
-        ≡ or_else (first (when (model.is_undriven repeated inner.entry.reach) item.now))
-        (option_map (λ d. d.now) inner.entry.undriven) }
-{
-    if repeated && inner.reach == 0 {
+    if repeated && reach == 0 {
         Some(item)
     } else {
-        inner.undriven
+        None
     }
+}
+
+// The earliest undriven item of one item and what stands in it.
+fn undriven_in<'a>(repeated: bool, item: &'a Datum, inner: Driving<'a>) -> Option<&'a Datum>
+    ensures { option_map (λ d. d.now) result
+        ≡ lesser start (earliest start (when (model.is_undriven repeated inner.entry.reach)
+        item.now)) (option_map (λ d. d.now) inner.entry.undriven) }
+{
+    earlier(undriven_item(repeated, item, inner.reach), inner.undriven)
 }
 
 /// What the names in the template of a datum drive, in one walk.
@@ -86,7 +87,7 @@ pub(crate) fn driving_of<'a>(scope: &Scope, bound: &[(Name, u32)], d: &'a Datum)
     ensures reach { result.reach
         ≡ model.reach (template_reading (scope_of scope.now) bound.now d.now) }
     ensures undriven { option_map (λ d. d.now) result.undriven
-        ≡ first (undriven_parts (scope_of scope.now) bound.now
+        ≡ earliest start (undriven_parts (scope_of scope.now) bound.now
         (template_parts (scope_of scope.now) bound.now 0 d.now)) }
 {
     match &d.form {
@@ -120,7 +121,7 @@ fn driving_of_items<'a>(
         ≡ model.reach_among (templates_among (scope_of scope.now) bound.now (roles_view roles)
         (sexps (drop from items.now))) }
     ensures undriven { option_map (λ d. d.now) result.undriven
-        ≡ first (undriven_parts (scope_of scope.now) bound.now
+        ≡ earliest start (undriven_parts (scope_of scope.now) bound.now
         (parts_among (scope_of scope.now) bound.now 0 (roles_view roles)
         (sexps (drop from items.now)))) }
 {
@@ -135,7 +136,7 @@ fn driving_of_items<'a>(
             let repeated = is_repeated(left, &items[i + 1..]);
             let inner = driving_of(scope, bound, item);
             reach = reach.max(outside(repeated, inner.reach));
-            undriven = or_else(undriven, undriven_in(repeated, item, inner));
+            undriven = earlier(undriven, undriven_in(repeated, item, inner));
         }
     }
     Driving { reach, undriven }
@@ -147,7 +148,7 @@ pub(crate) fn driving_of_host<'a>(scope: &Scope, bound: &[(Name, u32)], d: &'a D
     ensures reach { result.reach
         ≡ model.reach_in (host_reading (scope_of scope.now) bound.now d.now) }
     ensures undriven { option_map (λ d. d.now) result.undriven
-        ≡ first (undriven_parts (scope_of scope.now) bound.now
+        ≡ earliest start (undriven_parts (scope_of scope.now) bound.now
         (host_parts (scope_of scope.now) bound.now 0 d.now)) }
 {
     match &d.form {
@@ -170,7 +171,7 @@ fn driving_of_hosts<'a>(scope: &Scope, bound: &[(Name, u32)], items: &'a [Datum]
     ensures reach { result.reach
         ≡ model.reach_in_all (hosts_behind (scope_of scope.now) bound.now (sexps items.now)) }
     ensures undriven { option_map (λ d. d.now) result.undriven
-        ≡ first (undriven_parts (scope_of scope.now) bound.now
+        ≡ earliest start (undriven_parts (scope_of scope.now) bound.now
         (host_parts_behind (scope_of scope.now) bound.now 0 (sexps items.now))) }
 {
     let mut reach = 0;
@@ -178,7 +179,7 @@ fn driving_of_hosts<'a>(scope: &Scope, bound: &[(Name, u32)], items: &'a [Datum]
     for i in 1..items.len() {
         let inner = driving_of_host(scope, bound, &items[i]);
         reach = reach.max(inner.reach);
-        undriven = or_else(undriven, inner.undriven);
+        undriven = earlier(undriven, inner.undriven);
     }
     Driving { reach, undriven }
 }

@@ -1,14 +1,14 @@
-// The first place in a template or a host expression at which a check behind the first refuses it.
+// The earliest place in a template or a host expression at which a check behind the first refuses it.
 ghost use Rattle.std.specs.Prelude.{◌≡◌, IfOk, option_map};
 ghost use Rattle.rdx_grammar.specs.Readable.{IsReadable};
-ghost use Rattle.rdx_grammar.specs.Refusal.{first};
+ghost use Rattle.rdx_defs.specs.Earliest.{earliest, start};
 ghost use Rattle.rdx_defs.specs.Inside.PartView.{parts_of, unrepeated};
 ghost use Rattle.rdx_defs.specs.Scope.{scope_of};
 ghost use Rattle.rdx_defs.specs.TemplateChecks as model;
 ghost use Rattle.rdx_defs.specs.TemplateOccurrences.{template_parts, host_parts};
 
 use crate::Scope;
-use crate::templates::checks::{first_bad_part, first_escape, first_shallow_part};
+use crate::templates::checks::{earliest_bad_part, earliest_escape, earliest_shallow_part};
 use crate::templates::parts::{TemplatePart, add_host, add_template};
 use rdx_sexp::Datum;
 use rdx_term::{Name, NoMemory};
@@ -46,7 +46,7 @@ pub(crate) fn in_host<'a>(
     Ok(found)
 }
 
-/// The first part of a template that means nothing.
+/// The earliest part of a template that means nothing.
 pub(crate) fn bad_in_template<'a>(
     alloc: Global,
     scope: &Scope,
@@ -55,13 +55,13 @@ pub(crate) fn bad_in_template<'a>(
 ) -> Result<Option<&'a Datum>, NoMemory>
     requires { IsReadable d.now }
     ensures { IfOk result (λ r. option_map (λ d. d.now) r
-        ≡ first (model.bad_parts (template_parts (scope_of scope.now) bound.now 0 d.now))) }
+        ≡ earliest start (model.bad_parts (template_parts (scope_of scope.now) bound.now 0 d.now))) }
 {
     let found = in_template(alloc, scope, bound, d)?;
-    Ok(first_bad_part(&found))
+    Ok(earliest_bad_part(&found))
 }
 
-/// The first part of a host expression that means nothing.
+/// The earliest part of a host expression that means nothing.
 pub(crate) fn bad_in_host<'a>(
     alloc: Global,
     scope: &Scope,
@@ -70,13 +70,13 @@ pub(crate) fn bad_in_host<'a>(
 ) -> Result<Option<&'a Datum>, NoMemory>
     requires { IsReadable d.now }
     ensures { IfOk result (λ r. option_map (λ d. d.now) r
-        ≡ first (model.bad_parts (host_parts (scope_of scope.now) bound.now 0 d.now))) }
+        ≡ earliest start (model.bad_parts (host_parts (scope_of scope.now) bound.now 0 d.now))) }
 {
     let found = in_host(alloc, scope, bound, d)?;
-    Ok(first_bad_part(&found))
+    Ok(earliest_bad_part(&found))
 }
 
-/// The first name in a template that stands under fewer ellipses than its depth.
+/// The earliest name in a template that stands under fewer ellipses than its depth.
 pub(crate) fn shallow_in_template<'a>(
     alloc: Global,
     scope: &Scope,
@@ -85,14 +85,14 @@ pub(crate) fn shallow_in_template<'a>(
 ) -> Result<Option<&'a Datum>, NoMemory>
     requires { IsReadable d.now }
     ensures { IfOk result (λ r. option_map (λ d. d.now) r
-        ≡ first (model.shallow_parts bound.now
+        ≡ earliest start (model.shallow_parts bound.now
         (template_parts (scope_of scope.now) bound.now 0 d.now))) }
 {
     let found = in_template(alloc, scope, bound, d)?;
-    Ok(first_shallow_part(bound, &found))
+    Ok(earliest_shallow_part(bound, &found))
 }
 
-/// The first name in a host expression that stands under fewer ellipses than its depth.
+/// The earliest name in a host expression that stands under fewer ellipses than its depth.
 pub(crate) fn shallow_in_host<'a>(
     alloc: Global,
     scope: &Scope,
@@ -101,14 +101,14 @@ pub(crate) fn shallow_in_host<'a>(
 ) -> Result<Option<&'a Datum>, NoMemory>
     requires { IsReadable d.now }
     ensures { IfOk result (λ r. option_map (λ d. d.now) r
-        ≡ first (model.shallow_parts bound.now
+        ≡ earliest start (model.shallow_parts bound.now
         (host_parts (scope_of scope.now) bound.now 0 d.now))) }
 {
     let found = in_host(alloc, scope, bound, d)?;
-    Ok(first_shallow_part(bound, &found))
+    Ok(earliest_shallow_part(bound, &found))
 }
 
-/// The first part of a template that would ask Racket.
+/// The earliest part of a template that would ask Racket.
 pub(crate) fn escape_in_template<'a>(
     alloc: Global,
     scope: &Scope,
@@ -117,13 +117,13 @@ pub(crate) fn escape_in_template<'a>(
 ) -> Result<Option<&'a Datum>, NoMemory>
     requires { IsReadable d.now }
     ensures { IfOk result (λ r. option_map (λ d. d.now) r
-        ≡ first (model.escapes (template_parts (scope_of scope.now) bound.now 0 d.now))) }
+        ≡ earliest start (model.escapes (template_parts (scope_of scope.now) bound.now 0 d.now))) }
 {
     let found = in_template(alloc, scope, bound, d)?;
-    Ok(first_escape(&found))
+    Ok(earliest_escape(&found))
 }
 
-/// The first part of a host expression that would ask Racket.
+/// The earliest part of a host expression that would ask Racket.
 pub(crate) fn escape_in_host<'a>(
     alloc: Global,
     scope: &Scope,
@@ -132,8 +132,8 @@ pub(crate) fn escape_in_host<'a>(
 ) -> Result<Option<&'a Datum>, NoMemory>
     requires { IsReadable d.now }
     ensures { IfOk result (λ r. option_map (λ d. d.now) r
-        ≡ first (model.escapes (host_parts (scope_of scope.now) bound.now 0 d.now))) }
+        ≡ earliest start (model.escapes (host_parts (scope_of scope.now) bound.now 0 d.now))) }
 {
     let found = in_host(alloc, scope, bound, d)?;
-    Ok(first_escape(&found))
+    Ok(earliest_escape(&found))
 }

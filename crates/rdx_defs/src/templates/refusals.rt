@@ -8,7 +8,7 @@ ghost use Rattle.rdx_defs.specs.Scope.{scope_of};
 ghost use Rattle.rdx_defs.specs.TemplateRefusal as model;
 
 use crate::Scope;
-use crate::templates::checks::{first_bad_part, first_escape, first_shallow_part};
+use crate::templates::checks::{earliest_bad_part, earliest_escape, earliest_shallow_part};
 use crate::templates::driving::{driving_of, driving_of_host};
 use crate::templates::parts::TemplatePart;
 use crate::templates::places::{in_host, in_template};
@@ -21,7 +21,7 @@ use rdx_term::{Name, NoMemory};
 use std::alloc::Global;
 
 // The refusal by the check behind the first with the least number, of what stands in a template and
-// of the first item whose ellipsis nothing drives.
+// of the earliest item whose ellipsis nothing drives.
 fn refuse_late(
     alloc: Global,
     bound: &[(Name, u32)],
@@ -33,16 +33,16 @@ fn refuse_late(
         ≡ inside.late_refusal bound.now (option_map (λ d. d.now) undriven.entry)
         (parts_of found.now)) }
 {
-    if let Some(d) = first_bad_part(found) {
+    if let Some(d) = earliest_bad_part(found) {
         return Ok(Some(unnamed(DefKind::BadPattern, d)));
     }
-    if let Some(d) = first_shallow_part(bound, found) {
+    if let Some(d) = earliest_shallow_part(bound, found) {
         return Ok(Some(named(alloc, DefKind::EllipsisDepth, d)?));
     }
     if let Some(d) = undriven {
         return Ok(Some(unnamed(DefKind::EllipsisVariable, d)));
     }
-    if let Some(d) = first_escape(found) {
+    if let Some(d) = earliest_escape(found) {
         return Ok(Some(unnamed(DefKind::RacketEscape, d)));
     }
     Ok(None)

@@ -1,37 +1,38 @@
-// The first datum without its shape in templates and host expressions.
+// The earliest datum without its shape in templates and host expressions.
 ghost use Rattle.std.specs.Prelude.{◌≡◌, drop, option_map};
 ghost use Rattle.rdx_sexp.specs.Sexp.{sexps};
 ghost use Rattle.rdx_grammar.specs.Occurrences.{keys};
 ghost use Rattle.rdx_grammar.specs.PatternChecks.{keyword_faults};
-ghost use Rattle.rdx_grammar.specs.Refusal.{first};
+ghost use Rattle.rdx_defs.specs.Earliest.{earliest, start};
 ghost use Rattle.rdx_defs.specs.TemplateShapes as model;
 
+use crate::earliest::earlier;
 use crate::templates::heads::{is_evaluating, is_headed};
 use crate::templates::host_heads::{HostHead, host_head};
 use rdx_sexp::{Datum, Form};
 
-// The first keyword in a datum.
-fn first_key(d: &Datum) -> Option<&Datum>
-    ensures { option_map (λ d. d.now) result ≡ first (keyword_faults (keys d.now)) }
+// The earliest keyword in a datum.
+#[tactic(auto, using(std::proofs::lemmas::Grind::common_steps, crate::proofs::EarliestPlaces::lesser_assoc, crate::proofs::EarliestPlaces::lesser_none, crate::proofs::EarliestPlaces::earliest_append))]
+fn key_in(d: &Datum) -> Option<&Datum>
+    ensures { option_map (λ d. d.now) result ≡ earliest start (keyword_faults (keys d.now)) }
 {
     match &d.form {
         Form::Int(_) | Form::Bool(_) | Form::Str(_) | Form::Sym(_) => None,
         Form::Key(_) => Some(d),
         Form::List(items) => {
+            let mut found = None;
             for item in items {
-                if let Some(key) = first_key(item) {
-                    return Some(key);
-                }
+                found = earlier(found, key_in(item));
             }
-            None
+            found
         }
     }
 }
 
-/// The first datum in a template that has not its shape.
+/// The earliest datum in a template that has not its shape.
 #[cycle(shapes)]
 pub(crate) fn shape_in_template(d: &Datum) -> Option<&Datum>
-    ensures { option_map (λ d. d.now) result ≡ first (model.template_shapes d.now) }
+    ensures { option_map (λ d. d.now) result ≡ earliest start (model.template_shapes d.now) }
 {
     match &d.form {
         Form::Int(_) | Form::Bool(_) | Form::Str(_) | Form::Sym(_) => None,
@@ -40,7 +41,7 @@ pub(crate) fn shape_in_template(d: &Datum) -> Option<&Datum>
             if is_evaluating(items) {
                 shape_in_hosts(items)
             } else if is_headed(items, "unquote-splicing") {
-                first_key(d)
+                key_in(d)
             } else {
                 shape_in_templates(0, items)
             }
@@ -48,24 +49,24 @@ pub(crate) fn shape_in_template(d: &Datum) -> Option<&Datum>
     }
 }
 
-// The first one in the templates from this one on.
+// The earliest one in the templates from this one on.
+#[tactic(auto, using(std::proofs::lemmas::Grind::common_steps, crate::proofs::EarliestPlaces::lesser_assoc, crate::proofs::EarliestPlaces::lesser_none, crate::proofs::EarliestPlaces::earliest_append))]
 #[cycle(shapes)]
 fn shape_in_templates(from: usize, items: &[Datum]) -> Option<&Datum>
     ensures { option_map (λ d. d.now) result
-        ≡ first (model.shapes_among (sexps (drop from items.now))) }
+        ≡ earliest start (model.shapes_among (sexps (drop from items.now))) }
 {
+    let mut found = None;
     for i in from..items.len() {
-        if let Some(d) = shape_in_template(&items[i]) {
-            return Some(d);
-        }
+        found = earlier(found, shape_in_template(&items[i]));
     }
-    None
+    found
 }
 
-/// The first datum in a host expression that has not its shape.
+/// The earliest datum in a host expression that has not its shape.
 #[cycle(shapes)]
 pub(crate) fn shape_in_host(d: &Datum) -> Option<&Datum>
-    ensures { option_map (λ d. d.now) result ≡ first (model.host_shapes d.now) }
+    ensures { option_map (λ d. d.now) result ≡ earliest start (model.host_shapes d.now) }
 {
     match &d.form {
         Form::Int(_) | Form::Bool(_) | Form::Str(_) | Form::Sym(_) | Form::Key(_) => None,
@@ -78,16 +79,16 @@ pub(crate) fn shape_in_host(d: &Datum) -> Option<&Datum>
     }
 }
 
-// The first one in the host expressions behind a head.
+// The earliest one in the host expressions behind a head.
+#[tactic(auto, using(std::proofs::lemmas::Grind::common_steps, crate::proofs::EarliestPlaces::lesser_assoc, crate::proofs::EarliestPlaces::lesser_none, crate::proofs::EarliestPlaces::earliest_append))]
 #[cycle(shapes)]
 fn shape_in_hosts(items: &[Datum]) -> Option<&Datum>
     ensures { option_map (λ d. d.now) result
-        ≡ first (model.host_shapes_behind (sexps items.now)) }
+        ≡ earliest start (model.host_shapes_behind (sexps items.now)) }
 {
+    let mut found = None;
     for i in 1..items.len() {
-        if let Some(d) = shape_in_host(&items[i]) {
-            return Some(d);
-        }
+        found = earlier(found, shape_in_host(&items[i]));
     }
-    None
+    found
 }

@@ -1,17 +1,9 @@
 //! Forms and words that are not built yet.
 ghost use Rattle.std.specs.Prelude.{◌≡◌, codes};
-ghost use Rattle.rdx_grammar.specs.Names.{is_one_of};
 ghost use Rattle.rdx_grammar.specs.Unbuilt as unbuilt;
 
 use crate::shape::names::begins_with_dots;
 use rdx_sexp::{Datum, Form};
-
-// Whether forms to come are written with this word.
-fn is_form_word(text: &str) -> bool
-    ensures { result ≡ is_one_of unbuilt.words_to_come text.now }
-{
-    text == "with"
-}
 
 // Whether this is a name that stands for different terms wherever it comes.
 fn is_mismatch(text: &str) -> bool
@@ -24,7 +16,7 @@ fn is_mismatch(text: &str) -> bool
 fn is_word_to_come(text: &str) -> bool
     ensures { result ≡ unbuilt.is_word_to_come text.now }
 {
-    is_form_word(text) || (is_mismatch(text) && !begins_with_dots(text))
+    is_mismatch(text) && !begins_with_dots(text)
 }
 
 /// Whether such a word stands in the datum, however deep.

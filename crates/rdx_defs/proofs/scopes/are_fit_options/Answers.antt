@@ -1,4 +1,4 @@
-use Rattle.std.proofs.Common.{◌≡◌, ◌∷◌, ◌∙◌, ℕ, Bool, List, Some, [], true, false, sym, ap, subst}
+use Rattle.std.proofs.Common.{◌≡◌, ◌∷◌, ◌∙◌, ℕ, Bool, List, Some, true, false, sym, ap}
 use Rattle.std.specs.Prelude.{◌&&◌}
 use Rattle.rdx_defs.specs.Inside.FormViews.{keys_of, option_form_of, paired}
 use Rattle.rdx_defs.specs.JudgementForms.{is_fit_option, are_fit_options, key_text}

@@ -1,4 +1,4 @@
-use Rattle.std.proofs.Common.{◌≡◌, ◌∙◌, Some, None, List, Bool, sym, ap}
+use Rattle.std.proofs.Common.{◌≡◌, ◌∙◌, Some, None, sym, ap}
 use Rattle.std.specs.Bool.{then_some}
 use Rattle.std.specs.Prelude.{option_map}
 use Rattle.rdx_term.specs.Spelling.{is_name}

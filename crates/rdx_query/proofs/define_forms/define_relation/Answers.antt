@@ -7,7 +7,7 @@ use Rattle.rdx_query.specs.Inside.PartViews.{define_kind_of, defining_of}
 use Rattle.rdx_query.specs.Inside.KnownView.{known_of}
 use Rattle.rdx_query.proofs.ClosureChecks.{relates-contexts, relates-crosses}
 use Rattle.rdx_query.proofs.DefineChecks.{sole_parts, parts-shown, body-readable, name-spelled}
-use Rattle.rdx_query.proofs.GainingNothing.{body-asks, closure-asked}
+use Rattle.rdx_query.proofs.GainingNothing.{body-asks, define-asked}
 use Rattle.rdx_query.proofs.RelationChecks.{relates-cases}
 use Rattle.rdx_query.proofs.define_forms.define_relation.Goals as goal
 
@@ -32,7 +32,10 @@ pub define_by_cases-requires-clause-ends : goal.define_by_cases-requires-clause-
 define_by_cases-requires-clause-ends c =
     let p = c.in-Some.parts in
     let e = parts-shown c.args.form.now (defining_of p) c.in-Some.ensures c.if-parts.false in
-    body-asks c.args.known.now.ends.items c.args.form.now (sole_parts (define_kind_of p.kind) p.name.now p.body.now) e c.requires.ends
+    let f : define_parts c.args.form.now ≡ Some (sole_parts by_cases p.name.now p.body.now) =
+    e ∙ ap (λ (l : code.DefineKind). let o : Option DefineParts = Some (sole_parts (define_kind_of l) p.name.now p.body.now) in o) c.in-Cases.is in
+    subst (λ (o : Option DefineParts). AreAmong (define_ends o) c.args.known.now.ends.items) f
+    (define-asked c.args.known.now.ends.items c.args.form.now c.requires.ends)
 
 pub define_by_contexts-requires-clause-spelled : goal.define_by_contexts-requires-clause-spelled
 define_by_contexts-requires-clause-spelled c =
@@ -75,7 +78,7 @@ define_by_crosses-requires-clause-ends c =
     let f : define_parts c.args.form.now ≡ Some (sole_parts by_crosses p.name.now p.body.now) =
     e ∙ ap (λ (l : code.DefineKind). let o : Option DefineParts = Some (sole_parts (define_kind_of l) p.name.now p.body.now) in o) c.in-Crosses.is in
     subst (λ (o : Option DefineParts). AreAmong (define_ends o) c.args.known.now.ends.items) f
-    (closure-asked c.args.known.now.ends.items c.args.form.now c.requires.ends)
+    (define-asked c.args.known.now.ends.items c.args.form.now c.requires.ends)
 
 pub returns-in-Cases-clause-relates : goal.returns-in-Cases-clause-relates
 returns-in-Cases-clause-relates c =

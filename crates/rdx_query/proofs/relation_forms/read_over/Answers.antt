@@ -4,8 +4,8 @@ use Rattle.rdx_lang.specs.Checked.{language_in}
 use Rattle.rdx_lang.specs.Patterns.{Language}
 use Rattle.rdx_lang.specs.ProgramView.{relation_of}
 use Rattle.rdx_lang.specs.Valid.{is_valid_over}
+use Rattle.rdx_defs.specs.RelationEnds.{relation_ends}
 use Rattle.rdx_defs.specs.Scope.{scope_of, callable}
-use Rattle.rdx_grammar.specs.Ends.{ends_in}
 use Rattle.rdx_query.proofs.GainingNothing.{gained-at}
 use Rattle.rdx_query.proofs.RelationChecks.{valid-formed}
 use Rattle.rdx_query.proofs.Replaced.{same-known}
@@ -16,7 +16,7 @@ returns-in-Some-clause-same c =
     let l = c.index_mut-language.result.now in
     let m = c.read_relation.new.language in
     same-known c.args.known.now c.in-Some.place l m c.in-Some.ensures.within
-    (gained-at c.args.known.now.program.languages.items c.in-Some.place l m (ends_in c.args.body.now) c.args.known.now.ends.items c.read_relation.result
+    (gained-at c.args.known.now.program.languages.items c.in-Some.place l m (relation_ends c.args.body.now) c.args.known.now.ends.items c.read_relation.result
     c.in-Some.ensures.within c.index_mut-language.ensures.value c.requires.crossed c.requires.ends c.read_relation.ensures.gains)
 
 pub returns-in-Some-clause-fits : goal.returns-in-Some-clause-fits
@@ -24,7 +24,7 @@ returns-in-Some-clause-fits c =
     let C = callable (scope_of c.args.known.now.scope) in
     let l = c.index_mut-language.result.now in
     let m = c.read_relation.new.language in
-    let s = gained-at c.args.known.now.program.languages.items c.in-Some.place l m (ends_in c.args.body.now) c.args.known.now.ends.items c.read_relation.result
+    let s = gained-at c.args.known.now.program.languages.items c.in-Some.place l m (relation_ends c.args.body.now) c.args.known.now.ends.items c.read_relation.result
     c.in-Some.ensures.within c.index_mut-language.ensures.value c.requires.crossed c.requires.ends c.read_relation.ensures.gains
     ∙ ap language_in (sym c.index_mut-language.ensures.value) in
     IfOk-weaker c.read_relation.result _ _

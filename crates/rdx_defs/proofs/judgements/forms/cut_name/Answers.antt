@@ -1,6 +1,4 @@
-use Rattle.std.proofs.Common.{◌≡◌, ◌++◌, ◌∙◌, Bool, List, [], ◌∷◌, Some, None, true, false, sym, ap, if◌then◌else◌}
-use Rattle.std.specs.Prelude.{Option}
-use Rattle.rdx_sexp.specs.Sexp.{Sexp}
+use Rattle.std.proofs.Common.{◌≡◌, ◌++◌, ◌∙◌, Bool, [], ◌∷◌, Some, None, true, false, sym, ap, if◌then◌else◌}
 use Rattle.rdx_defs.specs.JudgementForms.{is_label, cut_name}
 use Rattle.rdx_defs.proofs.RuleForms.{cut_name-last}
 use Rattle.rdx_defs.proofs.judgements.forms.cut_name.Goals as goal

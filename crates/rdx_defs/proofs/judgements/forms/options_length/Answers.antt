@@ -1,4 +1,4 @@
-use Rattle.std.proofs.Common.{◌≡◌, ◌∙◌, ◌+◌, ◌<◌, ◌≤◌, ℕ, suc, true, false, drop, length, sym, ap, arith}
+use Rattle.std.proofs.Common.{◌≡◌, ◌∙◌, ◌+◌, ℕ, suc, true, false, drop, sym, ap, arith}
 use Rattle.rdx_defs.specs.Inside.Branches.{options_length}
 use Rattle.rdx_defs.specs.JudgementForms.{is_any_keyword}
 use Rattle.rdx_defs.proofs.RuleForms.{options-one, options-two, options-none, options-end}

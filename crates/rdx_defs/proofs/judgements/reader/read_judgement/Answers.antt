@@ -1,4 +1,4 @@
-use Rattle.std.proofs.Common.{◌≡◌, ◌∙◌, ℕ, List, Some, None, true, IsTrue, sym, ap, subst, if◌then◌else◌}
+use Rattle.std.proofs.Common.{◌≡◌, ◌∙◌, ℕ, List, Some, None, true, IsTrue, sym, ap, subst}
 use Rattle.std.specs.Prelude.{Option, option_map}
 use Rattle.rdx_sexp.specs.Sexp.{Sexp}
 use Rattle.rdx_term.specs.Spelling.{is_name}
@@ -8,10 +8,7 @@ use Rattle.rdx_lang.specs.ProgramView.{judgement_of}
 use Rattle.rdx_lang.specs.Programs.{Judgement}
 use Rattle.rdx_lang.specs.Valid.{is_valid_judgement}
 use Rattle.rdx_grammar.specs.Nonterminals.{names_of}
-use Rattle.rdx_grammar.specs.Parts.{text_of}
-use Rattle.rdx_grammar.specs.Refusal.{refusal_of, unnamed}
-use Rattle.rdx_grammar.specs.Unbuilt.{unbuilt_at}
-use Rattle.rdx_grammar.specs.declared.shape.fault.DefKind.TheVariants.{Unbuilt}
+use Rattle.rdx_grammar.specs.Refusal.{refusal_of}
 use Rattle.rdx_grammar.specs.Readable.{IsReadable}
 use Rattle.rdx_defs.specs.Inside.Branches.{judgement_outline}
 use Rattle.rdx_defs.specs.Inside.Contracts.{IsJudgementContract}

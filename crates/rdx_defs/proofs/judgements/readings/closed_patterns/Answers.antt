@@ -1,6 +1,6 @@
-use Rattle.std.proofs.Common.{◌≡◌, ◌++◌, ◌∙◌, List, [], map, append-nil, sym, ap, arith}
+use Rattle.std.proofs.Common.{◌≡◌, ◌∙◌, map, ap, arith}
 use Rattle.std.proofs.lemmas.Grind.{common_steps}
-use Rattle.rdx_lang.specs.PatternView.{Slot, slot_of, just, items_of}
+use Rattle.rdx_lang.specs.PatternView.{slot_of, just, items_of}
 use Rattle.rdx_lang.specs.Patterns.{closed}
 use Rattle.rdx_grammar.specs.Reading.{reading}
 use Rattle.rdx_grammar.specs.declared.patterns.position.Position.TheVariants.{Query}

@@ -1,4 +1,4 @@
-use Rattle.std.proofs.Common.{◌≡◌, ◌∙◌, List, map, sym, ap, subst}
+use Rattle.std.proofs.Common.{◌≡◌, ◌∙◌, map, sym, ap, subst}
 use Rattle.std.specs.Prelude.{option_map}
 use Rattle.rdx_lang.specs.Checked.{language_in, pattern_in}
 use Rattle.rdx_lang.specs.ProgramView.{extras_of}

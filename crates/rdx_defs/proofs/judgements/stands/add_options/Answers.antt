@@ -1,4 +1,4 @@
-use Rattle.std.proofs.Common.{◌≡◌, ◌++◌, ◌∷◌, ◌∙◌, ℕ, Bool, true, List, [], IsTrue, refl, sym, ap, subst, if◌then◌else◌}
+use Rattle.std.proofs.Common.{◌≡◌, ◌∷◌, ◌∙◌, ℕ, true, List, [], refl, sym, ap, subst, if◌then◌else◌}
 use Rattle.std.specs.Prelude.{option_map}
 use Rattle.rdx_defs.specs.Inside.Branches.{option_patterns, options_patterns}
 use Rattle.rdx_defs.specs.Inside.FormViews.{keys_of, option_form_of, paired, stands_of}

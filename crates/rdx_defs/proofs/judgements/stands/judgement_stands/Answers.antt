@@ -9,7 +9,6 @@ use Rattle.rdx_defs.specs.Inside.PartsHave.{AreReadable, RulesHave, readable}
 use Rattle.rdx_defs.specs.JudgementForms.{judgement_in, mode_form, own_mode}
 use Rattle.rdx_defs.specs.JudgementStands.{missing_mode, options_stand}
 use Rattle.rdx_defs.specs.Scope.{scope_of}
-use Rattle.rdx_defs.specs.Stands.{Stand}
 use Rattle.rdx_defs.specs.declared.stands.collecting.Stand as code
 use Rattle.rdx_defs.proofs.RuleForms.{alone-readable}
 use Rattle.rdx_defs.proofs.judgements.stands.judgement_stands.Goals as goal

@@ -1,14 +1,15 @@
-use Rattle.std.proofs.Common.{◌≡◌, ◌++◌, ◌∙◌, not, List, [], ◌∷◌, sym, ap}
+use Rattle.std.proofs.Common.{◌≡◌, ◌++◌, ◌∙◌, not, [], ◌∷◌, sym, ap}
 use Rattle.std.specs.List.{list_any}
 use Rattle.std.specs.Prelude.{bytes_eq}
 use Rattle.rdx_grammar.specs.Inside.Repeats.{texts_in}
 use Rattle.rdx_grammar.specs.Parts.{text_of}
 use Rattle.rdx_grammar.specs.PatternChecks.{when}
-use Rattle.rdx_grammar.specs.Refusal.{first}
 use Rattle.rdx_grammar.proofs.Seen.{contains-texts, texts-inserted, not_either}
+use Rattle.rdx_defs.specs.Earliest.{start, earliest}
 use Rattle.rdx_defs.specs.Inside.FormViews.{stand_of}
 use Rattle.rdx_defs.specs.Inside.NamesAgain.{name_again, bound_with}
 use Rattle.rdx_defs.specs.StandChecks.{label, names_with}
+use Rattle.rdx_defs.proofs.EarliestPlaces.{earliest-when}
 use Rattle.rdx_defs.proofs.RepeatedNames.{last-same}
 use Rattle.rdx_defs.proofs.stands.checks.name_again.Goals as goal
 
@@ -20,7 +21,8 @@ returns-in_ok-is_new-in-Fresh-clause-again c =
     let b : not c.in_ok-is_new-in-Fresh.is_new ≡ list_any (bytes_eq (text_of d)) bound =
     not_either c.in_ok-is_new-in-Fresh.is_new _ c.in_ok-is_new-in-Fresh.ensures.added
     ∙ contains-texts c.text.result.now c.args.bound.now.keys ∙ ap (λ x. list_any (bytes_eq x) bound) c.text.ensures in
-    c.when.ensures ∙ ap (λ t. first (when t d)) b ∙ ap (λ s. first (name_again seen bound (stand_of s))) (sym c.in-Fresh.is)
+    c.when.ensures ∙ sym (earliest-when start (not c.in_ok-is_new-in-Fresh.is_new) d) ∙ ap (λ t. earliest start (when t d)) b
+    ∙ ap (λ s. earliest start (name_again seen bound (stand_of s))) (sym c.in-Fresh.is)
 
 pub returns-in_ok-is_new-in-Fresh-clause-bound : goal.returns-in_ok-is_new-in-Fresh-clause-bound
 returns-in_ok-is_new-in-Fresh-clause-bound c =
@@ -38,7 +40,8 @@ returns-in_ok-is_new-in-Named-clause-again c =
     let b : not c.in_ok-is_new-in-Named.is_new ≡ list_any (bytes_eq (label d)) seen =
     not_either c.in_ok-is_new-in-Named.is_new _ c.in_ok-is_new-in-Named.ensures.added
     ∙ contains-texts c.label.result.now c.args.seen.now.keys ∙ ap (λ x. list_any (bytes_eq x) seen) c.label.ensures in
-    c.when-in-Named.ensures ∙ ap (λ t. first (when t d)) b ∙ ap (λ s. first (name_again seen bound (stand_of s))) (sym c.in-Named.is)
+    c.when-in-Named.ensures ∙ sym (earliest-when start (not c.in_ok-is_new-in-Named.is_new) d) ∙ ap (λ t. earliest start (when t d)) b
+    ∙ ap (λ s. earliest start (name_again seen bound (stand_of s))) (sym c.in-Named.is)
 
 pub returns-in_ok-is_new-in-Named-clause-seen : goal.returns-in_ok-is_new-in-Named-clause-seen
 returns-in_ok-is_new-in-Named-clause-seen c =

@@ -1,9 +1,10 @@
 use Rattle.std.proofs.Common.{◌≡◌, drop, map}
-use Rattle.rdx_grammar.specs.Refusal.{first}
+use Rattle.std.specs.Prelude.{option_map}
+use Rattle.rdx_defs.specs.Earliest.{start, lesser, earliest}
 use Rattle.rdx_defs.specs.Inside.ByNames.{alone_faults}
 use Rattle.rdx_defs.proofs.stands.faults.fault_in_alone.Given as goal
 
 abbrev pub invariant-loop-pattern : goal.invariant-loop-pattern
 invariant-loop-pattern l =
-    first (alone_faults l.check l.names (map (λ d. d.now) l.alone))
-    ≡ first (alone_faults l.check l.names (map (λ d. d.now) (drop l.pattern-index l.alone)))
+    lesser start (option_map (λ d. d.now) l.fault) (earliest start (alone_faults l.check l.names (map (λ d. d.now) (drop l.pattern-index l.alone))))
+    ≡ earliest start (alone_faults l.check l.names (map (λ d. d.now) l.alone))

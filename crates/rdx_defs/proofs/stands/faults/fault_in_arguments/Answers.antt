@@ -1,18 +1,19 @@
 use Rattle.std.proofs.Common.{◌≡◌, ◌++◌, ◌∙◌, List, [], ◌∷◌, map, sym, ap, subst}
 use Rattle.std.proofs.lemmas.Slice.Zip.{Zip-more, either_empty_from_Zip}
 use Rattle.std.specs.Iterator.Adapters.{zip_first, zip_second}
-use Rattle.std.specs.Prelude.{option_map}
+use Rattle.std.specs.Prelude.{Option, option_map}
 use Rattle.std.specs.Slice.Iter.{iter_rest}
 use Rattle.rdx_sexp.specs.Sexp.{Sexp}
-use Rattle.rdx_grammar.specs.Refusal.{first}
 use Rattle.rdx_defs.specs.Arguments.{data_at, data_by}
 use Rattle.rdx_defs.specs.Bound.{Bound}
+use Rattle.rdx_defs.specs.Earliest.{start, lesser, earliest}
 use Rattle.rdx_defs.specs.Inside.Branches.{each}
 use Rattle.rdx_defs.specs.Inside.ByNames.{faults_by, flagged_faults, patterns_names}
 use Rattle.rdx_defs.specs.Inside.FormViews.{flag_at}
 use Rattle.rdx_defs.specs.Inside.PartsHave.{AreReadable, CanBind}
 use Rattle.rdx_defs.specs.Scope.{scope_of}
-use Rattle.rdx_defs.proofs.ArgumentLists.{bind-argument, faults-end, faults-first, first-behind, first-here}
+use Rattle.rdx_defs.proofs.ArgumentLists.{bind-argument, faults-end, earliest-first}
+use Rattle.rdx_defs.proofs.EarliestPlaces.{lesser_none}
 use Rattle.rdx_defs.proofs.stands.faults.fault_in_arguments.Goals as goal
 
 pub loop-flag-init : goal.loop-flag-init
@@ -35,8 +36,8 @@ loop-flag-init c =
       tt,
       subst (λ (ds : List Sexp). CanBind ns (each ds)) same c.requires.patterns,
       subst AreReadable (sym b) c.requires.readable,
-      ap (λ o. first (faults_by k S ns es all (option_map (λ m. map f m.now) o) items)) c.in-Some.is
-          ∙ (λ i. first (flagged_faults k S ns es all (map f (sym a i)) (sym b i))),
+      (λ i. earliest start (flagged_faults k S ns es all (map f (a i)) (b i)))
+          ∙ sym (ap (λ o. earliest start (faults_by k S ns es all (option_map (λ m. map f m.now) o) items)) c.in-Some.is),
     )
 
 pub fault_in_argument-requires-clause-pattern : goal.fault_in_argument-requires-clause-pattern
@@ -84,42 +85,24 @@ loop-flag-preserved c =
       tt,
       (bind-argument ns b bs d ds h).1,
       (subst AreReadable z.1 c.loop-flag.invariant.3).1,
-      c.loop-flag.invariant.4
-          ∙ (λ i. first (flagged_faults k S ns es all (map f (z.0 i)) (z.1 i)))
-          ∙ ap first (faults-first k S ns all es b bs d ds)
-          ∙ first-behind (λ e. e.now) (flagged_faults k S ns es all (b ∷ []) (d ∷ []))
-          (flagged_faults k S ns (es ++ patterns_names ns (data_at (b ∷ []) (d ∷ []))) all bs ds)
-          c.in_ok-fault.fault (sym c.is_some.ensures ∙ c.if-is_some.false)
-          (c.in_ok-fault.ensures ∙ (λ i. first (flagged_faults k S ns (c.deref.ensures.value i) all (c.is_pattern-is_pattern.ensures i ∷ []) (d ∷ []))))
-          ∙ ap (λ (gs : Bound). first (flagged_faults k S ns gs all bs ds)) (sym more),
+      ap (λ (p : Option Sexp). lesser start p (earliest start (flagged_faults k S ns c.add_argument_names.new.out.items all bs ds)))
+          (c.earlier-place.ensures
+          ∙ ap (lesser start (option_map (λ d. d.now) c.loop-flag.place))
+          (c.in_ok-fault.ensures ∙ (λ i. earliest start (flagged_faults k S ns (c.deref.ensures.value i) all (c.is_pattern-is_pattern.ensures i ∷ []) (d ∷ [])))))
+          ∙ ap (λ (gs : Bound). lesser start (lesser start (option_map (λ d. d.now) c.loop-flag.place) (earliest start (flagged_faults k S ns es all (b ∷ []) (d ∷ []))))
+          (earliest start (flagged_faults k S ns gs all bs ds))) more
+          ∙ sym (earliest-first k S ns all es b bs d ds (option_map (λ d. d.now) c.loop-flag.place))
+          ∙ (λ i. lesser start (option_map (λ d. d.now) c.loop-flag.place) (earliest start (flagged_faults k S ns es all (map f (sym z.0 i)) (sym z.1 i))))
+          ∙ c.loop-flag.invariant.4,
     )
 
 pub returns : goal.returns
 returns c =
     let f = flag_at c.args.arguments.at_inputs in
     let s = c.loop-flag.flag-iterator in
-    sym (c.loop-flag.invariant.4
-    ∙ ap first
-    (faults-end c.args.check (scope_of c.args.scope.now) c.args.names.now c.args.all.now c.loop-flag.before.items f (iter_rest (zip_first s)) (iter_rest (zip_second s))
+    let place = option_map (λ d. d.now) c.loop-flag.place in
+    sym (lesser_none start place)
+    ∙ ap (λ (ds : List Sexp). lesser start place (earliest start ds))
+    (sym (faults-end c.args.check (scope_of c.args.scope.now) c.args.names.now c.args.all.now c.loop-flag.before.items f (iter_rest (zip_first s)) (iter_rest (zip_second s))
     (either_empty_from_Zip s c.next.new.self c.next.result c.in-None.is c.next.ensures.steps)))
-
-pub returns-then-is_some : goal.returns-then-is_some
-returns-then-is_some c =
-    let k = c.args.check in
-    let S = scope_of c.args.scope.now in
-    let ns = c.args.names.now in
-    let es = c.loop-flag.before.items in
-    let all = c.args.all.now in
-    let f = flag_at c.args.arguments.at_inputs in
-    let b = f c.in-Some-2.flag.now in
-    let d = c.in-Some-2.d.now in
-    let bs = map f (iter_rest (zip_first c.next.new.self)) in
-    let ds = iter_rest (zip_second c.next.new.self) in
-    let z = Zip-more c.loop-flag.flag-iterator c.next.new.self c.next.result (c.in-Some-2.flag, c.in-Some-2.d) c.in-Some-2.is c.next.ensures.steps in
-    sym (c.loop-flag.invariant.4
-    ∙ (λ i. first (flagged_faults k S ns es all (map f (z.0 i)) (z.1 i)))
-    ∙ ap first (faults-first k S ns all es b bs d ds)
-    ∙ first-here (λ e. e.now) (flagged_faults k S ns es all (b ∷ []) (d ∷ []))
-    (flagged_faults k S ns (es ++ patterns_names ns (data_at (b ∷ []) (d ∷ []))) all bs ds)
-    c.in_ok-fault.fault (sym c.is_some.ensures ∙ c.if-is_some.true)
-    (c.in_ok-fault.ensures ∙ (λ i. first (flagged_faults k S ns (c.deref.ensures.value i) all (c.is_pattern-is_pattern.ensures i ∷ []) (d ∷ [])))))
+    ∙ c.loop-flag.invariant.4

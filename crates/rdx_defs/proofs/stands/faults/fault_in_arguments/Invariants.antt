@@ -1,8 +1,9 @@
 use Rattle.std.proofs.Common.{◌≡◌, map}
 use Rattle.std.specs.Iterator.Adapters.{zip_first, zip_second}
+use Rattle.std.specs.Prelude.{option_map}
 use Rattle.std.specs.Slice.Iter.{iter_rest}
-use Rattle.rdx_grammar.specs.Refusal.{first}
 use Rattle.rdx_defs.specs.Arguments.{data_at}
+use Rattle.rdx_defs.specs.Earliest.{start, lesser, earliest}
 use Rattle.rdx_defs.specs.Inside.Branches.{each}
 use Rattle.rdx_defs.specs.Inside.ByNames.{arguments_faults, flagged_faults}
 use Rattle.rdx_defs.specs.Inside.FormViews.{arguments_of, flag_at}
@@ -16,7 +17,8 @@ invariant-loop-flag l =
     × (goal.iterator-loop-flag).is_finite l.flag-iterator
     × CanBind l.names (each (data_at (map (flag_at l.arguments.at_inputs) (iter_rest (zip_first l.flag-iterator))) (iter_rest (zip_second l.flag-iterator))))
     × AreReadable (iter_rest (zip_second l.flag-iterator))
-    × (first (arguments_faults l.check (scope_of l.scope) l.names l.fn.before.items l.all (arguments_of l.fn.arguments))
-    ≡ first
+    × (lesser start (option_map (λ d. d.now) l.place)
+    (earliest start
     (flagged_faults l.check (scope_of l.scope) l.names l.before.items l.all (map (flag_at l.arguments.at_inputs) (iter_rest (zip_first l.flag-iterator)))
     (iter_rest (zip_second l.flag-iterator))))
+    ≡ earliest start (arguments_faults l.check (scope_of l.scope) l.names l.fn.before.items l.all (arguments_of l.fn.arguments)))

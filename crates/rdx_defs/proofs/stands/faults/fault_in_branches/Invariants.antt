@@ -1,5 +1,6 @@
 use Rattle.std.proofs.Common.{◌≡◌, drop, map}
-use Rattle.rdx_grammar.specs.Refusal.{first}
+use Rattle.std.specs.Prelude.{option_map}
+use Rattle.rdx_defs.specs.Earliest.{start, lesser, earliest}
 use Rattle.rdx_defs.specs.Inside.ByNames.{branches_faults}
 use Rattle.rdx_defs.specs.Inside.FormViews.{branch_of}
 use Rattle.rdx_defs.specs.Scope.{scope_of}
@@ -7,5 +8,5 @@ use Rattle.rdx_defs.proofs.stands.faults.fault_in_branches.Given as goal
 
 abbrev pub invariant-loop-branch : goal.invariant-loop-branch
 invariant-loop-branch l =
-    first (branches_faults l.check (scope_of l.scope) l.names (map branch_of l.branches))
-    ≡ first (branches_faults l.check (scope_of l.scope) l.names (map branch_of (drop l.branch-index l.branches)))
+    lesser start (option_map (λ d. d.now) l.fault) (earliest start (branches_faults l.check (scope_of l.scope) l.names (map branch_of (drop l.branch-index l.branches))))
+    ≡ earliest start (branches_faults l.check (scope_of l.scope) l.names (map branch_of l.branches))

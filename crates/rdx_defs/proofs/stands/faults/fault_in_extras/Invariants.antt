@@ -1,5 +1,6 @@
 use Rattle.std.proofs.Common.{◌≡◌, drop}
-use Rattle.rdx_grammar.specs.Refusal.{first}
+use Rattle.std.specs.Prelude.{option_map}
+use Rattle.rdx_defs.specs.Earliest.{start, lesser, earliest}
 use Rattle.rdx_defs.specs.Inside.ByNames.{extras_faults}
 use Rattle.rdx_defs.specs.Inside.FormViews.{place_of}
 use Rattle.rdx_defs.specs.Scope.{scope_of}
@@ -7,5 +8,5 @@ use Rattle.rdx_defs.proofs.stands.faults.fault_in_extras.Given as goal
 
 abbrev pub invariant-loop-d : goal.invariant-loop-d
 invariant-loop-d l =
-    first (extras_faults (place_of l.place) l.check (scope_of l.scope) l.names l.fn.bound.items l.extras)
-    ≡ first (extras_faults (place_of l.place) l.check (scope_of l.scope) l.names l.bound.items (drop l.d-index l.extras))
+    lesser start (option_map (λ d. d.now) l.fault) (earliest start (extras_faults (place_of l.place) l.check (scope_of l.scope) l.names l.bound.items (drop l.d-index l.extras)))
+    ≡ earliest start (extras_faults (place_of l.place) l.check (scope_of l.scope) l.names l.fn.bound.items l.extras)

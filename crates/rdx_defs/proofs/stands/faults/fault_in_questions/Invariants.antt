@@ -1,5 +1,6 @@
 use Rattle.std.proofs.Common.{◌≡◌, drop, map}
-use Rattle.rdx_grammar.specs.Refusal.{first}
+use Rattle.std.specs.Prelude.{option_map}
+use Rattle.rdx_defs.specs.Earliest.{start, lesser, earliest}
 use Rattle.rdx_defs.specs.Inside.ByNames.{questions_faults}
 use Rattle.rdx_defs.specs.Inside.FormViews.{question_of}
 use Rattle.rdx_defs.specs.Scope.{scope_of}
@@ -7,5 +8,5 @@ use Rattle.rdx_defs.proofs.stands.faults.fault_in_questions.Given as goal
 
 abbrev pub invariant-loop-question : goal.invariant-loop-question
 invariant-loop-question l =
-    first (questions_faults l.check (scope_of l.scope) l.names (map question_of l.questions))
-    ≡ first (questions_faults l.check (scope_of l.scope) l.names (map question_of (drop l.question-index l.questions)))
+    lesser start (option_map (λ d. d.now) l.fault) (earliest start (questions_faults l.check (scope_of l.scope) l.names (map question_of (drop l.question-index l.questions))))
+    ≡ earliest start (questions_faults l.check (scope_of l.scope) l.names (map question_of l.questions))

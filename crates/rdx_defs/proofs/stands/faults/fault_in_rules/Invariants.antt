@@ -1,5 +1,6 @@
 use Rattle.std.proofs.Common.{◌≡◌, drop, map}
-use Rattle.rdx_grammar.specs.Refusal.{first}
+use Rattle.std.specs.Prelude.{option_map}
+use Rattle.rdx_defs.specs.Earliest.{start, lesser, earliest}
 use Rattle.rdx_defs.specs.Inside.ByNames.{rules_faults}
 use Rattle.rdx_defs.specs.Inside.FormViews.{rule_branch_of}
 use Rattle.rdx_defs.specs.Scope.{scope_of}
@@ -7,5 +8,5 @@ use Rattle.rdx_defs.proofs.stands.faults.fault_in_rules.Given as goal
 
 abbrev pub invariant-loop-rule : goal.invariant-loop-rule
 invariant-loop-rule l =
-    first (rules_faults l.check (scope_of l.scope) l.names (map rule_branch_of l.rules))
-    ≡ first (rules_faults l.check (scope_of l.scope) l.names (map rule_branch_of (drop l.rule-index l.rules)))
+    lesser start (option_map (λ d. d.now) l.fault) (earliest start (rules_faults l.check (scope_of l.scope) l.names (map rule_branch_of (drop l.rule-index l.rules))))
+    ≡ earliest start (rules_faults l.check (scope_of l.scope) l.names (map rule_branch_of l.rules))

@@ -8,7 +8,8 @@ use Rattle.rdx_grammar.proofs.ShallowData.{depth-at}
 use Rattle.rdx_defs.specs.HostHeads.{quoting, host_head}
 use Rattle.rdx_defs.specs.Scope.{scope_of}
 use Rattle.rdx_defs.specs.TemplateHeads.{evaluating, template_head}
-use Rattle.rdx_defs.proofs.DrivenItems.{max-assoc, or_else-assoc, reach-template, reach-other, reach-host, undriven-template, undriven-other, undriven-host}
+use Rattle.rdx_defs.proofs.DrivenItems.{max-assoc, reach-template, reach-other, reach-host, undriven-template, undriven-other, undriven-host}
+use Rattle.rdx_defs.proofs.EarliestPlaces.{lesser_assoc}
 use Rattle.rdx_defs.proofs.HeadTests.{is_triple-three, is_triple-other}
 use Rattle.rdx_defs.proofs.ItemTests.{parts-behind}
 use Rattle.rdx_defs.proofs.ListsReach.{evaluating-pair, quoting-pair, filled-reach, unfilled-reach, hosted-reach, quoted-reach}
@@ -42,7 +43,7 @@ driving_of_items-loop-i-preserved t c =
           let f : is_pattern (next rs d) ≡ true = cc in
           let k = reach-template S bs rs ds i d h e f in
           let m = undriven-template S bs rs ds i d h e f in
-          (grind (arith, common_steps, k, max-assoc), grind (arith, common_steps, m, or_else-assoc))
+          (grind (arith, common_steps, k, max-assoc), grind (arith, common_steps, m, lesser_assoc))
       | driving_of_items-else-is_pattern w ↦
           let f : is_pattern (next rs d) ≡ false = cc in
           let k = reach-other S bs rs ds i d h e f in
@@ -57,7 +58,7 @@ driving_of_hosts-loop-i-preserved t c =
     let ds = c.args.items.now in
     let k = reach-host S bs ds c.loop-i.i c.index-items-i.result c.loop-i-test.true c.index-items-i.is in
     let m = undriven-host S bs ds c.loop-i.i c.index-items-i.result c.loop-i-test.true c.index-items-i.is in
-    (grind (arith, common_steps, k, max-assoc), grind (arith, common_steps, m, or_else-assoc))
+    (grind (arith, common_steps, k, max-assoc), grind (arith, common_steps, m, lesser_assoc))
 
 -- ---- lists
 

@@ -1,5 +1,5 @@
 use Rattle.std.proofs.Common.{◌∙◌, ap}
-use Rattle.rdx_grammar.specs.Refusal.{first}
+use Rattle.rdx_defs.specs.Earliest.{earliest, start}
 use Rattle.rdx_defs.specs.Inside.PartView.{parts_of}
 use Rattle.rdx_defs.specs.Scope.{scope_of}
 use Rattle.rdx_defs.specs.TemplateChecks.{escapes}
@@ -11,4 +11,4 @@ pub returns : goal.returns
 returns c =
     let found = ap parts_of c.deref.ensures.value ∙ c.in_ok-found.ensures in
     let ps = host_parts (scope_of c.args.scope.now) c.args.bound.now 0 c.args.d.now in
-    c.first_escape.ensures ∙ (ap (λ xs. first (escapes xs)) found ∙ ap first (escapes_unrepeated ps))
+    c.earliest_escape.ensures ∙ (ap (λ xs. earliest start (escapes xs)) found ∙ ap (earliest start) (escapes_unrepeated ps))

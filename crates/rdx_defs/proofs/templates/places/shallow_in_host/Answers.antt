@@ -1,5 +1,5 @@
 use Rattle.std.proofs.Common.{◌∙◌, ap}
-use Rattle.rdx_grammar.specs.Refusal.{first}
+use Rattle.rdx_defs.specs.Earliest.{earliest, start}
 use Rattle.rdx_defs.specs.Inside.PartView.{parts_of}
 use Rattle.rdx_defs.specs.Scope.{scope_of}
 use Rattle.rdx_defs.specs.TemplateChecks.{shallow_parts}
@@ -11,4 +11,4 @@ pub returns : goal.returns
 returns c =
     let found = ap parts_of c.deref.ensures.value ∙ c.in_ok-found.ensures in
     let ps = host_parts (scope_of c.args.scope.now) c.args.bound.now 0 c.args.d.now in
-    c.first_shallow_part.ensures ∙ (ap (λ xs. first (shallow_parts c.args.bound.now xs)) found ∙ ap first (shallow_unrepeated c.args.bound.now ps))
+    c.earliest_shallow_part.ensures ∙ (ap (λ xs. earliest start (shallow_parts c.args.bound.now xs)) found ∙ ap (earliest start) (shallow_unrepeated c.args.bound.now ps))

@@ -1,8 +1,9 @@
 use Rattle.std.proofs.Common.{◌≡◌, ◌∙◌, Option, None, IfOk, sym, ap, subst, arith}
 use Rattle.std.proofs.lemmas.Grind.{common_steps}
 use Rattle.std.specs.Prelude.{option_map}
-use Rattle.rdx_grammar.specs.Refusal.{Refusal, refusal_of, first}
+use Rattle.rdx_grammar.specs.Refusal.{Refusal, refusal_of}
 use Rattle.rdx_grammar.specs.Unbuilt.{unbuilt_at}
+use Rattle.rdx_defs.specs.Earliest.{earliest, start}
 use Rattle.rdx_defs.specs.Inside.PartRefusal.{late_refusal}
 use Rattle.rdx_defs.specs.Inside.PartView.{parts_of, unrepeated}
 use Rattle.rdx_defs.specs.Scope.{scope_of}
@@ -20,9 +21,9 @@ returns c =
     let d = c.args.d.now in
     let ps = host_parts S bs 0 d in
     let built : unbuilt_at d ≡ None = grind (arith, common_steps) in
-    let shaped : first (host_shapes d) ≡ None = sym c.shape_in_host.ensures ∙ ap (option_map (λ x. x.now)) c.in_default.is in
+    let shaped : earliest start (host_shapes d) ≡ None = sym c.shape_in_host.ensures ∙ ap (option_map (λ x. x.now)) c.in_default.is in
     let all = refused-by_parts S bs d (host_shapes d) ps in
-    let late : late_refusal bs (first (undriven_parts S bs ps)) (unrepeated ps) ≡ host_refusal S bs d = cc in
+    let late : late_refusal bs (earliest start (undriven_parts S bs ps)) (unrepeated ps) ≡ host_refusal S bs d = cc in
     let found : parts_of c.deref.result.now ≡ unrepeated ps = ap parts_of c.deref.ensures.value ∙ c.in_ok-found.ensures in
     let e = (λ i. late_refusal bs (c.driving_of_host.ensures.undriven i) (found i)) ∙ late in
     subst (λ (q : Option Refusal). IfOk c.refuse_late.result (λ r. option_map refusal_of r ≡ q)) e c.refuse_late.ensures

@@ -1,0 +1,23 @@
+use Rattle.std.proofs.Common.{◌≡◌, ◌∙◌, ◌+◌, ◌-◌, ◌<◌, ◌∷◌, ℕ, suc, List, length, drop, sym, ap, subst, arith}
+use Rattle.std.proofs.lemmas.Grind.{common_steps}
+use Rattle.rdx_lang.proofs.Rest.{rest_at}
+use Rattle.rdx_defs.specs.Inside.Arrows.{FindsPlaces}
+use Rattle.rdx_defs.specs.Inside.ShortcutViews.{shortcut_of, shortcuts_in}
+use Rattle.rdx_defs.specs.Shorthand.{Shortcut}
+use Rattle.rdx_defs.proofs.ArrowPlaces.{places-next}
+use Rattle.rdx_defs.proofs.shorthand.arrows.Arrows.new.Goals as goal
+
+pub loop-place-preserved : goal.loop-place-preserved
+loop-place-preserved c =
+    let ss = c.args.shortcuts.items in
+    let j : ℕ = c.loop-place.place in
+    let i : ℕ = j - 1 in
+    let n : suc i ≡ j = omega arith in
+    let k : i + 1 ≡ j = omega arith in
+    let l : i < length ss = grind (arith, common_steps) in
+    let e : shortcuts_in (drop i ss) ≡ shortcut_of c.index.result.now ∷ shortcuts_in (drop j ss) =
+    rest_at shortcut_of ss i c.index.result.now l c.index.ensures
+    ∙ ap (λ m. shortcut_of c.index.result.now ∷ shortcuts_in (drop m ss)) k in
+    subst (λ (zs : List Shortcut). FindsPlaces c.insert.new.self i zs) (sym e)
+    (places-next i j c.text.result (shortcut_of c.index.result.now) (shortcuts_in (drop j ss)) c.loop-place.places c.insert.new.self n c.text.ensures
+    c.in_ok-insert.ensures.updates c.loop-place.invariant)

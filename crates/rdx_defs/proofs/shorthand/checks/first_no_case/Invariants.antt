@@ -1,0 +1,7 @@
+use Rattle.std.proofs.Common.{◌≡◌, drop}
+use Rattle.rdx_grammar.specs.Refusal.{first}
+use Rattle.rdx_defs.specs.Expansion.{no_cases}
+use Rattle.rdx_defs.proofs.shorthand.checks.first_no_case.Given as goal
+
+abbrev pub invariant-loop-d : goal.invariant-loop-d
+invariant-loop-d l = first (no_cases l.cases) ≡ first (no_cases (drop l.d-index l.cases))
