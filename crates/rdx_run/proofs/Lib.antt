@@ -1,0 +1,4 @@
+pub mod Taken
+pub mod OneEnd
+pub mod Leading
+pub mod Turning

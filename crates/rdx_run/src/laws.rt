@@ -1,0 +1,10 @@
+//! Laws of walks and runs: functions that do nothing, whose contracts are the laws.
+ghost use Rattle.rdx_run.specs.Laws.{OneRun, OneWalk};
+
+/// A relation has one walk at most from a term by given choices, and the run from a term one end.
+pub fn one_walk()
+    ensures walk { OneWalk }
+    ensures run { OneRun }
+{
+    rdx_reduce::laws::one_stepping();
+}
