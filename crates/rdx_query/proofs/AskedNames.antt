@@ -7,8 +7,6 @@ use Rattle.rdx_lang.proofs.FreeWithCrosses.{known_crosses_free}
 use Rattle.rdx_lang.proofs.KnownCrosses.{KnowsAll, crosses_known}
 use Rattle.rdx_lang.proofs.MemberLaws.{in-append}
 use Rattle.rdx_lang.specs.Edges.{IsFree}
-use Rattle.rdx_lang.specs.Members.{In}
-use Rattle.rdx_lang.specs.Patterns.{Language}
 use Rattle.rdx_lang.specs.Programs.{Judgement, Mode, Program, judgement_among, judgement_named}
 use Rattle.rdx_grammar.specs.Nonterminals.{names_of}
 use Rattle.rdx_defs.specs.Scope.{mode_among, mode_of}

@@ -11,7 +11,7 @@ use Rattle.rdx_lang.specs.Patterns.{Language}
 use Rattle.rdx_lang.specs.Programs.{Program, Relation, language_among}
 use Rattle.rdx_lang.specs.References.{is_among}
 use Rattle.rdx_lang.specs.WellFormed.{defined}
-use Rattle.rdx_lang.specs.declared.pattern.Ref.TheVariants.{Nt, Cross}
+use Rattle.rdx_lang.specs.declared.pattern.Ref.TheVariants.{Nt}
 use Rattle.rdx_defs.specs.Scope.{Scope}
 use Rattle.rdx_grammar.specs.Kinds as kinds
 use Rattle.rdx_grammar.specs.Nonterminals.{names_of}

@@ -33,7 +33,7 @@ use Rattle.rdx_query.specs.LanguageForms.{named_base, unknown_at}
 use Rattle.rdx_query.specs.Inside.Defining.{JudgementsBy, taken_at_item}
 use Rattle.rdx_query.specs.Inside.Earlier.{earlier, IsRefusedBy, IsUnless}
 use Rattle.rdx_query.specs.Inside.PartViews.{language_item, may_name_item, second_among}
-use Rattle.rdx_query.proofs.CheckNumbers.{Checks, AreChecks, refused, merged, or_none, unnamed-number}
+use Rattle.rdx_query.proofs.CheckNumbers.{Checks, AreChecks, merged, or_none, unnamed-number}
 use Rattle.rdx_query.proofs.LanguageChecks.{unbuilt-number, unknown-number, item-number, taken-same}
 use Rattle.rdx_query.proofs.StandNumbers.{stand_checks, stand-checks}
 

@@ -30,6 +30,7 @@ pub mod EndsAsked
 pub mod KnownLanguages
 pub mod FittingKnown
 pub mod FileRead
+pub mod WrittenBehind
 pub mod FormSteps
 pub mod PrintedExamples
 pub mod Examples

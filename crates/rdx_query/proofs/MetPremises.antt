@@ -1,5 +1,5 @@
 -- Premises by themselves, as the engine answers them, and what a template makes of the bindings that meet them.
-use Rattle.std.proofs.Common.{◌≡◌, ◌⊎◌, inl, inr, ℕ, Bool, List, [], ◌∷◌, ◌++◌, Option, Some, None, refl, sym, ◌∙◌, ap, subst}
+use Rattle.std.proofs.Common.{◌≡◌, ◌⊎◌, inl, inr, ℕ, Bool, List, [], ◌∷◌, ◌++◌, Option, Some, None, refl, sym, subst}
 use Rattle.std.specs.Prelude.{◌↔◌}
 use Rattle.std.specs.BTreeSet.{insert_key}
 use Rattle.rdx_term.proofs.OrderLaws.{tree_cmp-equal}
@@ -19,7 +19,7 @@ use Rattle.rdx_eval.specs.Answers.{Answer, value, fault, Fault, Then, stops, goe
 use Rattle.rdx_eval.specs.Extending.{MeetsOver}
 use Rattle.rdx_eval.specs.Heights.{calls_at, height}
 use Rattle.rdx_eval.proofs.Gathered.{Gathers, gathers-start, gathers-next, gathers-fault, gathers-end}
-use Rattle.rdx_query.specs.HoldsAnswers.{FindsMet, ValuesOf, values_of, no_bindings, Values, WritesValues, IsValuesAnswer}
+use Rattle.rdx_query.specs.HoldsAnswers.{FindsMet, values_of, no_bindings, Values, WritesValues, IsValuesAnswer}
 
 -- ---- premises
 

@@ -1,5 +1,5 @@
 -- The worked examples of values that are printed hold.
-use Rattle.std.proofs.Common.{◌≡◌, ℕ, [], ◌++◌, refl, sym, codes, arith}
+use Rattle.std.proofs.Common.{◌≡◌, [], ◌++◌, refl, sym, codes, arith}
 use Rattle.std.specs.Prelude.{decimal}
 use Rattle.std.proofs.lemmas.Fmt.{decimal_digit}
 use Rattle.rdx_query.specs.Examples.{OwnHole, OneHole, NoOwnHole, NestedSequences, OwnHoleInSequence, LengthInDecimal}

@@ -1,5 +1,5 @@
 -- Answers that are tried.
-use Rattle.std.proofs.Common.{◌≡◌, ℕ, Bool, false, List, Option, Some, refl, sym, subst}
+use Rattle.std.proofs.Common.{◌≡◌, ℕ, Bool, false, List, Some, refl, sym, subst}
 use Rattle.std.specs.Prelude.{Result, Ok, Err, IsErrAnd}
 use Rattle.rdx_term.specs.Tree.{Tree}
 use Rattle.rdx_lang.specs.Programs.{Program}

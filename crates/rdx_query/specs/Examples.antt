@@ -6,7 +6,7 @@ use Rattle.rdx_term.specs.Tree as tree
 use Rattle.rdx_term.specs.Tree.{Tree}
 use Rattle.rdx_lang.specs.Bindings.{Value, one, many, len, values}
 use Rattle.rdx_grammar.specs.Refusal.{unnamed, named, named_at}
-use Rattle.rdx_grammar.specs.declared.shape.fault.DefKind.TheVariants.{Unbuilt, Shape, RacketEscape, UnknownLanguage, Duplicate, LeftRecursive}
+use Rattle.rdx_grammar.specs.declared.shape.fault.DefKind.TheVariants.{Shape, RacketEscape, UnknownLanguage, Duplicate, LeftRecursive}
 use Rattle.rdx_query.specs.AnswerText.{value_text, pair_text}
 use Rattle.rdx_query.specs.Answering.{Writes}
 use Rattle.rdx_query.specs.File.{IsFileRefusal}

@@ -1,6 +1,6 @@
 -- Forms that ask whether a premise is met, `(judgment-holds (J d ...))`, or what a template makes of the bindings that meet it,
 -- `(judgment-holds (J d ...) t)`: when they are refused, and what they ask else. The patterns of the premise are in the language of its judgement.
-use Rattle.std.specs.Prelude.{ℕ, List, [], ◌∷◌, ◌++◌, Option, Some, None, option_map}
+use Rattle.std.specs.Prelude.{ℕ, List, [], ◌∷◌, Option, Some, None, option_map}
 use Rattle.rdx_sexp.specs.Sexp.{Sexp}
 use Rattle.rdx_lang.specs.Patterns.{Language}
 use Rattle.rdx_lang.specs.Programs.{language_named}

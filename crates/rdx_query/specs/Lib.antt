@@ -22,6 +22,7 @@ pub mod MatchAnswers
 pub mod HoldsAnswers
 pub mod StepAnswers
 pub mod Answering
+pub mod Workload
 pub mod Views
 pub mod Laws
 pub mod Examples

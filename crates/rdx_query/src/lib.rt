@@ -34,6 +34,8 @@ mod step_forms;
 #[cfg(test)]
 mod tests;
 mod texts;
+mod workload;
 
 pub use answers::{Answered, answer};
 pub use file::{CheckedFile, Query, check_file};
+pub use workload::workload_text;

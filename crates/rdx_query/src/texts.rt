@@ -31,7 +31,7 @@ use std::alloc::Global;
 use std::rc::RcStr;
 
 // A number in decimal.
-fn write_number(number: usize, out: &mut Vec<u8>) -> Result<(), NoMemory>
+pub(crate) fn write_number(number: usize, out: &mut Vec<u8>) -> Result<(), NoMemory>
     ensures { OnOk result (out.new.items ≡ out.old.items ++ decimal number) }
 {
     let mut buffer = Buffer::new();

@@ -11,7 +11,7 @@ use Rattle.rdx_lang.specs.Programs as programs
 use Rattle.rdx_lang.specs.TemplateView.{host_of}
 use Rattle.rdx_lang.specs.Templates.{Host}
 use Rattle.rdx_lang.specs.declared.program.Program.{Program}
-use Rattle.rdx_eval.specs.Answers.{value, fault}
+use Rattle.rdx_eval.specs.Answers.{value}
 use Rattle.rdx_eval.specs.Heights.{calls_at, height}
 use Rattle.rdx_eval.specs.Instantiation.{HostMakes}
 use Rattle.rdx_eval.specs.Views.{Says, program_in}

@@ -2,7 +2,7 @@ use Rattle.std.proofs.Common.{◌≡◌, ◌++◌, ◌∙◌, ℕ, List, append_
 use Rattle.std.proofs.lemmas.Result.{on_ok_weaker}
 use Rattle.rdx_term.specs.Text.{tree_text}
 use Rattle.rdx_term.specs.Tree.{Trees}
-use Rattle.rdx_term.specs.View.{tree_of, trees_of}
+use Rattle.rdx_term.specs.View.{tree_of}
 use Rattle.rdx_query.specs.AnswerText.{call_text, items_of}
 use Rattle.rdx_query.proofs.texts.write_ambiguous.Goals as goal
 
