@@ -1,9 +1,8 @@
--- The workload: a file that evaluates sums under a function, call by value, as many times as one likes (the language, the substitution and the rules
--- are those of Felleisen, Findler and Flatt, "Semantics Engineering with PLT Redex", 2009, for a small part of ISWIM).
+-- The workload: a file of this project's own, which adds up three numbers through a function and two sums, call by value, as many times as one likes.
 use Rattle.std.specs.Prelude.{ℕ, zero, suc, ◌+◌, ◌*◌, ◌%◌, List, [], ◌++◌, codes, decimal}
 use Rattle.std.specs.Str.{encode_utf8_all}
 
--- its language, its substitution, which is of values and so catches no name, and its relation
+-- its language, its substitution, which may catch names that are free in what is put in (the tests put in numbers alone), and its relation
 abbrev pub definitions : List ℕ
 definitions =
     encode_utf8_all (codes "(define-language W (e (e e) (+ e e) x v) (v number (λ (x) e))\n")
