@@ -17,7 +17,7 @@ pub none-lead : (u : Tree) → AllLead u []
 none-lead u s i = elim i [ ]
 
 -- one more leads there too
-lead-more : (u : Tree) (s : model.Step) (ss : List model.Step) → s.reduct ≡ u → AllLead u ss → AllLead u (s ∷ ss)
+pub lead-more : (u : Tree) (s : model.Step) (ss : List model.Step) → s.reduct ≡ u → AllLead u ss → AllLead u (s ∷ ss)
 lead-more u s ss e h v (here f) = ap (λ (x : model.Step). x.reduct) f ∙ e
 lead-more u s ss e h v (there i) = h v i
 

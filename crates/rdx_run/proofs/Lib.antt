@@ -1,4 +1,5 @@
 pub mod Taken
 pub mod OneEnd
 pub mod Leading
+pub mod SomeEnd
 pub mod Turning
