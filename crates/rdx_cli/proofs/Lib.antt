@@ -1,5 +1,7 @@
 pub mod Pieces
-pub mod OneWord
+pub mod Numbers
+pub mod Lines
+pub mod Rows
 pub mod OneText
 pub mod SomeText
 pub mod WorkedExamples

@@ -1,16 +1,17 @@
 -- A file has one transcript.
-use Rattle.std.proofs.Common.{◌≡◌, ℕ, List, ap, sym, ◌∙◌, subst, arith}
+use Rattle.std.proofs.Common.{◌≡◌, ℕ, List, [], ◌++◌, ap, sym, ◌∙◌, subst, codes, decimal, arith}
 use Rattle.rdx_grammar.specs.Refusal.{Refusal}
 use Rattle.rdx_query.specs.Answering.{Writes}
 use Rattle.rdx_query.specs.File.{IsFileRefusal}
+use Rattle.rdx_query.specs.Workload as file
 use Rattle.rdx_query.specs.Laws.{OneText, OneRefusal, NeverBothTextAndRefusal}
 use Rattle.rdx_sexp.specs.Laws.{OneReading, OneFault, DataOrFault}
 use Rattle.rdx_sexp.specs.Sexp.{Sexp}
 use Rattle.rdx_cli.specs.Refusals.{read_line, form_line}
-use Rattle.rdx_cli.specs.Transcript.{AreData, IsUnread, too_long, at_fault, RunWrites, unread, refused, answered, verdict_of, IsTranscript}
+use Rattle.rdx_cli.specs.Transcript.{AreData, IsUnread, too_long, at_fault, verdict_of}
+use Rattle.rdx_cli.specs.Transcript.{RunWrites, unread, refused, answered, last_line, WorkloadWrites, IsTranscript}
 use Rattle.rdx_cli.specs.declared.transcript.Verdict.{Verdict}
-use Rattle.rdx_cli.specs.declared.words.Mode.{Mode}
-use Rattle.rdx_cli.specs.declared.words.Mode.TheVariants.{Run}
+use Rattle.rdx_cli.specs.Words.{Row, run, step, workload}
 
 module _ (one_reading : OneReading) (one_fault : OneFault) (data_or_fault : DataOrFault) (one_text : OneText) (one_refusal : OneRefusal) (never_both : NeverBothTextAndRefusal) where
   -- ---- files
@@ -31,33 +32,41 @@ module _ (one_reading : OneReading) (one_fault : OneFault) (data_or_fault : Data
   not_data bytes t ds (too_long h e) a = let k = a.limit in omega (arith, h, k)
   not_data bytes t ds (at_fault h r f e) a = data_or_fault bytes ds r a.read f
 
-  -- ---- what `run` writes
+  -- ---- what is written by one list of choices
 
   -- data with a form that is refused have one line
   one_form_line : (ds : List Sexp) (t u : List ℕ) (r q : Refusal) → IsFileRefusal ds r → IsFileRefusal ds q → t ≡ form_line r → u ≡ form_line q → t ≡ u
   one_form_line ds t u r q a b e g = e ∙ ap form_line (one_refusal ds r q a b) ∙ sym g
 
-  run_writes_once : (bytes t u : List ℕ) (v w : Verdict) → RunWrites bytes t v → RunWrites bytes u w → (t ≡ u) × (v ≡ w)
-  run_writes_once bytes t u v w (unread a e) (unread b g) = (one_line bytes t u a b, e ∙ sym g)
-  run_writes_once bytes t u v w (unread a e) (refused ds r b n m g) = absurd (not_data bytes t ds a b)
-  run_writes_once bytes t u v w (unread a e) (answered ds m b n g) = absurd (not_data bytes t ds a b)
-  run_writes_once bytes t u v w (refused ds r a n m e) (unread b g) = absurd (not_data bytes u ds b a)
-  run_writes_once bytes t u v w (refused ds r a n m e) (refused es q b k l g) =
+  run_writes_once : (cs bytes t u : List ℕ) (v w : Verdict) → RunWrites cs bytes t v → RunWrites cs bytes u w → (t ≡ u) × (v ≡ w)
+  run_writes_once cs bytes t u v w (unread a e) (unread b g) = (one_line bytes t u a b, e ∙ sym g)
+  run_writes_once cs bytes t u v w (unread a e) (refused ds r b n m g) = absurd (not_data bytes t ds a b)
+  run_writes_once cs bytes t u v w (unread a e) (answered ds m b n g) = absurd (not_data bytes t ds a b)
+  run_writes_once cs bytes t u v w (refused ds r a n m e) (unread b g) = absurd (not_data bytes u ds b a)
+  run_writes_once cs bytes t u v w (refused ds r a n m e) (refused es q b k l g) =
       let d : es ≡ ds = same_data bytes es ds b a in
       (one_form_line ds t u r q n (subst (λ (xs : List Sexp). IsFileRefusal xs q) d k) m l, e ∙ sym g)
-  run_writes_once bytes t u v w (refused ds r a n m e) (answered es p b k g) =
+  run_writes_once cs bytes t u v w (refused ds r a n m e) (answered es p b k g) =
       let d : es ≡ ds = same_data bytes es ds b a in
-      absurd (never_both ds u p r (subst (λ (xs : List Sexp). Writes xs u p) d k) n)
-  run_writes_once bytes t u v w (answered ds m a n e) (unread b g) = absurd (not_data bytes u ds b a)
-  run_writes_once bytes t u v w (answered ds m a n e) (refused es q b k l g) =
+      absurd (never_both ds cs u p r (subst (λ (xs : List Sexp). Writes xs cs u p) d k) n)
+  run_writes_once cs bytes t u v w (answered ds m a n e) (unread b g) = absurd (not_data bytes u ds b a)
+  run_writes_once cs bytes t u v w (answered ds m a n e) (refused es q b k l g) =
       let d : es ≡ ds = same_data bytes es ds b a in
-      absurd (never_both ds t m q n (subst (λ (xs : List Sexp). IsFileRefusal xs q) d k))
-  run_writes_once bytes t u v w (answered ds m a n e) (answered es p b k g) =
+      absurd (never_both ds cs t m q n (subst (λ (xs : List Sexp). IsFileRefusal xs q) d k))
+  run_writes_once cs bytes t u v w (answered ds m a n e) (answered es p b k g) =
       let d : es ≡ ds = same_data bytes es ds b a in
-      let same = one_text ds t u m p n (subst (λ (xs : List Sexp). Writes xs u p) d k) in
+      let same = one_text ds cs t u m p n (subst (λ (xs : List Sexp). Writes xs cs u p) d k) in
       (same.0, e ∙ ap verdict_of same.1 ∙ sym g)
+
+  -- the workload has one file, and its text depends on what is written for that alone
+  workload_writes_once : (n : ℕ) (t u : List ℕ) (v w : Verdict) → WorkloadWrites n t v → WorkloadWrites n u w → (t ≡ u) × (v ≡ w)
+  workload_writes_once n t u v w a b =
+      let same = run_writes_once [] (file.workload n) a.whole b.whole v w a.written b.written in
+      (a.printed ∙ ap (λ (whole : List ℕ). codes "workload " ++ decimal n ++ codes "\n" ++ last_line whole) same.0 ∙ sym b.printed, same.1)
 
   -- ---- row by row of the table of words
 
-  pub one_transcript : (mode : Mode) (bytes t u : List ℕ) (v w : Verdict) → IsTranscript mode bytes t v → IsTranscript mode bytes u w → (t ≡ u) × (v ≡ w)
-  one_transcript Run bytes t u v w a b = run_writes_once bytes t u v w a b
+  pub one_transcript : (row : Row) (bytes t u : List ℕ) (v w : Verdict) → IsTranscript row bytes t v → IsTranscript row bytes u w → (t ≡ u) × (v ≡ w)
+  one_transcript run bytes t u v w a b = run_writes_once [] bytes t u v w a b
+  one_transcript (step cs) bytes t u v w a b = run_writes_once cs bytes t u v w a b
+  one_transcript (workload n) bytes t u v w a b = workload_writes_once n t u v w a b

@@ -1,11 +1,10 @@
 -- How a run ends.
-use Rattle.std.specs.Prelude.{◌≡◌, ℕ, List}
+use Rattle.std.specs.Prelude.{◌≡◌, ℕ, List, []}
 use Rattle.std.specs.declared.option.Option.{Option}
 use Rattle.rdx_base.specs.Putting.{Gains, GainsPrefix}
 use Rattle.rdx_cli.specs.Reading.{IsRead}
-use Rattle.rdx_cli.specs.Words.{ReadsAs}
+use Rattle.rdx_cli.specs.Words.{Row, run, step, workload, ReadsAs}
 use Rattle.rdx_cli.specs.Transcript.{IsTranscript}
-use Rattle.rdx_cli.specs.declared.words.Mode.{Mode}
 use Rattle.rdx_cli.specs.declared.transcript.Verdict.{Verdict}
 use Rattle.rdx_cli.specs.declared.transcript.Verdict.TheVariants as verdict
 use Rattle.rdx_cli.specs.declared.top.Status.{Status}
@@ -51,13 +50,19 @@ IsSilent NoMemory = Unit {0}
 
 -- ---- what was written
 
--- the words have a row, a file was read, and this is what that row writes for it, with the verdict
+-- the bytes are those that the row asks the source for: a file, or none for the workload, which leaves the source as it is
+abbrev pub Takes : Row → Option (List ℕ) → Option (List ℕ) → List ℕ → Type 0
+Takes run left rest bytes = IsRead left rest bytes
+Takes (step cs) left rest bytes = IsRead left rest bytes
+Takes (workload n) left rest bytes = (rest ≡ left) × (bytes ≡ [])
+
+-- the words have a row, a file was read where that asks for one, and this is what the row writes for it, with the verdict
 pub record Transcribes (words : List (List ℕ)) (left rest : Option (List ℕ)) (text : List ℕ) (verdict : Verdict) : Type 0 where
-  pub mode : Mode
+  pub row : Row
   pub bytes : List ℕ
-  pub row : ReadsAs words mode
-  pub read : IsRead left rest bytes
-  pub transcript : IsTranscript mode bytes text verdict
+  pub words_are : ReadsAs words row
+  pub taken : Takes row left rest bytes
+  pub transcript : IsTranscript row bytes text verdict
 
 -- the whole transcript of the file was written, and the status is that of its verdict
 pub record WroteWhole (words : List (List ℕ)) (left rest before after : Option (List ℕ)) (status : Status) : Type 0 where

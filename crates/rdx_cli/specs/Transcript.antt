@@ -1,16 +1,16 @@
 -- What is written for a file, and the verdict on it.
-use Rattle.std.specs.Prelude.{◌≡◌, ℕ, ◌<◌, ◌≤◌, Bool, true, false, List, length, codes}
+use Rattle.std.specs.Prelude.{◌≡◌, ℕ, ◌<◌, ◌≤◌, Bool, true, false, not, ◌&&◌, nat_eq, List, [], ◌∷◌, ◌++◌, length, codes, decimal, if◌then◌else◌}
 use Rattle.rdx_sexp.specs.Reads.{Reads, FirstFault}
 use Rattle.rdx_sexp.specs.Sexp.{Sexp}
 use Rattle.rdx_sexp.specs.declared.fault.ReadRefusal.{ReadRefusal}
 use Rattle.rdx_grammar.specs.Refusal.{Refusal}
 use Rattle.rdx_query.specs.Answering.{Writes}
 use Rattle.rdx_query.specs.File.{IsFileRefusal}
+use Rattle.rdx_query.specs.Workload as file
 use Rattle.rdx_cli.specs.Refusals.{read_line, form_line}
 use Rattle.rdx_cli.specs.declared.transcript.Verdict.{Verdict}
 use Rattle.rdx_cli.specs.declared.transcript.Verdict.TheVariants.{Done, Unmet, Refused}
-use Rattle.rdx_cli.specs.declared.words.Mode.{Mode}
-use Rattle.rdx_cli.specs.declared.words.Mode.TheVariants.{Run}
+use Rattle.rdx_cli.specs.Words.{Row, run, step, workload}
 
 -- the file is not too long, and its bytes are these data
 pub record AreData (bytes : List ℕ) (ds : List Sexp) : Type 0 where
@@ -27,13 +27,32 @@ abbrev pub verdict_of : Bool → Verdict
 verdict_of true = Done
 verdict_of false = Unmet
 
--- What the word `run` asks for. A file that is no data has the line that says so. One that is data with a form that is refused has the line
--- of its first such form. For every other file the answers to its queries are written.
-pub data RunWrites (bytes text : List ℕ) (verdict : Verdict) : Type 0 where
-  unread : IsUnread bytes text → verdict ≡ Refused → RunWrites bytes text verdict
-  refused : (ds : List Sexp) (r : Refusal) → AreData bytes ds → IsFileRefusal ds r → text ≡ form_line r → verdict ≡ Refused → RunWrites bytes text verdict
-  answered : (ds : List Sexp) (met : Bool) → AreData bytes ds → Writes ds text met → verdict ≡ verdict_of met → RunWrites bytes text verdict
+-- What is written for a file that is run, where walks go by these choices. A file that is no data has the line that says so. One that is data with a
+-- form that is refused has the line of its first such form. For every other file the answers to its queries are written.
+pub data RunWrites (cs bytes text : List ℕ) (verdict : Verdict) : Type 0 where
+  unread : IsUnread bytes text → verdict ≡ Refused → RunWrites cs bytes text verdict
+  refused : (ds : List Sexp) (r : Refusal) → AreData bytes ds → IsFileRefusal ds r → text ≡ form_line r → verdict ≡ Refused → RunWrites cs bytes text verdict
+  answered : (ds : List Sexp) (met : Bool) → AreData bytes ds → Writes ds cs text met → verdict ≡ verdict_of met → RunWrites cs bytes text verdict
 
--- the text that is written for a file and the verdict on it, row by row of the table of words
-abbrev pub IsTranscript : Mode → List ℕ → List ℕ → Verdict → Type 0
-IsTranscript Run bytes text verdict = RunWrites bytes text verdict
+-- no line ends in it but where it ends itself
+abbrev pub is_line : List ℕ → Bool
+is_line [] = true
+is_line (b ∷ []) = true
+is_line (b ∷ c ∷ bs) = not (nat_eq b 10) && is_line (c ∷ bs)
+
+-- the last line of a text, with the line end behind it
+abbrev pub last_line : List ℕ → List ℕ
+last_line [] = []
+last_line (b ∷ bs) = if is_line (b ∷ bs) then b ∷ bs else last_line bs
+
+-- What is written for the workload with n tests: how many there are, and the last line of what is written for its file, which counts them.
+pub record WorkloadWrites (n : ℕ) (text : List ℕ) (verdict : Verdict) : Type 0 where
+  pub whole : List ℕ
+  pub written : RunWrites [] (file.workload n) whole verdict
+  pub printed : text ≡ codes "workload " ++ decimal n ++ codes "\n" ++ last_line whole
+
+-- the text that is written for a file and the verdict on it, row by row of the table of words; the workload has a file of its own
+abbrev pub IsTranscript : Row → List ℕ → List ℕ → Verdict → Type 0
+IsTranscript run bytes text verdict = RunWrites [] bytes text verdict
+IsTranscript (step cs) bytes text verdict = RunWrites cs bytes text verdict
+IsTranscript (workload n) bytes text verdict = WorkloadWrites n text verdict

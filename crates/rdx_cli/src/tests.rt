@@ -3,7 +3,7 @@
 use crate::top::{Status, run};
 use crate::writing::write_text;
 use crate::{status_without_words, words_of};
-use rdx_base::{MemSink, MemSource, SteadySource};
+use rdx_base::{MemSink, MemSource, Source, SteadySource, Taken};
 use rdx_delta::{
     HostEntry, HostTable, host_add, host_add1, host_eq, host_equal, host_ge, host_gt, host_is_zero,
     host_le, host_lt, host_mul, host_not, host_quotient, host_remainder, host_sub, host_sub1,
@@ -73,6 +73,15 @@ fn failing_calls(alloc: Global, plan: Plan) -> Result<Vec<usize>, AllocError> {
     Ok(calls)
 }
 
+// These words, as the program is given them.
+fn words_in(alloc: Global, words: &[&str]) -> Result<Vec<String>, AllocError> {
+    let mut owned = Vec::new(alloc);
+    for word in words {
+        owned.push(String::from_str(alloc, word)?)?;
+    }
+    Ok(owned)
+}
+
 // A run over these words and bytes ends so, and writes this.
 fn run_on<R: Abort + AllocGlobal>(
     rt: &R,
@@ -83,10 +92,7 @@ fn run_on<R: Abort + AllocGlobal>(
     (status, text): (Status, &[u8]),
 ) -> Result<(), Fail> {
     let alloc = rt.alloc();
-    let mut owned = Vec::new(alloc);
-    for word in words {
-        owned.push(String::from_str(alloc, word)?)?;
-    }
+    let owned = words_in(alloc, words)?;
     assert!(rt; takes.piece > 0 && puts.piece > 0);
     let mut source = MemSource::new(
         bytes.to_vec(alloc)?,
@@ -314,7 +320,7 @@ fn files_have_their_transcripts(rt: HostRuntime) -> Result<(), Fail> {
 #[test]
 fn a_longer_file_is_refused(rt: HostRuntime) -> Result<(), Fail> {
     let alloc = rt.alloc();
-    let words = vec![in alloc; String::from_str(alloc, "run")?]?;
+    let words = words_in(alloc, &["run"])?;
     let table = host_table(&rt)?;
     let rows = [
         (1_048_576, Status::Done, b"".as_slice()),
@@ -376,15 +382,75 @@ fn deep_files_fit_the_stack(rt: HostRuntime) -> Result<(), Fail> {
     Ok(())
 }
 
+// ---- the other rows of the table
+
+const STEPS: &str = "(define-language L (n number))\n\
+     (define r (reduction-relation L (--> n ,(add1 (term n)) up))) (stepper r (term 0))";
+
+// Each choice is that of one step, of which there is one from each number.
+const STEPPED: [(&[&str], Status, &str); 5] = [
+    (&["run"], Status::Done, "step 0 0\n  1 up 1\n"),
+    (&["step"], Status::Done, "step 0 0\n  1 up 1\n"),
+    (
+        &["step", "1"],
+        Status::Done,
+        "step 0 0\n  1 up 1\nstep 1 1\n  1 up 2\n",
+    ),
+    (
+        &["step", "1", "0"],
+        Status::Unmet,
+        "step 0 0\n  1 up 1\nstep 1 1\n  1 up 2\nfault NoSuchReduct 0 of 1\n",
+    ),
+    (
+        &["step", "999999999"],
+        Status::Unmet,
+        "step 0 0\n  1 up 1\nfault NoSuchReduct 999999999 of 1\n",
+    ),
+];
+
+#[test]
+fn walks_go_by_the_choices(rt: HostRuntime) -> Result<(), Fail> {
+    for (words, status, text) in STEPPED {
+        let wanted = (status, text.as_bytes());
+        run_on(&rt, words, STEPS.as_bytes(), STEADY, STEADY, wanted)?;
+    }
+    Ok(())
+}
+
+// The first call of the source fails, and is still to come behind the run.
+#[test]
+fn the_workload_takes_nothing(rt: HostRuntime) -> Result<(), Fail> {
+    let alloc = rt.alloc();
+    let words = words_in(alloc, &["workload", "3"])?;
+    let mut source = MemSource::new(b"(a)".to_vec(alloc)?, 1, failing_calls(alloc, BROKEN)?);
+    let mut sink = MemSink::new(10_000, Vec::new(alloc));
+    let table = host_table(&rt)?;
+    let ended = run(alloc, &words, &mut source, &mut sink, &table);
+    let text = b"workload 3\ntests 3 passed 3 failed 0\n".as_slice();
+    assert_eq!(rt; ended, Status::Done);
+    assert_eq!(rt; sink.written(), text);
+    assert_eq!(rt; source.take(&mut [0u8]), Taken::Failed);
+    Ok(())
+}
+
 // ---- calls of the source and the sink
 
-const UNFIT: [&[&str]; 6] = [
+const UNFIT: [&[&str]; 15] = [
     &[],
     &[""],
     &["trace"],
     &["run", "run"],
+    &["run", "1"],
     &["step", "01"],
+    &["step", "-1"],
+    &["step", "+1"],
+    &["step", "1", "x"],
+    &["step", "1234567890"],
+    &["workload"],
     &["workload", "0"],
+    &["workload", "2001"],
+    &["workload", "01"],
+    &["workload", "1", "2"],
 ];
 
 #[test]

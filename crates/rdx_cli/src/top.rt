@@ -1,13 +1,14 @@
 // The top call: a file is read, and its transcript is written.
-ghost use Rattle.std.specs.Prelude.{◌≡◌, ◌≢◌, ◌⊎◌, ◌↔◌};
+ghost use Rattle.std.specs.Prelude.{◌≡◌, ◌≤◌, ◌⊎◌, ◌↔◌, IfOk, IsErrOf};
 ghost use Rattle.rdx_base.specs.Faults.{Rose};
 ghost use Rattle.rdx_cli.specs.Reading.{LosesFront};
-ghost use Rattle.rdx_cli.specs.Words.{FitsNoRow, texts};
+ghost use Rattle.rdx_cli.specs.Words.{AsksWorkload, FitsNoRow, texts};
+ghost use Rattle.rdx_cli.specs.Inside.Rows.{IsWorkload, TakenBy};
 ghost use Rattle.rdx_cli.specs.Ends.{WroteWhole, WrotePrefix, IsFinished, IsSilent, code_of, status_of};
 
 use crate::reading::{ReadFailure, read_file};
 use crate::transcript::{Verdict, transcript_of};
-use crate::words::mode_of;
+use crate::words::{Row, row_of};
 use crate::writing::write_text;
 use rdx_base::{Sink, Source};
 use rdx_delta::HostTable;
@@ -50,11 +51,13 @@ pub fn run<S: Source, K: Sink>(
     sink: &mut K,
     host: &HostTable,
 ) -> Status
-    // The words decide about the usage, and then nothing is read.
+    // The words decide about the usage, and then nothing is read; nor is it for the workload.
     ensures usage { (result ≡ Status.Usage) ↔ FitsNoRow (texts words.now) }
     ensures untaken { result ≡ Status.Usage → source.new ≡ source.old }
+    ensures unread { AsksWorkload (texts words.now) → source.new ≡ source.old }
 
-    // What was read has this transcript, and all of it was written, or a front where a put failed.
+    // What the words ask for has this transcript, and all of it was written, or a front where a
+    // put failed.
     ensures whole { IsFinished result
         → WroteWhole (texts words.now) (S.left source.old) (S.left source.new)
         (K.written sink.old) (K.written sink.new) result }
@@ -74,15 +77,15 @@ pub fn run<S: Source, K: Sink>(
         → ¬ Rose (K.faults sink.old) (K.faults sink.new)
         → IsFinished result ⊎ (result ≡ Status.NoMemory) }
 {
-    let Some(mode) = mode_of(words) else {
+    let Some(row) = row_of(words) else {
         return Status::Usage;
     };
-    let bytes = match read_file(alloc, source) {
+    let bytes = match take_for(alloc, &row, source) {
         Ok(bytes) => bytes,
         Err(ReadFailure::Failed) => return Status::ReadFault,
         Err(ReadFailure::NoMemory) => return Status::NoMemory,
     };
-    let Ok(transcript) = transcript_of(alloc, &mode, &bytes, host) else {
+    let Ok(transcript) = transcript_of(alloc, &row, &bytes, host) else {
         return Status::NoMemory;
     };
     if !write_text(sink, &transcript.text) {
@@ -99,5 +102,21 @@ fn status_for(verdict: Verdict) -> Status
         Verdict::Done => Status::Done,
         Verdict::Unmet => Status::Unmet,
         Verdict::Refused => Status::Refused,
+    }
+}
+
+// The bytes that the row asks the source for: a file, or none.
+fn take_for<S: Source>(alloc: Global, row: &Row<'_>, source: &mut S) -> Result<Vec<u8>, ReadFailure>
+    ensures taken { IfOk result (λ bytes.
+        TakenBy row.now (S.left source.old) (S.left source.new) bytes.items) }
+    ensures alone { IsWorkload row.now → source.new ≡ source.old }
+    ensures lost { LosesFront (S.left source.old) (S.left source.new) }
+    ensures later { S.faults source.old ≤ S.faults source.new }
+    ensures failed { IsErrOf result ReadFailure.Failed
+        → Rose (S.faults source.old) (S.faults source.new) }
+{
+    match row {
+        Row::Run | Row::Step(_) => read_file(alloc, source),
+        Row::Workload(_) => Ok(Vec::new(alloc)),
     }
 }

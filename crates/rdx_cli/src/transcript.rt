@@ -1,13 +1,16 @@
 // The transcript of a file, made in memory.
-ghost use Rattle.std.specs.Prelude.{◌≡◌, ◌≢◌, IfOk};
-ghost use Rattle.rdx_cli.specs.Transcript.{IsTranscript, RunWrites, verdict_of};
+ghost use Rattle.std.specs.Prelude.{◌≡◌, ◌≤◌, ◌++◌, IfOk, codes, decimal, drop, length};
+ghost use Rattle.rdx_query.specs.Views.{choices_of};
+ghost use Rattle.rdx_cli.specs.Inside.Rows.{IsFit, Writes};
+ghost use Rattle.rdx_cli.specs.Transcript.{RunWrites, WorkloadWrites, last_line, verdict_of};
 
 use crate::contents::{Contents, contents_of};
 use crate::refusals::form_line;
-use crate::words::Mode;
+use crate::words::{Row, numbers_in};
+use itoa::Buffer;
 use rdx_delta::HostTable;
 use rdx_grammar::DefFault;
-use rdx_query::{Answered, answer, check_file};
+use rdx_query::{Answered, Mode, answer, check_file, workload_text};
 use rdx_term::NoMemory;
 use std::alloc::Global;
 
@@ -34,30 +37,81 @@ pub struct Transcript {
 /// What the row of the table asks for, of a file of these bytes.
 pub fn transcript_of(
     alloc: Global,
-    mode: &Mode,
+    row: &Row<'_>,
     bytes: &[u8],
     host: &HostTable,
 ) -> Result<Transcript, NoMemory>
-    ensures { IfOk result (λ t. IsTranscript mode.now bytes.now t.text.items t.verdict) }
+    requires { IsFit row.now }
+    ensures { IfOk result (λ t. Writes row.now bytes.now t.text.items t.verdict) }
 {
-    match mode {
-        Mode::Run => run_transcript(alloc, bytes, host),
+    match row {
+        Row::Run => run_transcript(alloc, bytes, host, &Mode::Run),
+        Row::Step(words) => {
+            let mode = Mode::Step(numbers_in(alloc, words)?);
+            run_transcript(alloc, bytes, host, &mode)
+        }
+        Row::Workload(tests) => workload_transcript(alloc, *tests, host),
     }
 }
 
 // The answers to the queries of a file, or the line that says why it is refused.
-fn run_transcript(alloc: Global, bytes: &[u8], host: &HostTable) -> Result<Transcript, NoMemory>
-    ensures { IfOk result (λ t. RunWrites bytes.now t.text.items t.verdict) }
+fn run_transcript(
+    alloc: Global,
+    bytes: &[u8],
+    host: &HostTable,
+    mode: &Mode,
+) -> Result<Transcript, NoMemory>
+    ensures { IfOk result (λ t. RunWrites (choices_of mode.now) bytes.now t.text.items t.verdict) }
 {
     let data = match contents_of(alloc, bytes)? {
         Contents::Data(data) => data,
         Contents::Unread(line) => return Ok(refused(line)),
     };
     match check_file(alloc, &data) {
-        Ok(file) => Ok(answered(answer(alloc, &file, host)?)),
+        Ok(file) => Ok(answered(answer(alloc, &file, host, mode)?)),
         Err(DefFault::Refused(refusal)) => Ok(refused(form_line(alloc, &refusal)?)),
         Err(DefFault::NoMemory) => Err(NoMemory),
     }
+}
+
+// Where the last line of a text begins.
+fn last_line_at(text: &[u8]) -> usize
+    ensures within { result ≤ length text.now }
+    ensures line { drop result text.now ≡ last_line text.now }
+{
+    let mut start = text.len().saturating_sub(1);
+    'bytes: while start > 0 && text[start - 1] != b'\n' {
+        start -= 1;
+    }
+    start
+}
+
+// The two lines of the workload with so many tests, of what its file writes.
+fn workload_lines(alloc: Global, tests: u32, whole: &[u8]) -> Result<Vec<u8>, NoMemory>
+    ensures { IfOk result (λ text. text.items
+        ≡ codes "workload " ++ decimal tests ++ codes "\n" ++ last_line whole.now) }
+{
+    let mut text = Vec::new(alloc);
+    let mut buffer = Buffer::new();
+    text.extend_from_slice(b"workload ")?;
+    text.extend_from_slice(buffer.format(tests).as_bytes())?;
+    text.push(b'\n')?;
+    text.extend_from_slice(&whole[last_line_at(whole)..])?;
+    Ok(text)
+}
+
+// What is written for the workload with so many tests.
+fn workload_transcript(alloc: Global, tests: u32, host: &HostTable) -> Result<Transcript, NoMemory>
+    requires some { 1 ≤ tests }
+    requires few { tests ≤ 2000 }
+    ensures { IfOk result (λ t. WorkloadWrites tests t.text.items t.verdict) }
+{
+    let file = workload_text(alloc, tests)?;
+    let whole = run_transcript(alloc, &file, host, &Mode::Run)?;
+    Ok(Transcript {
+        text: workload_lines(alloc, tests, &whole.text)?,
+        verdict: whole.verdict,
+    })
 }
 
 // The transcript of a file whose forms are all answered.

@@ -1,5 +1,5 @@
 -- Each form of a file is accepted or refused, and so is the file.
-use Rattle.std.proofs.Common.{◌≡◌, ◌++◌, ℕ, ◌⊎◌, inl, inr, List, [], ◌∷◌, Option, Some, None, refl, ◌∙◌, ap, subst}
+use Rattle.std.proofs.Common.{◌≡◌, ◌++◌, ℕ, ◌⊎◌, inl, inr, List, [], ◌∷◌, Option, Some, None, true, false, map, refl, ◌∙◌, ap, subst}
 use Rattle.rdx_sexp.specs.Sexp.{Sexp}
 use Rattle.rdx_lang.specs.Closures.{context_closure, compatible_closure}
 use Rattle.rdx_lang.specs.Edges.{IsFree}
@@ -37,7 +37,7 @@ use Rattle.rdx_query.specs.File.{Defines, Asks, IsPassedOver, IsRefusedForm, by_
 use Rattle.rdx_query.specs.FormKinds.{DefinitionKind, QueryKind, FormKind, defines, asks, passes, to_come, form_kind}
 use Rattle.rdx_query.specs.FormKinds as kind
 use Rattle.rdx_query.specs.Forms.{form_refusal, late_refusal, form_definition, refusal_by_kind, definition_by_kind, query_by_kind, is_passed_kind, definition_refusal, definition_of, question_refusal, asked_query}
-use Rattle.rdx_query.specs.HoldsForms.{HoldsParts, holds_parts, asked_names, holds_refusal, holds_refusal_over, holds_by, holds_over}
+use Rattle.rdx_query.specs.HoldsForms.{HoldsParts, holds_parts, lone_parts, asked_names, asked_premise, holds_refusal, holds_refusal_over, holds_by, holds_over, holds_test_by}
 use Rattle.rdx_query.specs.HostForms.{host_of_datum, value_query}
 use Rattle.rdx_query.specs.JudgementForms.{form_names, judgement_refusal_by, defined_judgement}
 use Rattle.rdx_query.specs.Known.{Known, with_definition}
@@ -45,9 +45,10 @@ use Rattle.rdx_query.specs.LanguageForms.{base_name, named_base, name_taken_at, 
 use Rattle.rdx_query.specs.Laws.{AreAccepted, AreRefused}
 use Rattle.rdx_query.specs.MatchForms.{QueryParts, query_parts, query_refusal, query_over}
 use Rattle.rdx_query.specs.MetafunctionForms.{function_names, function_refusal_by, defined_function}
-use Rattle.rdx_query.specs.Queries.{Query, matches, whether, splits, reducts, tagged}
+use Rattle.rdx_query.specs.Queries.{Query, matches, whether, splits, reducts, tagged, stepper, test_equal, test_step, test_run, test_match, test_holds, test_results}
 use Rattle.rdx_query.specs.RelationForms.{relation_names, cases_refusal_over, bad_relation_at}
 use Rattle.rdx_query.specs.StepForms.{StepParts, step_parts, steps_refusal}
+use Rattle.rdx_query.specs.TestForms.{EqualParts, LeadingParts, equal_parts, leading_parts, equal_refusal, leading_refusal}
 use Rattle.rdx_grammar.proofs.Firsts.{none_or}
 use Rattle.rdx_defs.proofs.EarliestPlaces.{earliest-none}
 use Rattle.rdx_query.proofs.CheckNumbers.{none-at}
@@ -152,6 +153,15 @@ step-parts : (K : Known) (d : Sexp) (q : Option StepParts) → steps_refusal K d
 step-parts K d None e = absurd (not_passed (unbuilt_at d) (unnamed Shape d) e)
 step-parts K d (Some q) e = record { value = q; is = refl }
 
+-- so have tests of host expressions
+equal-parts : (K : Known) (d : Sexp) (q : Option EqualParts) → equal_refusal K d q ≡ None → HasValue EqualParts q
+equal-parts K d None e = absurd (not_passed (unbuilt_at d) (unnamed Shape d) e)
+equal-parts K d (Some q) e = record { value = q; is = refl }
+
+leading-parts : (K : Known) (d : Sexp) (q : Option LeadingParts) → leading_refusal K d q ≡ None → HasValue LeadingParts q
+leading-parts K d None e = absurd (not_passed (unbuilt_at d) (unnamed Shape d) e)
+leading-parts K d (Some q) e = record { value = q; is = refl }
+
 -- so has one that asks whether a premise is met, and so has the premise
 premise-parts : (K : Known) (d : Sexp) (h : HoldsParts) (o : Option Headed)
     → holds_refusal_over K d o (held_stands K.scope (asked_names K o) [] h.premise o ++ result_stands (bound_by_premise K.scope (asked_names K o) o) h.result) ≡ None
@@ -171,6 +181,11 @@ holds-parts : (K : Known) (d : Sexp) (o : Option HoldsParts) → holds_refusal K
 holds-parts K d None e = absurd (not_passed (unbuilt_at d) (unnamed Shape d) e)
 holds-parts K d (Some h) e = mapped (holds_over K h.result) (headed h.premise) (premise-parts K d h (headed h.premise) e)
 
+-- and a test that it is
+holds-test-parts : (K : Known) (d : Sexp) (o : Option HoldsParts) → holds_refusal K d o ≡ None → HasValue Query (holds_test_by K o)
+holds-test-parts K d None e = absurd (not_passed (unbuilt_at d) (unnamed Shape d) e)
+holds-test-parts K d (Some h) e = mapped (λ (q : Headed). test_holds (asked_premise K q)) (headed h.premise) (premise-parts K d h (headed h.premise) e)
+
 -- so it asks something, as a host expression does anyway
 question-means : (K : Known) (d : Sexp) (k : QueryKind) → question_refusal K d k ≡ None → HasValue Query (asked_query K d k)
 question-means K d kind.matches e = mapped (query_over K matches) (query_parts d) (query-parts K d (query_parts d) e)
@@ -182,6 +197,20 @@ question-means K d kind.reducts e =
     mapped (λ (q : StepParts). reducts (text_of q.relation) (host_of_datum K q.host)) (step_parts d) (step-parts K d (step_parts d) e)
 question-means K d kind.tagged e =
     mapped (λ (q : StepParts). tagged (text_of q.relation) (host_of_datum K q.host)) (step_parts d) (step-parts K d (step_parts d) e)
+question-means K d kind.stepper e =
+    mapped (λ (q : StepParts). stepper (text_of q.relation) (host_of_datum K q.host)) (step_parts d) (step-parts K d (step_parts d) e)
+question-means K d kind.test_equal e =
+    mapped (λ (q : EqualParts). test_equal (host_of_datum K q.found) (host_of_datum K q.wanted)) (equal_parts d) (equal-parts K d (equal_parts d) e)
+question-means K d kind.test_step e =
+    mapped (λ (q : LeadingParts). test_step (text_of q.relation) (host_of_datum K q.from) (map (host_of_datum K) q.wanted)) (leading_parts d)
+    (leading-parts K d (leading_parts d) e)
+question-means K d kind.test_run e =
+    mapped (λ (q : LeadingParts). test_run (text_of q.relation) (host_of_datum K q.from) (map (host_of_datum K) q.wanted)) (leading_parts d)
+    (leading-parts K d (leading_parts d) e)
+question-means K d kind.test_match e = mapped (query_over K (λ name p h. test_match name p h true)) (query_parts d) (query-parts K d (query_parts d) e)
+question-means K d kind.test_no_match e = mapped (query_over K (λ name p h. test_match name p h false)) (query_parts d) (query-parts K d (query_parts d) e)
+question-means K d kind.test_holds e = holds-test-parts K d (lone_parts d) e
+question-means K d kind.test_results e = record { value = test_results; is = refl }
 
 -- ---- forms
 

@@ -1,5 +1,5 @@
 -- Which of several refusals is reported, by the numbers of their checks.
-use Rattle.std.proofs.Common.{◌≡◌, ℕ, zero, suc, get_or, ◌<◌, ◌≤◌, Bool, true, false, List, [], ◌∷◌, Option, Some, None, refl, sym, ap, ◌∙◌, arith, if◌then◌else◌}
+use Rattle.std.proofs.Common.{◌≡◌, ℕ, zero, suc, get_or, ◌<◌, ◌≤◌, Bool, true, false, List, [], ◌∷◌, Option, Some, None, map, refl, sym, ap, ◌∙◌, arith, if◌then◌else◌}
 use Rattle.std.proofs.lemmas.Bool.{lt-ltb, le-ltb, ltb-true, ltb-false}
 use Rattle.std.specs.Prelude.{nat_lt, option_map}
 use Rattle.rdx_sexp.specs.Sexp.{Sexp}
@@ -15,6 +15,11 @@ pub or_none : (o : Option Refusal) → or_else o None ≡ o
 or_none None = refl
 or_none (Some r) = refl
 
+-- two refusals come before others as one behind the other
+pub one-behind : (o p q : Option Refusal) → or_else (or_else o p) q ≡ or_else o (or_else p q)
+one-behind None p q = refl
+one-behind (Some r) p q = refl
+
 -- the first is reported where the second has no lesser number
 pub earlier_of-first : (r q : Refusal) → number r.kind ≤ number q.kind → earlier_of r q ≡ r
 earlier_of-first r q h = ap (λ (b : Bool). if b then q else r) (le-ltb (number q.kind) (number r.kind) h)
@@ -22,6 +27,14 @@ earlier_of-first r q h = ap (λ (b : Bool). if b then q else r) (le-ltb (number 
 -- the second is where it has one
 earlier_of-second : (r q : Refusal) → number q.kind < number r.kind → earlier_of r q ≡ q
 earlier_of-second r q h = ap (λ (b : Bool). if b then q else r) (lt-ltb (number q.kind) (number r.kind) h)
+
+-- what is reported has no greater number than the first
+earlier_of-least : (r q : Refusal) → number (earlier_of r q).kind ≤ number r.kind
+earlier_of-least r q = by_test (nat_lt (number q.kind) (number r.kind)) refl
+  where
+    by_test : (b : Bool) → nat_lt (number q.kind) (number r.kind) ≡ b → number (if b then q else r).kind ≤ number r.kind
+    by_test true e = let h : number q.kind < number r.kind = ltb-true (number q.kind) (number r.kind) e in omega (arith, h)
+    by_test false e = omega arith
 
 -- ---- checks that refuse nothing
 
@@ -36,6 +49,16 @@ none-at (suc i) (o ∷ os) e = none-at i os (none_of o os e).1
 -- what refuses has this number, if it does
 abbrev pub HasNumber : ℕ → Option Refusal → Type 0
 HasNumber n o = (r : Refusal) → o ≡ Some r → number r.kind ≡ n
+
+-- the first of two has it, where both do
+or-number : (n : ℕ) (o p : Option Refusal) → HasNumber n o → HasNumber n p → HasNumber n (or_else o p)
+or-number n None p h k r e = k r e
+or-number n (Some q) p h k r e = h r e
+
+-- so does the first of what refuses in a list
+pub first-number-of : {A : Type 0} (n : ℕ) (f : A → Option Refusal) (xs : List A) → ((x : A) → HasNumber n (f x)) → HasNumber n (first_refusal (map f xs))
+first-number-of n f [] h r e = absurd cc
+first-number-of n f (x ∷ xs) h r e = or-number n (f x) (first_refusal (map f xs)) (h x) (first-number-of n f xs h) r e
 
 -- no refusal has a lesser number
 abbrev pub IsFrom : ℕ → Option Refusal → Type 0
@@ -150,6 +173,29 @@ of_three r q s h = by_test (nat_lt (number s.kind) (number q.kind)) refl
     by_test false e =
         let f : number q.kind ≤ number s.kind = ltb-false (number s.kind) (number q.kind) e in
         earlier_of-first r q h ∙ sym (earlier_of-first r s (omega (arith, h, f)))
+
+-- of three it does not matter which two are compared first
+earlier_of-assoc : (r q s : Refusal) → earlier_of (earlier_of r q) s ≡ earlier_of r (earlier_of q s)
+earlier_of-assoc r q s = by_test (nat_lt (number q.kind) (number r.kind)) refl
+  where
+    by_test : (b : Bool) → nat_lt (number q.kind) (number r.kind) ≡ b → earlier_of (if b then q else r) s ≡ earlier_of r (earlier_of q s)
+    by_test true e =
+        let h : number q.kind < number r.kind = ltb-true (number q.kind) (number r.kind) e in
+        let l : number (earlier_of q s).kind ≤ number q.kind = earlier_of-least q s in
+        sym (earlier_of-second r (earlier_of q s) (omega (arith, h, l)))
+    by_test false e = sym (of_three r q s (ltb-false (number q.kind) (number r.kind) e))
+
+-- so it is where there may be none
+pub earlier-assoc : (o p q : Option Refusal) → earlier (earlier o p) q ≡ earlier o (earlier p q)
+earlier-assoc None p q = refl
+earlier-assoc (Some r) None q = refl
+earlier-assoc (Some r) (Some s) None = refl
+earlier-assoc (Some r) (Some s) (Some t) = ap Some (earlier_of-assoc r s t)
+
+-- no second one
+pub earlier_none : (o : Option Refusal) → earlier o None ≡ o
+earlier_none None = refl
+earlier_none (Some r) = refl
 
 -- the first of a list before another
 before-both : (n : ℕ) (o p q : Option Refusal) → HasNumber n o → IsFrom n p → earlier o (earlier p q) ≡ earlier (or_else o p) q

@@ -11,23 +11,20 @@ use Rattle.rdx_grammar.specs.declared.shape.fault.DefKind.TheVariants.{Unbuilt}
 use Rattle.rdx_query.specs.MatchForms.{QueryParts, query_among, query_parts}
 use Rattle.rdx_query.specs.DefineParts.{DefineKind, DefineParts, ClosureParts, kind_among, define_by, define_among, define_parts, closure_among, closure_parts}
 use Rattle.rdx_query.specs.StepForms.{StepParts, steps_among, step_parts}
+use Rattle.rdx_query.specs.TestForms.{EqualParts, LeadingParts, equal_among, leading_among, equal_parts, leading_parts}
+use Rattle.rdx_query.specs.Inside.Asking.{AreReadable}
 
 -- ---- what can be read
 
--- all of these can be read
-abbrev pub AllReadable : List Sexp → Type 0
-AllReadable [] = Unit {0}
-AllReadable (d ∷ ds) = IsReadable d × AllReadable ds
-
 -- data that nest less deep can
-data-readable : (ds : Sexps) → sexps_depth ds < 4294967296 → AreSpelled ds → AllReadable (listed ds)
+data-readable : (ds : Sexps) → sexps_depth ds < 4294967296 → AreSpelled ds → AreReadable (listed ds)
 data-readable nil h s = tt
 data-readable (cons d ds) h s = (record { nested = omega (arith, h); spelled = s.0 }, data-readable ds (omega (arith, h)) s.1)
 
 -- the parts of what can be read can
-pub parts-readable : (d : Sexp) (ds : List Sexp) → parts d ≡ Some ds → IsReadable d → AllReadable ds
+pub parts-readable : (d : Sexp) (ds : List Sexp) → parts d ≡ Some ds → IsReadable d → AreReadable ds
 parts-readable (leaf a s) ds e z = absurd cc
-parts-readable (list es s) ds e z = let f : listed es ≡ ds = cc in subst AllReadable f (data-readable es (omega (arith, z.nested)) z.spelled)
+parts-readable (list es s) ds e z = let f : listed es ≡ ds = cc in subst AreReadable f (data-readable es (omega (arith, z.nested)) z.spelled)
 
 -- ---- what is built
 
@@ -56,6 +53,11 @@ pub unbuilt_at-built : (d : Sexp) → has_word_to_come d ≡ false → unbuilt_a
 unbuilt_at-built d e = λ i. if e i then Some (unnamed Unbuilt d) else None
 
 -- ---- the parts of forms are their items
+
+-- what holds of something holds of what a test lets pass of it
+passed-by : {A : Type 0} (P : A → Type 0) (b : Bool) (p q : A) → P p → (if b then Some p else None) ≡ Some q → P q
+passed-by P true p q k e = let f : p ≡ q = cc in subst P f k
+passed-by P false p q k e = absurd cc
 
 -- the four items of a query
 pub record QueryItems (o : Option (List Sexp)) (q : QueryParts) : Type 0 where
@@ -96,6 +98,42 @@ items_of-steps (Some (h ∷ l ∷ t ∷ x ∷ xs)) q e = absurd cc
 pub step-items : (d : Sexp) (q : StepParts) → step_parts d ≡ Some q → StepItems (parts d) q
 step-items d q e = items_of-steps (parts d) q e
 
+-- the three items of a test of two host expressions
+pub record EqualItems (o : Option (List Sexp)) (q : EqualParts) : Type 0 where
+  pub head : Sexp
+  pub are : o ≡ Some (head ∷ q.found ∷ q.wanted ∷ [])
+
+items_of-equal : (o : Option (List Sexp)) (q : EqualParts) → equal_among o ≡ Some q → EqualItems o q
+items_of-equal None q e = absurd cc
+items_of-equal (Some []) q e = absurd cc
+items_of-equal (Some (h ∷ [])) q e = absurd cc
+items_of-equal (Some (h ∷ t ∷ [])) q e = absurd cc
+items_of-equal (Some (h ∷ t ∷ u ∷ [])) q e =
+    let r : EqualParts = record { found = t; wanted = u } in
+    let f : r ≡ q = cc in
+    subst (EqualItems (Some (h ∷ t ∷ u ∷ []))) f (record { head = h; are = refl })
+items_of-equal (Some (h ∷ t ∷ u ∷ x ∷ xs)) q e = absurd cc
+
+pub equal-items : (d : Sexp) (q : EqualParts) → equal_parts d ≡ Some q → EqualItems (parts d) q
+equal-items d q e = items_of-equal (parts d) q e
+
+-- the items of a test of a relation
+pub record LeadingItems (o : Option (List Sexp)) (q : LeadingParts) : Type 0 where
+  pub head : Sexp
+  pub are : o ≡ Some (head ∷ q.relation ∷ q.from ∷ q.wanted)
+
+items_of-leading : (o : Option (List Sexp)) (q : LeadingParts) → leading_among o ≡ Some q → LeadingItems o q
+items_of-leading None q e = absurd cc
+items_of-leading (Some []) q e = absurd cc
+items_of-leading (Some (h ∷ [])) q e = absurd cc
+items_of-leading (Some (h ∷ r ∷ [])) q e = absurd cc
+items_of-leading (Some (h ∷ r ∷ t ∷ us)) q e =
+    passed-by (LeadingItems (Some (h ∷ r ∷ t ∷ us))) (is_symbol r) (record { relation = r; from = t; wanted = us }) q
+    (record { head = h; are = refl }) e
+
+pub leading-items : (d : Sexp) (q : LeadingParts) → leading_parts d ≡ Some q → LeadingItems (parts d) q
+leading-items d q e = items_of-leading (parts d) q e
+
 -- the items of a form that defines a relation
 pub record DefineItems (o : Option (List Sexp)) (q : DefineParts) : Type 0 where
   pub head : Sexp
@@ -129,10 +167,6 @@ pub record ClosureItems (o : Option (List Sexp)) (q : ClosureParts) : Type 0 whe
   pub head : Sexp
   pub are : o ≡ Some (head ∷ q.relation ∷ q.language ∷ q.by ∷ [])
 
-by_symbols : (b : Bool) (o : Option (List Sexp)) (p q : ClosureParts) → ClosureItems o p → (if b then Some p else None) ≡ Some q → ClosureItems o q
-by_symbols true o p q k e = let f : p ≡ q = cc in subst (ClosureItems o) f k
-by_symbols false o p q k e = absurd cc
-
 items_of-closure : (o : Option (List Sexp)) (q : ClosureParts) → closure_among o ≡ Some q → ClosureItems o q
 items_of-closure None q e = absurd cc
 items_of-closure (Some []) q e = absurd cc
@@ -140,7 +174,7 @@ items_of-closure (Some (h ∷ [])) q e = absurd cc
 items_of-closure (Some (h ∷ r ∷ [])) q e = absurd cc
 items_of-closure (Some (h ∷ r ∷ l ∷ [])) q e = absurd cc
 items_of-closure (Some (h ∷ r ∷ l ∷ p ∷ [])) q e =
-    by_symbols (is_symbol r && is_symbol l) (Some (h ∷ r ∷ l ∷ p ∷ [])) (record { relation = r; language = l; by = p }) q
+    passed-by (ClosureItems (Some (h ∷ r ∷ l ∷ p ∷ []))) (is_symbol r && is_symbol l) (record { relation = r; language = l; by = p }) q
     (record { head = h; are = refl }) e
 items_of-closure (Some (h ∷ r ∷ l ∷ p ∷ x ∷ xs)) q e = absurd cc
 

@@ -1,10 +1,11 @@
 -- Which check refuses a form that asks whether a premise is met.
-use Rattle.std.proofs.Common.{◌≡◌, ℕ, List, [], ◌∷◌, Option, Some, None, Result, Ok, Err, IfSome, refl, sym, ◌∙◌, ap, subst, arith}
-use Rattle.std.specs.Prelude.{option_map}
+use Rattle.std.proofs.Common.{◌≡◌, ℕ, true, List, [], ◌∷◌, Option, Some, None, Result, Ok, Err, IfSome, refl, sym, ◌∙◌, ap, subst, arith}
+use Rattle.std.specs.Prelude.{is_some, option_map, IsSome}
 use Rattle.rdx_sexp.specs.Sexp.{Sexp}
 use Rattle.rdx_lang.specs.Patterns.{Language}
 use Rattle.rdx_lang.specs.ProgramView.{premise_of}
-use Rattle.rdx_lang.specs.Programs.{language_named}
+use Rattle.rdx_lang.specs.Programs.{Premise, language_named}
+use Rattle.rdx_lang.specs.Templates.{Template}
 use Rattle.rdx_lang.specs.TemplateView.{template_of}
 use Rattle.rdx_grammar.specs.Parts.{parts, text_of}
 use Rattle.rdx_grammar.specs.Readable.{IsReadable}
@@ -23,10 +24,10 @@ use Rattle.rdx_defs.specs.TemplateReading.{template_reading}
 use Rattle.rdx_defs.specs.declared.judgements.premises.ReadPremise.{ReadPremise}
 use Rattle.rdx_grammar.specs.Ends.{ends_in}
 use Rattle.rdx_grammar.specs.Inside.Among.{AreAmong}
-use Rattle.rdx_query.specs.HoldsForms.{HoldsParts, holds_parts, holds_among, asked_names, unfound, unfound_for, asked_unknown_at, holds_refusal, holds_by, holds_over}
+use Rattle.rdx_query.specs.HoldsForms.{HoldsParts, holds_parts, holds_among, lone_parts, lone_among, asked_names, unfound, unfound_for, asked_unknown_at, holds_refusal, asked_premise, holds_by, holds_over, holds_test_by}
 use Rattle.rdx_query.specs.Known.{Known, judgement_language}
-use Rattle.rdx_query.specs.Queries.{holds}
-use Rattle.rdx_query.specs.Inside.Asking.{IsHoldsFit, HoldsAskedBy}
+use Rattle.rdx_query.specs.Queries.{holds, test_holds}
+use Rattle.rdx_query.specs.Inside.Asking.{IsHoldsFit, HoldsAskedBy, IsHolding, IsHoldsTest}
 use Rattle.rdx_query.specs.Inside.Earlier.{number, earlier, IsFaultAt, IsRefusedBy, IsUnless}
 use Rattle.rdx_query.proofs.CheckNumbers.{or_none, HasNumber, Checks, AreChecks, refused, merge, merged}
 use Rattle.rdx_query.proofs.ClauseStands.{of_lone_premise}
@@ -160,3 +161,41 @@ module _ (K : Known) (d : Sexp) (h : HoldsParts) (f : IsHoldsFit d h) where
       subst (λ (o : Option Refusal). IsFaultAt o x)
       (ap (λ (o : Option Refusal). earlier o (premise_refusal K.scope names h.premise h.result)) e ∙ sym parts-refusal)
       (u (premise_refusal K.scope names h.premise h.result) (premise-refused K.scope names h.premise h.result r a))
+
+-- ---- tests
+
+-- what something is mapped to is something
+pub some-image : {A B : Type 0} (f : A → B) (o : Option A) (p : Option B) → option_map f o ≡ p → is_some o ≡ true → is_some p ≡ true
+some-image f None p e s = absurd cc
+some-image f (Some x) p e s = ap is_some (sym e)
+
+-- a premise alone is that of a form with or without a template
+lone-among : (o : Option (List Sexp)) → is_some (lone_among o) ≡ true → holds_among o ≡ lone_among o
+lone-among None e = absurd cc
+lone-among (Some []) e = absurd cc
+lone-among (Some (h ∷ [])) e = absurd cc
+lone-among (Some (h ∷ x ∷ [])) e = refl
+lone-among (Some (h ∷ x ∷ y ∷ ys)) e = absurd cc
+
+-- what asks for a premise, without its template, tests it
+tested-by : (K : Known) (s : Option Sexp) (o : Option Headed) (q : Premise) (t : Option Template) → option_map (holds_over K s) o ≡ Some (holds q t)
+    → option_map (λ (p : Headed). test_holds (asked_premise K p)) o ≡ Some (test_holds q)
+tested-by K s None q t e = absurd cc
+tested-by K s (Some p) q t e = let f : asked_premise K p ≡ q = cc in ap (λ (r : Premise). Some (test_holds r)) f
+
+tested-parts : (K : Known) (o : Option HoldsParts) (q : Premise) (t : Option Template) → holds_by K o ≡ Some (holds q t)
+    → holds_test_by K o ≡ Some (test_holds q)
+tested-parts K None q t e = absurd cc
+tested-parts K (Some h) q t e = tested-by K h.result (headed h.premise) q t e
+
+module _ (K : Known) (d : Sexp) (s : IsSome (lone_parts d)) where
+  -- a test that has its parts has those of a form that asks for its premise
+  lone : holds_parts d ≡ lone_parts d
+  lone = lone-among (parts d) s
+
+  -- so it tests the premise for which that asks
+  pub holds-tested : (q : Premise) (t : Option Template) → IsHolding K d q t → IsHoldsTest K d q
+  holds-tested q t a = record {
+    passes = ap (holds_refusal K d) (sym lone) ∙ a.passes;
+    means = ap (holds_test_by K) (sym lone) ∙ tested-parts K (holds_parts d) q t a.means;
+  }

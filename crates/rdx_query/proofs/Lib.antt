@@ -1,8 +1,16 @@
 pub mod Upto
 pub mod Whether
 pub mod OneReading
+pub mod EachSoFar
+pub mod FirstOfEach
+pub mod AllInserted
+pub mod SameTexts
+pub mod LeastAlike
+pub mod AppendedComparison
+pub mod Compared
 pub mod OneText
 pub mod Trying
+pub mod OverHosts
 pub mod MetPremises
 pub mod RuleNames
 pub mod Contexts
@@ -22,6 +30,7 @@ pub mod HoldsChecks
 pub mod DefinedJudgements
 pub mod FormNames
 pub mod QueryChecks
+pub mod TestChecks
 pub mod StepChecks
 pub mod Replaced
 pub mod GainingNothing

@@ -1,5 +1,5 @@
 -- What forms name is known, and stays known.
-use Rattle.std.proofs.Common.{◌≡◌, ◌⊎◌, inl, inr, ◌++◌, ℕ, Bool, true, false, List, [], ◌∷◌, Option, Some, None, refl, sym, ◌∙◌, ap, subst, if◌then◌else◌}
+use Rattle.std.proofs.Common.{◌≡◌, ◌⊎◌, inl, inr, ◌++◌, ℕ, Bool, true, false, List, [], ◌∷◌, Option, Some, None, map, refl, sym, ◌∙◌, ap, subst, if◌then◌else◌}
 use Rattle.std.specs.Prelude.{not, is_some, bytes_eq, option_map, IsSome}
 use Rattle.rdx_sexp.specs.Sexp.{Sexp}
 use Rattle.rdx_lang.specs.Closures.{context_closure, compatible_closure}
@@ -41,16 +41,17 @@ use Rattle.rdx_query.specs.File.{Defines, Asks}
 use Rattle.rdx_query.specs.FormKinds as kind
 use Rattle.rdx_query.specs.FormKinds.{FormKind, defines, asks, passes, to_come, form_kind}
 use Rattle.rdx_query.specs.Forms.{refusal_by_kind, definition_by_kind, query_by_kind}
-use Rattle.rdx_query.specs.HoldsForms.{HoldsParts, holds_parts, asked_names, asked_unknown_at, holds_refusal, holds_refusal_over, holds_by, holds_over}
+use Rattle.rdx_query.specs.HoldsForms.{HoldsParts, holds_parts, asked_names, asked_unknown_at, lone_parts, asked_premise, holds_refusal, holds_refusal_over, holds_by, holds_over, holds_test_by}
 use Rattle.rdx_query.specs.HostForms.{host_of_datum, bad_host_at, undriven_host_at, host_escape_at}
 use Rattle.rdx_query.specs.JudgementForms.{form_name, form_names, judgement_refusal_by, judgement_by, defined_judgement}
 use Rattle.rdx_query.specs.Known.{Known, empty_program, extended_by, known_as, with_definition}
 use Rattle.rdx_query.specs.LanguageForms.{named_base, name_taken_at, unknown_at, unknown_by, plain_language, extended_language}
 use Rattle.rdx_query.specs.MatchForms.{QueryParts, query_parts, query_shape_at, checked_parts, query_host, bad_query_at, query_escape_at, query_refusal, query_over}
 use Rattle.rdx_query.specs.MetafunctionForms.{function_taken_at, defined_function}
-use Rattle.rdx_query.specs.Queries.{Query, matches, whether, splits, value, holds, reducts, tagged, KnowsRelation, KnowsJudgement, NamesKnown}
+use Rattle.rdx_query.specs.Queries.{Query, matches, whether, splits, value, holds, reducts, tagged, stepper, test_equal, test_step, test_run, test_match, test_holds, test_results, KnowsRelation, KnowsJudgement, NamesKnown}
 use Rattle.rdx_query.specs.RelationForms.{define_shape_at, bad_relation_at, cases_refusal, relation_names, relation_language}
 use Rattle.rdx_query.specs.StepForms.{StepParts, step_parts, steps_shape_at, checked_steps, steps_host, unknown_relation_at, unknown_relation_by, steps_refusal}
+use Rattle.rdx_query.specs.TestForms.{EqualParts, LeadingParts, equal_parts, leading_parts, hosts_shape_at, bad_hosts_at, undriven_hosts_at, hosts_escape_at, unknown_tested_at, leading_refusal}
 use Rattle.rdx_query.proofs.ClosureChecks.{language-known, same-language}
 use Rattle.rdx_query.proofs.DefinedJudgements.{judgements_in, mapped-some}
 use Rattle.rdx_query.proofs.FoundByName.{judgement-among}
@@ -102,6 +103,13 @@ IsAwaited K (value h) = Unit {0}
 IsAwaited K (holds q t) = IsSome (mode_of K.scope q.judgement)
 IsAwaited K (reducts name h) = KnowsRelation K.program name
 IsAwaited K (tagged name h) = KnowsRelation K.program name
+IsAwaited K (stepper name h) = KnowsRelation K.program name
+IsAwaited K (test_equal h k) = Unit {0}
+IsAwaited K (test_step name h ks) = KnowsRelation K.program name
+IsAwaited K (test_run name h ks) = KnowsRelation K.program name
+IsAwaited K (test_match name p h wanted) = IsSome (language_named K.program name)
+IsAwaited K (test_holds q) = IsSome (mode_of K.scope q.judgement)
+IsAwaited K test_results = Unit {0}
 
 -- so it stays
 pub awaited-more : (K : Known) (x : Defined) (q : Query) → IsAwaited K q → IsAwaited (with_definition K x) q
@@ -112,6 +120,13 @@ awaited-more K x (value h) e = tt
 awaited-more K x (holds q t) e = e
 awaited-more K x (reducts name h) e = relation-more K.program (known_as K.ends x) name e
 awaited-more K x (tagged name h) e = relation-more K.program (known_as K.ends x) name e
+awaited-more K x (stepper name h) e = relation-more K.program (known_as K.ends x) name e
+awaited-more K x (test_equal h k) e = tt
+awaited-more K x (test_step name h ks) e = relation-more K.program (known_as K.ends x) name e
+awaited-more K x (test_run name h ks) e = relation-more K.program (known_as K.ends x) name e
+awaited-more K x (test_match name p h wanted) e = language-more K.program (known_as K.ends x) name e
+awaited-more K x (test_holds q) e = e
+awaited-more K x test_results e = tt
 
 -- ---- the language of each relation is known
 
@@ -223,6 +238,13 @@ awaited-known K (value h) l f a = tt
 awaited-known K (holds q t) l f a = knows-by K.program q.judgement (judgement_named K.program q.judgement) l refl (f q.judgement a)
 awaited-known K (reducts name h) l f a = a
 awaited-known K (tagged name h) l f a = a
+awaited-known K (stepper name h) l f a = a
+awaited-known K (test_equal h k) l f a = tt
+awaited-known K (test_step name h ks) l f a = a
+awaited-known K (test_run name h ks) l f a = a
+awaited-known K (test_match name p h wanted) l f a = a
+awaited-known K (test_holds q) l f a = knows-by K.program q.judgement (judgement_named K.program q.judgement) l refl (f q.judgement a)
+awaited-known K test_results l f a = tt
 
 -- ---- what an accepted form names
 
@@ -269,18 +291,44 @@ steps-known K d q l e =
     known-relation K.program (relation_named K.program (text_of q.relation)) q.relation l refl
     (fourth-none (unbuilt_at d) (steps_shape_at d (checked_steps (Some q))) (bad_host_at ps) (unknown_relation_at K (Some q)) last e)
 
--- a query of any of three kinds
+-- a query with a pattern, of any kind
 by_query : (K : Known) (d : Sexp) (make : List ℕ → Pattern → Host → Query) (o : Option QueryParts) (r : Query)
     → ((q : QueryParts) → IsSome (language_named K.program (text_of q.language)) → IsAwaited K (query_over K make q))
     → query_refusal K d o ≡ None → option_map (query_over K make) o ≡ Some r → IsAwaited K r
 by_query K d make None r f e m = absurd cc
 by_query K d make (Some q) r f e m = let g : query_over K make q ≡ r = cc in subst (IsAwaited K) g (f q (query-known K d q e))
 
--- a form that asks for steps, in either kind
+-- a relation of an accepted test is
+tested-known : (K : Known) (d : Sexp) (q : LeadingParts) → LanguagesKnown K.program → leading_refusal K d (Some q) ≡ None
+    → KnowsRelation K.program (text_of q.relation)
+tested-known K d q l e =
+    let hs = q.from ∷ q.wanted in
+    let last = first_refusal (undriven_hosts_at K hs ∷ hosts_escape_at K hs ∷ []) in
+    known-relation K.program (relation_named K.program (text_of q.relation)) q.relation l refl
+    (fourth-none (unbuilt_at d) (hosts_shape_at hs) (bad_hosts_at K hs) (unknown_tested_at K (Some q.relation)) last e)
+
+-- a form that asks for steps, in any kind
 by_steps : (K : Known) (d : Sexp) (make : StepParts → Query) (o : Option StepParts) (r : Query) → LanguagesKnown K.program → ((q : StepParts) → KnowsRelation K.program (text_of q.relation) → IsAwaited K (make q))
     → steps_refusal K d o ≡ None → option_map make o ≡ Some r → IsAwaited K r
 by_steps K d make None r l f e m = absurd cc
 by_steps K d make (Some q) r l f e m = let g : make q ≡ r = cc in subst (IsAwaited K) g (f q (steps-known K d q l e))
+
+-- a test of a relation, in either kind
+by_leading : (K : Known) (d : Sexp) (make : LeadingParts → Query) (o : Option LeadingParts) (r : Query) → LanguagesKnown K.program
+    → ((q : LeadingParts) → KnowsRelation K.program (text_of q.relation) → IsAwaited K (make q))
+    → leading_refusal K d o ≡ None → option_map make o ≡ Some r → IsAwaited K r
+by_leading K d make None r l f e m = absurd cc
+by_leading K d make (Some q) r l f e m = let g : make q ≡ r = cc in subst (IsAwaited K) g (f q (tested-known K d q l e))
+
+-- a test of two host expressions
+by_equal : (K : Known) (o : Option EqualParts) (r : Query)
+    → option_map (λ (q : EqualParts). test_equal (host_of_datum K q.found) (host_of_datum K q.wanted)) o ≡ Some r → IsAwaited K r
+by_equal K None r m = absurd cc
+by_equal K (Some q) r m = let g : test_equal (host_of_datum K q.found) (host_of_datum K q.wanted) ≡ r = cc in subst (IsAwaited K) g tt
+
+-- a form that counts tests
+by_results : (K : Known) (r : Query) → (let o : Option Query = Some test_results in o) ≡ Some r → IsAwaited K r
+by_results K r m = let g : test_results ≡ r = cc in subst (IsAwaited K) g tt
 
 -- a form that is a host expression
 by_value : (K : Known) (h : Host) (r : Query) → (let o : Option Query = Some (value h) in o) ≡ Some r → IsAwaited K r
@@ -296,12 +344,13 @@ asked-known : (S : Scope) (j : Sexp) (ss : List Stand) → unknown_name_at S (as
 asked-known S j ss e =
     none_when (is_some (mode_of S (text_of j))) j (unknown_names S ss) (earliest-none start (named UnknownName) (unknown_names S (asked j ∷ ss)) e)
 
--- an accepted form that asks whether a premise is met
-by_premise : (K : Known) (d : Sexp) (h : HoldsParts) (o : Option Headed) (r : Query)
+-- an accepted form that makes this of a premise
+by_premise : (K : Known) (d : Sexp) (h : HoldsParts) (make : Headed → Query) (o : Option Headed) (r : Query)
+    → ((q : Headed) → IsSome (mode_of K.scope (text_of q.head)) → IsAwaited K (make q))
     → holds_refusal_over K d o (held_stands K.scope (asked_names K o) [] h.premise o ++ result_stands (bound_by_premise K.scope (asked_names K o) o) h.result) ≡ None
-    → option_map (holds_over K h.result) o ≡ Some r → IsAwaited K r
-by_premise K d h None r e m = absurd cc
-by_premise K d h (Some q) r e m =
+    → option_map make o ≡ Some r → IsAwaited K r
+by_premise K d h make None r f e m = absurd cc
+by_premise K d h make (Some q) r f e m =
     let ns = asked_names K (Some q) in
     let misfitting = misfits (is_misfit (mode_of K.scope (text_of q.head)) q.arguments) h.premise q.head in
     let behind = (misfitting ++ arguments_stand ns [] (names_bound []) (premise_arguments K.scope q)) ++ result_stands (bound_by_premise K.scope ns (Some q)) h.result in
@@ -312,12 +361,18 @@ by_premise K d h (Some q) r e m =
     fourth-none (bad_name_at ss) (bad_place_at K.scope ns ss) (depth_fault_at K.scope ns ss) (unknown_name_at K.scope ss) last
     (behind-three (unbuilt_at d) (shape_at ss) (asked_unknown_at K (Some q)) late e)
     in
-    let g : holds_over K h.result q ≡ r = cc in
-    subst (IsAwaited K) g (asked-known K.scope q.head behind n)
+    let g : make q ≡ r = cc in
+    subst (IsAwaited K) g (f q (asked-known K.scope q.head behind n))
 
+-- one that asks whether it is met
 by_holds : (K : Known) (d : Sexp) (o : Option HoldsParts) (r : Query) → holds_refusal K d o ≡ None → holds_by K o ≡ Some r → IsAwaited K r
 by_holds K d None r e m = absurd cc
-by_holds K d (Some h) r e m = by_premise K d h (headed h.premise) r e m
+by_holds K d (Some h) r e m = by_premise K d h (holds_over K h.result) (headed h.premise) r (λ q s. s) e m
+
+-- a test that it is
+by_holds-test : (K : Known) (d : Sexp) (o : Option HoldsParts) (r : Query) → holds_refusal K d o ≡ None → holds_test_by K o ≡ Some r → IsAwaited K r
+by_holds-test K d None r e m = absurd cc
+by_holds-test K d (Some h) r e m = by_premise K d h (λ (q : Headed). test_holds (asked_premise K q)) (headed h.premise) r (λ q s. s) e m
 
 -- what an accepted query names is known, or awaited
 by_question : (K : Known) (d : Sexp) (k : FormKind) (q : Query) → LanguagesKnown K.program → refusal_by_kind K d k ≡ None → query_by_kind K d k ≡ Some q → IsAwaited K q
@@ -329,6 +384,16 @@ by_question K d (asks kind.value) q l e m = by_value K (host_of_datum K d) q m
 by_question K d (asks kind.holds) q l e m = by_holds K d (holds_parts d) q e m
 by_question K d (asks kind.reducts) q l e m = by_steps K d (λ r. reducts (text_of r.relation) (host_of_datum K r.host)) (step_parts d) q l (λ r s. s) e m
 by_question K d (asks kind.tagged) q l e m = by_steps K d (λ r. tagged (text_of r.relation) (host_of_datum K r.host)) (step_parts d) q l (λ r s. s) e m
+by_question K d (asks kind.stepper) q l e m = by_steps K d (λ r. stepper (text_of r.relation) (host_of_datum K r.host)) (step_parts d) q l (λ r s. s) e m
+by_question K d (asks kind.test_equal) q l e m = by_equal K (equal_parts d) q m
+by_question K d (asks kind.test_step) q l e m =
+    by_leading K d (λ r. test_step (text_of r.relation) (host_of_datum K r.from) (map (host_of_datum K) r.wanted)) (leading_parts d) q l (λ r s. s) e m
+by_question K d (asks kind.test_run) q l e m =
+    by_leading K d (λ r. test_run (text_of r.relation) (host_of_datum K r.from) (map (host_of_datum K) r.wanted)) (leading_parts d) q l (λ r s. s) e m
+by_question K d (asks kind.test_match) q l e m = by_query K d (λ name p h. test_match name p h true) (query_parts d) q (λ r s. s) e m
+by_question K d (asks kind.test_no_match) q l e m = by_query K d (λ name p h. test_match name p h false) (query_parts d) q (λ r s. s) e m
+by_question K d (asks kind.test_holds) q l e m = by_holds-test K d (lone_parts d) q e m
+by_question K d (asks kind.test_results) q l e m = by_results K q m
 by_question K d (passes k) q l e m = absurd cc
 by_question K d to_come q l e m = absurd cc
 

@@ -26,13 +26,22 @@ use Rattle.rdx_reduce.specs.Laws.{OneStepping}
 use Rattle.rdx_reduce.specs.Relations.{StepsOver, AreSteps}
 use Rattle.rdx_reduce.specs.Steps.{Step}
 use Rattle.rdx_query.specs.AnswerText.{matches_text, whether_text, splits_text, reducts_text, fault_line}
-use Rattle.rdx_query.specs.Answering.{HostValue, Over, over_value, over_fault, IsValueAnswer, IsAnswer, AreAnswers, no_answers, more_answers, Writes}
+use Rattle.rdx_eval.specs.Judgements.{are_some}
+use Rattle.rdx_run.specs.Laws.{OneRun, OneWalk}
+use Rattle.rdx_run.specs.Runs as run
+use Rattle.rdx_run.specs.Runs.{RunEnd, Runs, most_steps}
+use Rattle.rdx_run.specs.Walks.{Walk, Walks}
+use Rattle.rdx_query.specs.Answering.{HostValue, HostValues, Over, over_value, over_fault, OverEach, over_values, over_first_fault, IsValueAnswer, IsAnswer, AreAnswers, no_answers, more_answers, counts_behind, Writes}
 use Rattle.rdx_query.specs.Known.{Known}
 use Rattle.rdx_query.specs.File.{known_before}
 use Rattle.rdx_query.specs.HoldsAnswers.{FindsMet, WritesWhether, whether_found, not_found, IsHoldsAnswer, ValuesOf, values_of, no_bindings, WritesValues, values_found, no_values, IsValuesAnswer, IsPremiseAnswer}
 use Rattle.rdx_query.specs.MatchAnswers.{Finds, FindsSplits, IsMatchesAnswer, IsWhetherAnswer, IsSplitsAnswer}
-use Rattle.rdx_query.specs.Queries.{Query, matches, whether, splits, value, holds, reducts, tagged}
+use Rattle.rdx_query.specs.Queries.{Query, matches, whether, splits, value, holds, reducts, tagged, stepper, test_equal, test_step, test_run, test_match, test_holds, test_results}
 use Rattle.rdx_query.specs.StepAnswers.{reducts_in, WritesReducts, reducts_found, no_reducts, WritesSteps, steps_found, no_steps, IsReductsAnswer, IsTaggedAnswer}
+use Rattle.rdx_query.specs.StepperAnswers.{walk_text, is_done, IsStepperAnswer}
+use Rattle.rdx_query.specs.TestAnswers.{ComparesSteps, steps_compared, no_steps as no_steps_compared, ComparesEnd, rest_compared, run_fails, run_branches, run_is_bound, IsStepTestAnswer, IsRunTestAnswer, IsMatchTestAnswer, WritesVerdict, verdict_found, not_found as no_verdict, IsHoldsTestAnswer, IsResultsAnswer}
+use Rattle.rdx_query.specs.Tests.{Compares, Counts, no_tests, verdict_line, as_wanted}
+use Rattle.rdx_query.proofs.Compared.{compares-once}
 use Rattle.rdx_query.proofs.OneReading.{accepts-one}
 
 -- what two answers have in common
@@ -87,7 +96,31 @@ once-written_values : (a : Answer (List Tree)) → OnceWritten (WritesValues a)
 once-written_values (evaluation.value ts) t u m n (values_found e f) (values_found g h) = record { text = e ∙ sym g; met = f ∙ sym h }
 once-written_values (fault p) t u m n (no_values e f) (no_values g h) = record { text = e ∙ sym g; met = f ∙ sym h }
 
-module _ (one_listing : OneListing) (one_splits : OneSplitsListing) (one_term : OneTerm) (one_meeting : OneMeeting) (one_stepping : OneStepping) where
+-- ---- what is written of tests
+
+-- a comparison is written in one way
+once-compares : (found wanted : List Tree) → OnceWritten (Compares found wanted)
+once-compares found wanted t u m n a b = let s = compares-once found wanted t u m n a b in record { text = s.0; met = s.1 }
+
+once-compared : (wanted : List Tree) (a : Answer (List Step)) → OnceWritten (ComparesSteps wanted a)
+once-compared wanted (evaluation.value ss) t u m n (steps_compared a) (steps_compared b) = once-compares (reducts_in ss) wanted t u m n a b
+once-compared wanted (fault p) t u m n (no_steps_compared e f) (no_steps_compared g h) = record { text = e ∙ sym g; met = f ∙ sym h }
+
+once-ended : (wanted : List Tree) (e : RunEnd) → OnceWritten (ComparesEnd wanted e)
+once-ended wanted (run.rests x) t u m n (rest_compared a) (rest_compared b) = once-compares (x ∷ []) wanted t u m n a b
+once-ended wanted (run.fails p) t u m n (run_fails e f) (run_fails g h) = record { text = e ∙ sym g; met = f ∙ sym h }
+once-ended wanted (run.branches x) t u m n (run_branches e f) (run_branches g h) = record { text = e ∙ sym g; met = f ∙ sym h }
+once-ended wanted run.is_bound t u m n (run_is_bound e f) (run_is_bound g h) = record { text = e ∙ sym g; met = f ∙ sym h }
+
+once-verdict : (a : Answer (List Binding)) → OnceWritten (WritesVerdict a)
+once-verdict (evaluation.value bs) t u m n (verdict_found e f) (verdict_found g h) = record { text = e ∙ sym g; met = f ∙ sym h }
+once-verdict (fault p) t u m n (no_verdict e f) (no_verdict g h) = record { text = e ∙ sym g; met = f ∙ sym h }
+
+once-results : (c : Counts) → OnceWritten (IsResultsAnswer c)
+once-results c t u m n a b = record { text = a.printed ∙ sym b.printed; met = a.is_met ∙ sym b.is_met }
+
+module _ (one_listing : OneListing) (one_splits : OneSplitsListing) (one_term : OneTerm) (one_meeting : OneMeeting) (one_stepping : OneStepping)
+    (one_walk : OneWalk) (one_run : OneRun) where
   -- ---- matches and splits
 
   -- one listing is found at most
@@ -150,6 +183,39 @@ module _ (one_listing : OneListing) (one_splits : OneSplitsListing) (one_term : 
       once-steps b.relation.rules b.answer text other m n
       (subst (λ (r : Answer (List Step)). WritesSteps b.relation.rules r text m) s (subst (λ (R : Relation). WritesSteps R.rules a.answer text m) k a.written)) b.written
 
+  once-by-walk : (P : Program) (name : List ℕ) (cs : List ℕ) (t : Tree) → OnceWritten (IsStepperAnswer P name cs t)
+  once-by-walk P name cs t text other m n a b =
+      let k : a.relation ≡ b.relation = let e = a.known in let f = b.known in cc in
+      let w : a.walk ≡ b.walk =
+      one_walk P b.relation t cs a.walk b.walk (subst (λ (R : Relation). Walks (AreSteps P R) t cs a.walk) k a.walks) b.walks in
+      record {
+        text = a.printed ∙ (λ i. walk_text (k i).rules (w i)) ∙ sym b.printed;
+        met = a.is_met ∙ ap (λ (v : Walk). is_done v.end) w ∙ sym b.is_met;
+      }
+
+  -- ---- tests
+
+  once-step-test : (P : Program) (name : List ℕ) (t : Tree) (wanted : List Tree) → OnceWritten (IsStepTestAnswer P name t wanted)
+  once-step-test P name t wanted text other m n a b =
+      let k : a.relation ≡ b.relation = let e = a.known in let f = b.known in cc in
+      let s : a.answer ≡ b.answer = one_relation P name t a.relation b.relation a.answer b.answer k a.steps b.steps in
+      once-compared wanted b.answer text other m n (subst (λ (r : Answer (List Step)). ComparesSteps wanted r text m) s a.written) b.written
+
+  once-run-test : (P : Program) (name : List ℕ) (t : Tree) (wanted : List Tree) → OnceWritten (IsRunTestAnswer P name t wanted)
+  once-run-test P name t wanted text other m n a b =
+      let k : a.relation ≡ b.relation = let e = a.known in let f = b.known in cc in
+      let s : a.end ≡ b.end =
+      one_run P b.relation most_steps t a.end b.end (subst (λ (R : Relation). Runs (AreSteps P R) most_steps t a.end) k a.runs) b.runs in
+      once-ended wanted b.end text other m n (subst (λ (e : RunEnd). ComparesEnd wanted e text m) s a.written) b.written
+
+  once-match-test : (P : Program) (name : List ℕ) (p : Pattern) (wanted : Bool) (t : Tree) → OnceWritten (IsMatchTestAnswer P name p wanted t)
+  once-match-test P name p wanted t text other m n a b =
+      let s : a.found ≡ b.found = one_found P name p t a.found b.found a.finds b.finds in
+      record {
+        text = a.printed ∙ ap (λ (bs : List Binding). verdict_line (as_wanted wanted (are_some bs))) s ∙ sym b.printed;
+        met = a.is_met ∙ ap (λ (bs : List Binding). as_wanted wanted (are_some bs)) s ∙ sym b.is_met;
+      }
+
   -- ---- premises
 
   -- a premise finds one list of bindings at most, or one fault
@@ -182,6 +248,11 @@ module _ (one_listing : OneListing) (one_splits : OneSplitsListing) (one_term : 
       once-values P t b.found a.values b.values (subst (λ (r : Answer (List Binding)). ValuesOf (calls_at P height) t r a.values) s a.made) b.made in
       once-written_values b.values text other m n (subst (λ (r : Answer (List Tree)). WritesValues r text m) v a.written) b.written
 
+  once-holds-test : (P : Program) (q : Premise) → OnceWritten (IsHoldsTestAnswer P q)
+  once-holds-test P q text other m n a b =
+      let s : a.found ≡ b.found = once-finds P q a.found b.found a.finds b.finds in
+      once-verdict b.found text other m n (subst (λ (r : Answer (List Binding)). WritesVerdict r text m) s a.written) b.written
+
   -- with a template and without one
   once-premise : (P : Program) (q : Premise) (o : Option Template) → OnceWritten (IsPremiseAnswer P q o)
   once-premise P q None = once-holds P q
@@ -207,26 +278,58 @@ module _ (one_listing : OneListing) (one_splits : OneSplitsListing) (one_term : 
     met = c ∙ sym d;
   }
 
+  -- several make one list of terms, or have one first fault
+  once-hosts : (P : Program) (hs : List Host) → Once (HostValues P hs)
+  once-hosts P hs = once-gather (λ h. Single (HostValue P h)) (λ h. once-single (HostValue P h) (once-host P h)) hs
+
+  each-once : (P : Program) (hs : List Host) (W : List Tree → List ℕ → Bool → Type 0) → ((ts : List Tree) → OnceWritten (W ts)) → OnceWritten (OverEach P hs W)
+  each-once P hs W f text other m n (over_values ts v a) (over_values us w b) =
+      let e : ts ≡ us = same_value ts us (once-hosts P hs (evaluation.value ts) (evaluation.value us) v w) in
+      f us text other m n (subst (λ (xs : List Tree). W xs text m) e a) b
+  each-once P hs W f text other m n (over_values ts v a) (over_first_fault p w e c) =
+      no_value p ts (once-hosts P hs (fault p) (evaluation.value ts) w v)
+  each-once P hs W f text other m n (over_first_fault p v e c) (over_values ts w b) =
+      no_value p ts (once-hosts P hs (fault p) (evaluation.value ts) v w)
+  each-once P hs W f text other m n (over_first_fault p v e c) (over_first_fault q w g d) = record {
+    text = e ∙ ap fault_line (same_fault p q (once-hosts P hs (fault p) (fault q) v w)) ∙ sym g;
+    met = c ∙ sym d;
+  }
+
   -- a query has one answer at most
-  one_answer : (P : Program) (q : Query) → OnceWritten (IsAnswer P q)
-  one_answer P (matches name p h) = over-once P h (IsMatchesAnswer P name p) (once-matches P name p)
-  one_answer P (whether name p h) = over-once P h (IsWhetherAnswer P name p) (once-whether P name p)
-  one_answer P (splits name p h) = over-once P h (IsSplitsAnswer P name p) (once-splits P name p)
-  one_answer P (value h) = over-once P h IsValueAnswer once-value
-  one_answer P (holds q t) = once-premise P q t
-  one_answer P (reducts name h) = over-once P h (IsReductsAnswer P name) (once-by-reducts P name)
-  one_answer P (tagged name h) = over-once P h (IsTaggedAnswer P name) (once-by-steps P name)
+  one_answer : (P : Program) (cs : List ℕ) (c : Counts) (q : Query) → OnceWritten (IsAnswer P cs c q)
+  one_answer P cs c (matches name p h) = over-once P h (IsMatchesAnswer P name p) (once-matches P name p)
+  one_answer P cs c (whether name p h) = over-once P h (IsWhetherAnswer P name p) (once-whether P name p)
+  one_answer P cs c (splits name p h) = over-once P h (IsSplitsAnswer P name p) (once-splits P name p)
+  one_answer P cs c (value h) = over-once P h IsValueAnswer once-value
+  one_answer P cs c (holds q t) = once-premise P q t
+  one_answer P cs c (reducts name h) = over-once P h (IsReductsAnswer P name) (once-by-reducts P name)
+  one_answer P cs c (tagged name h) = over-once P h (IsTaggedAnswer P name) (once-by-steps P name)
+  one_answer P cs c (stepper name h) = over-once P h (IsStepperAnswer P name cs) (once-by-walk P name cs)
+  one_answer P cs c (test_equal h k) =
+      over-once P h (λ t. Over P k (λ u. Compares (t ∷ []) (u ∷ [])))
+      (λ t. over-once P k (λ u. Compares (t ∷ []) (u ∷ [])) (λ u. once-compares (t ∷ []) (u ∷ [])))
+  one_answer P cs c (test_step name h ks) =
+      over-once P h (λ t. OverEach P ks (IsStepTestAnswer P name t)) (λ t. each-once P ks (IsStepTestAnswer P name t) (once-step-test P name t))
+  one_answer P cs c (test_run name h ks) =
+      over-once P h (λ t. OverEach P ks (IsRunTestAnswer P name t)) (λ t. each-once P ks (IsRunTestAnswer P name t) (once-run-test P name t))
+  one_answer P cs c (test_match name p h wanted) = over-once P h (IsMatchTestAnswer P name p wanted) (once-match-test P name p wanted)
+  one_answer P cs c (test_holds q) = once-holds-test P q
+  one_answer P cs c test_results = once-results c
 
   -- queries have one text at most
-  answers-one : (P : Program) (qs : List Query) → OnceWritten (AreAnswers P qs)
-  answers-one P [] t u m n no_answers no_answers = record { text = refl; met = refl }
-  answers-one P (q ∷ qs) t u m n (more_answers text texts met all_met a more) (more_answers other others same all_same b rest) =
-      both text other texts others met same all_met all_same (one_answer P q text other met same a b) (answers-one P qs texts others all_met all_same more rest)
+  answers-one : (P : Program) (cs : List ℕ) (c : Counts) (qs : List Query) → OnceWritten (AreAnswers P cs c qs)
+  answers-one P cs c [] t u m n no_answers no_answers = record { text = refl; met = refl }
+  answers-one P cs c (q ∷ qs) t u m n (more_answers text texts met all_met a more) (more_answers other others same all_same b rest) =
+      let first = one_answer P cs c q text other met same a b in
+      both text other texts others met same all_met all_same first
+      (answers-one P cs (counts_behind q same c) qs texts others all_met all_same
+      (subst (λ (x : Bool). AreAnswers P cs (counts_behind q x c) qs texts all_met) first.met more) rest)
 
   -- data write one text at most
-  pub writes-one : (ds : List Sexp) → OnceWritten (Writes ds)
-  writes-one ds t u m n a b =
+  pub writes-one : (ds : List Sexp) (cs : List ℕ) → OnceWritten (Writes ds cs)
+  writes-one ds cs t u m n a b =
       let s = accepts-one (known_before ds) ds _ _ a.queries b.queries a.accepted b.accepted in
       let e : a.program ≡ b.program = ap (λ (K : Known). K.program) s.known in
-      answers-one b.program b.queries t u m n
-      (subst (λ (qs : List Query). AreAnswers b.program qs t m) s.queries (subst (λ (P : Program). AreAnswers P a.queries t m) e a.answers)) b.answers
+      answers-one b.program cs no_tests b.queries t u m n
+      (subst (λ (qs : List Query). AreAnswers b.program cs no_tests qs t m) s.queries
+      (subst (λ (P : Program). AreAnswers P cs no_tests a.queries t m) e a.answers)) b.answers

@@ -31,7 +31,7 @@ use Rattle.rdx_query.specs.LanguageForms.{named_base, unknown_at, unknown_by}
 use Rattle.rdx_query.specs.MatchForms.{QueryParts, query_parts, query_shape_at, query_refusal, query_over, bad_query_at, query_escape_at}
 use Rattle.rdx_query.specs.Inside.Asking.{IsFit, IsAsked}
 use Rattle.rdx_query.specs.Inside.Earlier.{earlier, IsFaultAt, IsRefusedBy, IsFirstFault}
-use Rattle.rdx_query.proofs.CheckNumbers.{or_none, Checks, AreChecks, refused, merge, merged, merge-checks, unnamed-number, named-number}
+use Rattle.rdx_query.proofs.CheckNumbers.{or_none, one-behind, Checks, AreChecks, refused, merge, merged, merge-checks, unnamed-number, named-number}
 use Rattle.rdx_query.proofs.LanguageChecks.{unknown-number}
 use Rattle.rdx_query.proofs.FormParts.{unbuilt_at-built, query-items, parts-readable, parts-built}
 use Rattle.rdx_query.proofs.HostChecks.{host_checks, host-checks, host-refusal, host-refused}
@@ -73,13 +73,6 @@ pub pattern-refused : (ns : List (List ℕ)) (p : Sexp) (x : Result CheckedPat D
 pattern-refused ns p (Ok c) a = a.0
 pattern-refused ns p (Err (Refused r)) a = a
 pattern-refused ns p (Err NoMemory) a = tt
-
--- ---- chains
-
--- two refusals come before others as one behind the other
-one-behind : (o p q : Option Refusal) → or_else (or_else o p) q ≡ or_else o (or_else p q)
-one-behind None p q = refl
-one-behind (Some r) p q = refl
 
 -- ---- the checks of a query that has its shape
 

@@ -25,17 +25,24 @@ use Rattle.rdx_eval.proofs.SomeAnswer.{some-then, some-gather, some-single, some
 use Rattle.rdx_reduce.specs.Laws.{SomeStepping}
 use Rattle.rdx_reduce.specs.Relations.{StepsOver, AreSteps}
 use Rattle.rdx_reduce.specs.Steps.{Step}
-use Rattle.rdx_query.specs.AnswerText.{answers_text, holds_text, value_line, matches_text, whether_text, splits_text, reducts_text, steps_text, fault_line}
-use Rattle.rdx_query.specs.Answering.{HostValue, Over, over_value, over_fault, IsValueAnswer, IsAnswer, AreAnswers, no_answers, more_answers}
+use Rattle.rdx_query.specs.AnswerText.{answers_text, holds_text, value_line, matches_text, whether_text, splits_text, reducts_text, steps_text, fault_line, branches_line, bound_line}
+use Rattle.rdx_run.specs.Laws.{SomeRun, SomeWalk}
+use Rattle.rdx_run.specs.Runs as run
+use Rattle.rdx_run.specs.Runs.{RunEnd, most_steps}
+use Rattle.rdx_query.specs.Answering.{HostValue, HostValues, Over, over_value, over_fault, OverEach, over_values, over_first_fault, IsValueAnswer, IsAnswer, AreAnswers, no_answers, more_answers, counts_behind}
 use Rattle.rdx_query.specs.File.{known_before}
 use Rattle.rdx_query.specs.HoldsAnswers.{FindsMet, WritesWhether, whether_found, not_found, ValuesOf, values_of, no_bindings, WritesValues, values_found, no_values, IsPremiseAnswer}
 use Rattle.rdx_query.specs.Laws.{AreAccepted, AreRefused, DoWrite}
 use Rattle.rdx_query.specs.MatchAnswers.{Finds, FindsSplits, IsMatchesAnswer, IsWhetherAnswer, IsSplitsAnswer}
-use Rattle.rdx_query.specs.Queries.{Query, matches, whether, splits, value, holds, reducts, tagged, NamesKnown, KnowsJudgement, KnowsRelation}
+use Rattle.rdx_query.specs.Queries.{Query, matches, whether, splits, value, holds, reducts, tagged, stepper, test_equal, test_step, test_run, test_match, test_holds, test_results, NamesKnown, KnowsJudgement, KnowsRelation}
 use Rattle.rdx_query.specs.StepAnswers.{reducts_in, named_steps, AreReducts, WritesReducts, reducts_found, no_reducts, WritesSteps, steps_found, no_steps, IsReductsAnswer, IsTaggedAnswer}
+use Rattle.rdx_query.specs.StepperAnswers.{walk_text, is_done, IsStepperAnswer}
+use Rattle.rdx_query.specs.TestAnswers.{ComparesSteps, steps_compared, no_steps as no_steps_compared, ComparesEnd, rest_compared, run_fails, run_branches, run_is_bound, IsStepTestAnswer, IsRunTestAnswer, IsMatchTestAnswer, WritesVerdict, verdict_found, not_found as no_verdict, IsHoldsTestAnswer}
+use Rattle.rdx_query.specs.Tests.{Compares, Counts, no_tests, verdict_line, as_wanted, results_line}
 use Rattle.rdx_query.specs.Views.{AllNamesKnown}
 use Rattle.rdx_query.proofs.AcceptedOrRefused.{accepted_or_refused}
 use Rattle.rdx_query.proofs.AskedNames.{fit-before, can_answer}
+use Rattle.rdx_query.proofs.Compared.{compares-some}
 use Rattle.rdx_query.proofs.FoundByName.{language-among}
 
 -- the bindings that are found
@@ -84,11 +91,31 @@ write-found_values : (a : Answer (List Tree)) → DoesWrite (WritesValues a)
 write-found_values (evaluation.value ts) = record { text = answers_text ts; met = true; written = values_found refl refl }
 write-found_values (fault f) = record { text = fault_line f; met = false; written = no_values refl refl }
 
+-- ---- what is written of tests
+
+write-compared : (found wanted : List Tree) → DoesWrite (Compares found wanted)
+write-compared found wanted = let s = compares-some found wanted in record { text = s.text; met = s.met; written = s.written }
+
+write-compared_steps : (wanted : List Tree) (a : Answer (List Step)) → DoesWrite (ComparesSteps wanted a)
+write-compared_steps wanted (evaluation.value ss) =
+    let w = write-compared (reducts_in ss) wanted in record { text = w.text; met = w.met; written = steps_compared w.written }
+write-compared_steps wanted (fault f) = record { text = fault_line f; met = false; written = no_steps_compared refl refl }
+
+write-compared_end : (wanted : List Tree) (e : RunEnd) → DoesWrite (ComparesEnd wanted e)
+write-compared_end wanted (run.rests t) = let w = write-compared (t ∷ []) wanted in record { text = w.text; met = w.met; written = rest_compared w.written }
+write-compared_end wanted (run.fails f) = record { text = fault_line f; met = false; written = run_fails refl refl }
+write-compared_end wanted (run.branches t) = record { text = branches_line t; met = false; written = run_branches refl refl }
+write-compared_end wanted run.is_bound = record { text = bound_line; met = false; written = run_is_bound refl refl }
+
+write-verdict : (a : Answer (List Binding)) → DoesWrite (WritesVerdict a)
+write-verdict (evaluation.value bs) = record { text = verdict_line (judging.are_some bs); met = judging.are_some bs; written = verdict_found refl refl }
+write-verdict (fault f) = record { text = fault_line f; met = false; written = no_verdict refl refl }
+
 -- ---- where each language is free of left recursion or has a first recursive nonterminal, patterns have their listings where it is free, and
 -- rules the listings of their steps; and templates make something
 
 module _ (decided : FreeOrRecursive) (some : SomeListing) (some_splits : SomeSplitsListing) (some_term : SomeTerm)
-    (some_meeting : SomeMeeting) (some_stepping : SomeStepping) where
+    (some_meeting : SomeMeeting) (some_stepping : SomeStepping) (some_walk : SomeWalk) (some_run : SomeRun) where
   -- bindings are found
   are_found : (P : Program) (name : List ℕ) (p : Pattern) (t : Tree) → AreFree P → (o : Option Language) → language_named P name ≡ o → IsSome o → AreFound P name p t
   are_found P name p t f None e n = absurd cc
@@ -171,6 +198,45 @@ module _ (decided : FreeOrRecursive) (some : SomeListing) (some_splits : SomeSpl
       let w = write-steps n.relation.rules s.answer in
       record { text = w.text; met = w.met; written = record { relation = n.relation; known = n.named; answer = s.answer; steps = s.allowed; written = w.written } }
 
+  write-by-walk : (P : Program) (name : List ℕ) (cs : List ℕ) → AreFree P → KnowsRelation P name → (t : Tree) → DoesWrite (IsStepperAnswer P name cs t)
+  write-by-walk P name cs f n t =
+      let w = some_walk P n.relation f n.language t cs in
+      record {
+        text = walk_text n.relation.rules w.walk;
+        met = is_done w.walk.end;
+        written = record { relation = n.relation; known = n.named; walk = w.walk; walks = w.walks; printed = refl; is_met = refl };
+      }
+
+  -- ---- the answers to tests over terms
+
+  write-step-test : (P : Program) (name : List ℕ) → AreFree P → KnowsRelation P name → (t : Tree) (wanted : List Tree) → DoesWrite (IsStepTestAnswer P name t wanted)
+  write-step-test P name f n t wanted =
+      let s = are_steps P n.relation t f (language_named P n.relation.language) refl n.language in
+      let w = write-compared_steps wanted s.answer in
+      record { text = w.text; met = w.met; written = record { relation = n.relation; known = n.named; answer = s.answer; steps = s.allowed; written = w.written } }
+
+  write-run-test : (P : Program) (name : List ℕ) → AreFree P → KnowsRelation P name → (t : Tree) (wanted : List Tree) → DoesWrite (IsRunTestAnswer P name t wanted)
+  write-run-test P name f n t wanted =
+      let e = some_run P n.relation f n.language most_steps t in
+      let w = write-compared_end wanted e.end in
+      record { text = w.text; met = w.met; written = record { relation = n.relation; known = n.named; end = e.end; runs = e.runs; written = w.written } }
+
+  write-match-test : (P : Program) (name : List ℕ) (p : Pattern) (wanted : Bool) → AreFree P → IsSome (language_named P name) → (t : Tree)
+      → DoesWrite (IsMatchTestAnswer P name p wanted t)
+  write-match-test P name p wanted f n t =
+      let b = are_found P name p t f (language_named P name) refl n in
+      record {
+        text = verdict_line (as_wanted wanted (judging.are_some b.found));
+        met = as_wanted wanted (judging.are_some b.found);
+        written = record { found = b.found; finds = b.finds; printed = refl; is_met = refl };
+      }
+
+  write-holds-test : (P : Program) (q : Premise) → AreFree P → KnowsJudgement P q.judgement → DoesWrite (IsHoldsTestAnswer P q)
+  write-holds-test P q f n =
+      let s = are_met P q f n (language_named P n.judgement.language) refl n.language in
+      let w = write-verdict s.answer in
+      record { text = w.text; met = w.met; written = record { found = s.answer; finds = s.allowed; written = w.written } }
+
   -- ---- queries
 
   -- a host expression makes a term, or has a fault
@@ -185,31 +251,53 @@ module _ (decided : FreeOrRecursive) (some : SomeListing) (some_splits : SomeSpl
       by_answer (evaluation.value t) v = let w = f t in record { text = w.text; met = w.met; written = over_value t v w.written }
       by_answer (fault p) v = record { text = fault_line p; met = false; written = over_fault p v refl refl }
 
+  -- several make terms, or one has the first fault
+  some-hosts : (P : Program) (hs : List Host) → AreFree P → HasAnswer (HostValues P hs)
+  some-hosts P hs f = some-gather (λ h. Single (HostValue P h)) (λ h. some-single (HostValue P h) (some-host P h f)) hs
+
+  write-each : (P : Program) (hs : List Host) (W : List Tree → List ℕ → Bool → Type 0) → AreFree P → ((ts : List Tree) → DoesWrite (W ts)) → DoesWrite (OverEach P hs W)
+  write-each P hs W free f = let s = some-hosts P hs free in by_answer s.answer s.allowed
+    where
+      by_answer : (a : Answer (List Tree)) → HostValues P hs a → DoesWrite (OverEach P hs W)
+      by_answer (evaluation.value ts) v = let w = f ts in record { text = w.text; met = w.met; written = over_values ts v w.written }
+      by_answer (fault p) v = record { text = fault_line p; met = false; written = over_first_fault p v refl refl }
+
   -- a query has an answer
-  has_answer : (P : Program) (q : Query) → AreFree P → NamesKnown P q → DoesWrite (IsAnswer P q)
-  has_answer P (matches name p h) f n = write-over P h (IsMatchesAnswer P name p) f (write-matches P name p f n)
-  has_answer P (whether name p h) f n = write-over P h (IsWhetherAnswer P name p) f (write-whether P name p f n)
-  has_answer P (splits name p h) f n = write-over P h (IsSplitsAnswer P name p) f (write-splits P name p f n)
-  has_answer P (value h) f n = write-over P h IsValueAnswer f write-value
-  has_answer P (holds q t) f n = write-premise P q t f n
-  has_answer P (reducts name h) f n = write-over P h (IsReductsAnswer P name) f (write-by-reducts P name f n)
-  has_answer P (tagged name h) f n = write-over P h (IsTaggedAnswer P name) f (write-by-steps P name f n)
+  has_answer : (P : Program) (cs : List ℕ) (c : Counts) (q : Query) → AreFree P → NamesKnown P q → DoesWrite (IsAnswer P cs c q)
+  has_answer P cs c (matches name p h) f n = write-over P h (IsMatchesAnswer P name p) f (write-matches P name p f n)
+  has_answer P cs c (whether name p h) f n = write-over P h (IsWhetherAnswer P name p) f (write-whether P name p f n)
+  has_answer P cs c (splits name p h) f n = write-over P h (IsSplitsAnswer P name p) f (write-splits P name p f n)
+  has_answer P cs c (value h) f n = write-over P h IsValueAnswer f write-value
+  has_answer P cs c (holds q t) f n = write-premise P q t f n
+  has_answer P cs c (reducts name h) f n = write-over P h (IsReductsAnswer P name) f (write-by-reducts P name f n)
+  has_answer P cs c (tagged name h) f n = write-over P h (IsTaggedAnswer P name) f (write-by-steps P name f n)
+  has_answer P cs c (stepper name h) f n = write-over P h (IsStepperAnswer P name cs) f (write-by-walk P name cs f n)
+  has_answer P cs c (test_equal h k) f n =
+      write-over P h (λ t. Over P k (λ u. Compares (t ∷ []) (u ∷ []))) f
+      (λ t. write-over P k (λ u. Compares (t ∷ []) (u ∷ [])) f (λ u. write-compared (t ∷ []) (u ∷ [])))
+  has_answer P cs c (test_step name h ks) f n =
+      write-over P h (λ t. OverEach P ks (IsStepTestAnswer P name t)) f (λ t. write-each P ks (IsStepTestAnswer P name t) f (write-step-test P name f n t))
+  has_answer P cs c (test_run name h ks) f n =
+      write-over P h (λ t. OverEach P ks (IsRunTestAnswer P name t)) f (λ t. write-each P ks (IsRunTestAnswer P name t) f (write-run-test P name f n t))
+  has_answer P cs c (test_match name p h wanted) f n = write-over P h (IsMatchTestAnswer P name p wanted) f (write-match-test P name p wanted f n)
+  has_answer P cs c (test_holds q) f n = write-holds-test P q f n
+  has_answer P cs c test_results f n = record { text = results_line c; met = true; written = record { printed = refl; is_met = refl } }
 
   -- queries have answers
-  have_answers : (P : Program) (qs : List Query) → AreFree P → AllNamesKnown P qs → DoesWrite (AreAnswers P qs)
-  have_answers P [] f n = record { text = []; met = true; written = no_answers }
-  have_answers P (q ∷ qs) f n =
-      let a = has_answer P q f n.0 in
-      let more = have_answers P qs f n.1 in
+  have_answers : (P : Program) (cs : List ℕ) (c : Counts) (qs : List Query) → AreFree P → AllNamesKnown P qs → DoesWrite (AreAnswers P cs c qs)
+  have_answers P cs c [] f n = record { text = []; met = true; written = no_answers }
+  have_answers P cs c (q ∷ qs) f n =
+      let a = has_answer P cs c q f n.0 in
+      let more = have_answers P cs (counts_behind q a.met c) qs f n.1 in
       record { text = a.text ++ more.text; met = a.met && more.met; written = more_answers a.text more.text a.met more.met a.written more.written }
 
   -- what is accepted writes some text
-  writes : (ds : List Sexp) → AreAccepted ds → DoWrite ds
-  writes ds a =
+  writes : (ds : List Sexp) (cs : List ℕ) → AreAccepted ds → DoWrite ds cs
+  writes ds cs a =
       let c = can_answer (known_before ds) ds _ a.queries (fit-before ds) a.accepted in
-      let h = have_answers a.program a.queries c.fit.free c.named in
+      let h = have_answers a.program cs no_tests a.queries c.fit.free c.named in
       record { text = h.text; met = h.met; written = record { program = a.program; queries = a.queries; accepted = a.accepted; answers = h.written } }
 
   -- data write some text, or are refused
-  pub some_text_or_refusal : (ds : List Sexp) → DoWrite ds ⊎ AreRefused ds
-  some_text_or_refusal ds = elim (accepted_or_refused decided ds) [ inl a ↦ inl (writes ds a) | inr r ↦ inr r ]
+  pub some_text_or_refusal : (ds : List Sexp) (cs : List ℕ) → DoWrite ds cs ⊎ AreRefused ds
+  some_text_or_refusal ds cs = elim (accepted_or_refused decided ds) [ inl a ↦ inl (writes ds cs a) | inr r ↦ inr r ]

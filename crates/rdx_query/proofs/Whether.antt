@@ -1,5 +1,6 @@
 -- Whether a pattern matches a term, where it is asked for as a closed one.
-use Rattle.std.proofs.Common.{◌≡◌, Bool, List, [], ◌∷◌, refl, ◌∙◌}
+use Rattle.std.proofs.Common.{◌≡◌, Bool, true, false, List, [], ◌∷◌, refl, ◌∙◌}
+use Rattle.std.proofs.Math.Bool.{beq}
 use Rattle.rdx_term.specs.Tree.{Tree}
 use Rattle.rdx_lang.proofs.RuleSteps.{closed_inside}
 use Rattle.rdx_lang.specs.Bindings.{Binding, no_names}
@@ -9,7 +10,9 @@ use Rattle.rdx_lang.specs.Listing.{Matches}
 use Rattle.rdx_lang.specs.Members.{In, here}
 use Rattle.rdx_lang.specs.Patterns.{Pattern, Language, closed}
 use Rattle.rdx_lang.specs.Rules.{match_closed}
-use Rattle.rdx_query.specs.Inside.Whether.{are_some, TellsWhether}
+use Rattle.rdx_eval.specs.Judgements.{are_some}
+use Rattle.rdx_query.specs.Inside.Whether.{TellsWhether}
+use Rattle.rdx_query.specs.Tests.{as_wanted}
 
 -- a list without members has none
 none_in : (b : Binding) → In b [] → ⊥
@@ -29,3 +32,10 @@ pub whether_closed : SomeListing → (L : Language) (p : Pattern) (t : Tree) (b 
 whether_closed some L p t b free h =
     let l = some L free p t in
     record { found = l.found; listing = l.listing; told = h.told ∙ some_as_closed L p t l.found h.found l.listing h.listing }
+
+-- it is as it was wanted where it is the same as what was wanted
+pub wanted_same : (b wanted : Bool) → beq b wanted ≡ as_wanted wanted b
+wanted_same true true = refl
+wanted_same true false = refl
+wanted_same false true = refl
+wanted_same false false = refl

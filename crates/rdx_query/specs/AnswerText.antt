@@ -156,3 +156,16 @@ fault_name (divide_by_zero op ts) = codes "DivideByZero " ++ call_text (operatio
 -- the line of a fault
 abbrev pub fault_line : Fault → List ℕ
 fault_line f = codes "fault " ++ fault_name f ++ codes "\n"
+
+-- ---- faults of walks and runs
+
+-- `fault NoSuchReduct I of N`: a choice by which there is no step
+abbrev pub no_such_reduct_line : ℕ → ℕ → List ℕ
+no_such_reduct_line i n = codes "fault NoSuchReduct " ++ decimal i ++ codes " of " ++ decimal n ++ codes "\n"
+
+-- `fault Branches t`, `fault RunBound 10000`: why a run rests in no term
+abbrev pub branches_line : Tree → List ℕ
+branches_line t = codes "fault Branches " ++ tree_text t ++ codes "\n"
+
+abbrev pub bound_line : List ℕ
+bound_line = codes "fault RunBound 10000\n"

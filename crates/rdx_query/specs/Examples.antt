@@ -1,5 +1,5 @@
 -- Worked examples: short files, with the text that they write or their refusal. They are proved, as the clauses of `laws::worked_examples`.
-use Rattle.std.specs.Prelude.{◌≡◌, ℕ, true, false, pos, List, [], ◌∷◌, Option, Some, None, codes}
+use Rattle.std.specs.Prelude.{◌≡◌, ℕ, Bool, true, false, pos, List, [], ◌∷◌, Option, Some, None, codes}
 use Rattle.rdx_base.specs.declared.place.Span.{Span}
 use Rattle.rdx_sexp.specs.Sexp.{Sexp, symbol, integer, text, keyword, leaf, list, sexps}
 use Rattle.rdx_term.specs.Tree as tree
@@ -10,6 +10,10 @@ use Rattle.rdx_grammar.specs.declared.shape.fault.DefKind.TheVariants.{Shape, Ra
 use Rattle.rdx_query.specs.AnswerText.{value_text, pair_text}
 use Rattle.rdx_query.specs.Answering.{Writes}
 use Rattle.rdx_query.specs.File.{IsFileRefusal}
+
+-- what the data of a file write where it is only run
+abbrev pub WritesRun : List Sexp → List ℕ → Bool → Type 0
+WritesRun ds written met = Writes ds [] written met
 
 -- ---- data with this span
 
@@ -87,48 +91,48 @@ defines_J s is rs = form s (word s (codes "define-judgment-form") ∷ word s (co
 -- writes these four lines.
 abbrev pub AnswersInOrder : Type 0
 AnswersInOrder = (s : Span) →
-    Writes (defines_L s ∷ asks s (word s (codes "L")) (form s (word s (codes "any_y") ∷ word s (codes "any_x") ∷ [])) (form s (number s 1 ∷ number s 2 ∷ []))
+    WritesRun (defines_L s ∷ asks s (word s (codes "L")) (form s (word s (codes "any_y") ∷ word s (codes "any_x") ∷ [])) (form s (number s 1 ∷ number s 2 ∷ []))
     ∷ asks s (word s (codes "L")) (number s 1) (number s 1) ∷ [])
     (codes "match 1\n  any_x = 2, any_y = 1\nmatch 1\n  -\n") true
 
 -- A file with its whole answer: `(define-language L (e 1)) (redex-match? L e (term 1)) (redex-match? L e (term 2))`.
 abbrev pub WholeAnswer : Type 0
-WholeAnswer = (s : Span) → Writes (defines_L s ∷ asks_e s (codes "L") 1 ∷ asks_e s (codes "L") 2 ∷ []) (codes "matches #t\nmatches #f\n") true
+WholeAnswer = (s : Span) → WritesRun (defines_L s ∷ asks_e s (codes "L") 1 ∷ asks_e s (codes "L") 2 ∷ []) (codes "matches #t\nmatches #f\n") true
 
 -- At `....` stand the alternatives of the language that is extended: `(define-language L (e 1)) (define-extended-language M L (e ....))
 -- (redex-match? M e (term 1))`.
 abbrev pub Inherited : Type 0
-Inherited = (s : Span) → Writes (defines_L s ∷ extends s (word s (codes "L")) ∷ asks_e s (codes "M") 1 ∷ []) (codes "matches #t\n") true
+Inherited = (s : Span) → WritesRun (defines_L s ∷ extends s (word s (codes "L")) ∷ asks_e s (codes "M") 1 ∷ []) (codes "matches #t\n") true
 
 -- A split has its context, with the path of its own hole, and the part that stands there. The other hole is the term's own. So
 -- `(define-language L (e 1)) (redex-decompose L (hole any) (term (1 hole)))` writes these two lines.
 abbrev pub OneSplit : Type 0
 OneSplit = (s : Span) →
-    Writes (defines_L s ∷ decomposes s (word s (codes "L")) (form s (word s (codes "hole") ∷ word s (codes "any") ∷ [])) (form s (number s 1 ∷ word s (codes "hole") ∷ [])) ∷ [])
+    WritesRun (defines_L s ∷ decomposes s (word s (codes "L")) (form s (word s (codes "hole") ∷ word s (codes "any") ∷ [])) (form s (number s 1 ∷ word s (codes "hole") ∷ [])) ∷ [])
     (codes "splits 1\n  (hole hole) at [0] is 1 with any = hole\n") true
 
 -- A host expression is a template, which is filled where it has to be: `(term (in-hole (1 hole) 2))`.
 abbrev pub FilledTerm : Type 0
 FilledTerm = (s : Span) →
-    Writes (asks_term s (fills s (form s (number s 1 ∷ word s (codes "hole") ∷ [])) (number s 2)) ∷ []) (codes "value (1 2)\n") true
+    WritesRun (asks_term s (fills s (form s (number s 1 ∷ word s (codes "hole") ∷ [])) (number s 2)) ∷ []) (codes "value (1 2)\n") true
 
 -- A fault is an answer, by which something stays unmet, and the queries behind it are answered: `(term (in-hole 1 2)) (term 1)`.
 abbrev pub FaultAnswered : Type 0
 FaultAnswered = (s : Span) →
-    Writes (asks_term s (fills s (number s 1) (number s 2)) ∷ asks_term s (number s 1) ∷ []) (codes "fault NotContext 0\nvalue 1\n") false
+    WritesRun (asks_term s (fills s (number s 1) (number s 2)) ∷ asks_term s (number s 1) ∷ []) (codes "fault NotContext 0\nvalue 1\n") false
 
 -- Where two rules lead to one term, that is one reduct and two steps: `(define-language L (e 1)) (define R (reduction-relation L (--> 1 2 a)
 -- (--> 1 2 "b c"))) (apply-reduction-relation R (term 1)) (apply-reduction-relation/tag-with-names R (term 1))`.
 abbrev pub OneReductTwoSteps : Type 0
 OneReductTwoSteps = (s : Span) →
-    Writes (defines_L s ∷ defines_R s ∷ applies_R s (codes "apply-reduction-relation") ∷ applies_R s (codes "apply-reduction-relation/tag-with-names") ∷ [])
+    WritesRun (defines_L s ∷ defines_R s ∷ applies_R s (codes "apply-reduction-relation") ∷ applies_R s (codes "apply-reduction-relation/tag-with-names") ∷ [])
     (codes "reducts 1\n  2\nsteps 2\n  a 2\n  \"b c\" 2\n") true
 
 -- A premise is met where its judgement has outputs for the inputs, also outputs of no terms: `(define-language L (e 1)) (define-judgment-form L
 -- #:mode (J I) [(J 1)]) (judgment-holds (J 1))`.
 abbrev pub PremiseMet : Type 0
 PremiseMet = (s : Span) →
-    Writes
+    WritesRun
     (defines_L s
     ∷ defines_J s (word s (codes "I") ∷ []) (form s (about_J s (number s 1 ∷ []) ∷ []) ∷ [])
     ∷ form s (word s (codes "judgment-holds") ∷ about_J s (number s 1 ∷ []) ∷ []) ∷ [])
@@ -139,7 +143,7 @@ PremiseMet = (s : Span) →
 abbrev pub OutputsListed : Type 0
 OutputsListed = (s : Span) →
     let rule : ℕ → Sexp = λ n. form s (about_J s (number s 1 ∷ number s n ∷ []) ∷ []) in
-    Writes
+    WritesRun
     (defines_L s
     ∷ defines_J s (word s (codes "I") ∷ word s (codes "O") ∷ []) (rule 3 ∷ rule 2 ∷ [])
     ∷ form s (word s (codes "judgment-holds") ∷ about_J s (number s 1 ∷ word s (codes "any") ∷ []) ∷ word s (codes "any") ∷ []) ∷ [])
@@ -212,11 +216,11 @@ OtherForm = (s : Span) →
     IsFileRefusal (other ∷ []) (unnamed RacketEscape other)
 
 abbrev pub Sum : Type 0
-Sum = (s : Span) → Writes (form s (word s (codes "+") ∷ number s 1 ∷ number s 2 ∷ []) ∷ []) (codes "value 3\n") true
+Sum = (s : Span) → WritesRun (form s (word s (codes "+") ∷ number s 1 ∷ number s 2 ∷ []) ∷ []) (codes "value 3\n") true
 
 -- What is wanted of Redex is passed over, and other modules are refused: `(require redex)` writes nothing, `(require redex math)` is refused at math.
 abbrev pub Wanted : Type 0
-Wanted = (s : Span) → Writes (form s (word s (codes "require") ∷ word s (codes "redex") ∷ []) ∷ []) [] true
+Wanted = (s : Span) → WritesRun (form s (word s (codes "require") ∷ word s (codes "redex") ∷ []) ∷ []) [] true
 
 abbrev pub OtherModule : Type 0
 OtherModule = (s m : Span) →
@@ -226,7 +230,7 @@ OtherModule = (s m : Span) →
 -- A metafunction is known before its form: of `(term (f 1)) (define-language L (e 1)) (define-metafunction L [(f 1) 2])` the text is `value 2`.
 abbrev pub KnownBefore : Type 0
 KnownBefore = (s : Span) →
-    Writes
+    WritesRun
     (asks_term s (form s (word s (codes "f") ∷ number s 1 ∷ []))
     ∷ defines_L s
     ∷ form s (word s (codes "define-metafunction") ∷ word s (codes "L")

@@ -13,7 +13,7 @@ pub data DefinitionKind : Type 0 where
 
 -- what a form asks: the bindings by which a pattern matches a term, whether there are some, or what the pattern splits the term into; what a
 -- host expression makes; whether a premise is met, or what a template makes of the bindings that meet it; the terms to which a relation leads from
--- a term, or the steps with the names of their rules
+-- a term, the steps with the names of their rules, or a walk of them; and the kinds of tests, with how many of them passed and failed
 pub data QueryKind : Type 0 where
   matches : QueryKind
   whether : QueryKind
@@ -22,6 +22,14 @@ pub data QueryKind : Type 0 where
   holds : QueryKind
   reducts : QueryKind
   tagged : QueryKind
+  stepper : QueryKind
+  test_equal : QueryKind
+  test_step : QueryKind
+  test_run : QueryKind
+  test_match : QueryKind
+  test_no_match : QueryKind
+  test_holds : QueryKind
+  test_results : QueryKind
 
 -- what is passed over: the modules that a file wants, and what it offers
 pub data PassedKind : Type 0 where
@@ -50,16 +58,16 @@ heads =
     ∷ (codes "judgment-holds", asks holds)
     ∷ (codes "apply-reduction-relation", asks reducts)
     ∷ (codes "apply-reduction-relation/tag-with-names", asks tagged)
+    ∷ (codes "stepper", asks stepper)
+    ∷ (codes "test-equal", asks test_equal)
+    ∷ (codes "test-->", asks test_step)
+    ∷ (codes "test-->>", asks test_run)
+    ∷ (codes "test-match", asks test_match)
+    ∷ (codes "test-no-match", asks test_no_match)
+    ∷ (codes "test-judgment-holds", asks test_holds)
+    ∷ (codes "test-results", asks test_results)
     ∷ (codes "require", passes wants)
     ∷ (codes "provide", passes offers)
-    ∷ (codes "stepper", to_come)
-    ∷ (codes "test-equal", to_come)
-    ∷ (codes "test-->", to_come)
-    ∷ (codes "test-->>", to_come)
-    ∷ (codes "test-match", to_come)
-    ∷ (codes "test-no-match", to_come)
-    ∷ (codes "test-judgment-holds", to_come)
-    ∷ (codes "test-results", to_come)
     ∷ (codes "generate-term", to_come)
     ∷ (codes "redex-check", to_come)
     ∷ (codes "alpha-equivalent?", to_come)

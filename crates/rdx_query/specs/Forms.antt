@@ -10,15 +10,16 @@ use Rattle.rdx_query.specs.DefineForms.{define_refusal, defined_relation}
 use Rattle.rdx_query.specs.FormKinds as kind
 use Rattle.rdx_query.specs.FormKinds.{DefinitionKind, QueryKind, PassedKind, FormKind, defines, asks, passes, to_come, form_kind}
 use Rattle.rdx_query.specs.Known.{Known}
-use Rattle.rdx_query.specs.HoldsForms.{holds_parts, holds_refusal, holds_query}
+use Rattle.rdx_query.specs.HoldsForms.{holds_parts, lone_parts, holds_refusal, holds_query, holds_test_query}
 use Rattle.rdx_query.specs.HostForms.{value_refusal, value_query}
 use Rattle.rdx_query.specs.JudgementForms.{define_judgement_refusal, defined_judgement}
 use Rattle.rdx_query.specs.LanguageForms.{plain_refusal, plain_language, extension_refusal, extended_language, language_escape}
 use Rattle.rdx_query.specs.MatchForms.{query_parts, query_refusal, match_query}
 use Rattle.rdx_query.specs.MetafunctionForms.{function_refusal, defined_function}
 use Rattle.rdx_query.specs.PassedForms.{wants_refusal, offers_refusal}
-use Rattle.rdx_query.specs.Queries.{Query, matches, whether, splits, reducts, tagged}
+use Rattle.rdx_query.specs.Queries.{Query, matches, whether, splits, reducts, tagged, stepper, test_step, test_run, test_match, test_results}
 use Rattle.rdx_query.specs.StepForms.{step_parts, steps_refusal, steps_query}
+use Rattle.rdx_query.specs.TestForms.{equal_parts, leading_parts, equal_refusal, leading_refusal, equal_query, leading_query, results_refusal}
 
 -- ---- definitions: a case for each kind
 
@@ -57,6 +58,14 @@ question_refusal K d kind.value = value_refusal K d
 question_refusal K d kind.holds = holds_refusal K d (holds_parts d)
 question_refusal K d kind.reducts = steps_refusal K d (step_parts d)
 question_refusal K d kind.tagged = steps_refusal K d (step_parts d)
+question_refusal K d kind.stepper = steps_refusal K d (step_parts d)
+question_refusal K d kind.test_equal = equal_refusal K d (equal_parts d)
+question_refusal K d kind.test_step = leading_refusal K d (leading_parts d)
+question_refusal K d kind.test_run = leading_refusal K d (leading_parts d)
+question_refusal K d kind.test_match = query_refusal K d (query_parts d)
+question_refusal K d kind.test_no_match = query_refusal K d (query_parts d)
+question_refusal K d kind.test_holds = holds_refusal K d (lone_parts d)
+question_refusal K d kind.test_results = results_refusal d
 
 -- the query that it asks, if it has the parts
 abbrev pub asked_query : Known → Sexp → QueryKind → Option Query
@@ -67,6 +76,14 @@ asked_query K d kind.value = Some (value_query K d)
 asked_query K d kind.holds = holds_query K d
 asked_query K d kind.reducts = steps_query K reducts d
 asked_query K d kind.tagged = steps_query K tagged d
+asked_query K d kind.stepper = steps_query K stepper d
+asked_query K d kind.test_equal = equal_query K d
+asked_query K d kind.test_step = leading_query K test_step d
+asked_query K d kind.test_run = leading_query K test_run d
+asked_query K d kind.test_match = match_query K (λ name p h. test_match name p h true) d
+asked_query K d kind.test_no_match = match_query K (λ name p h. test_match name p h false) d
+asked_query K d kind.test_holds = holds_test_query K d
+asked_query K d kind.test_results = Some test_results
 
 -- ---- forms that are passed over
 

@@ -1,9 +1,9 @@
 -- Forms that ask whether a premise is met, `(judgment-holds (J d ...))`, or what a template makes of the bindings that meet it,
--- `(judgment-holds (J d ...) t)`: when they are refused, and what they ask else. The patterns of the premise are in the language of its judgement.
+-- `(judgment-holds (J d ...) t)`, and tests that it is met, `(test-judgment-holds (J d ...))`: when they are refused, and what they ask else. The patterns of the premise are in the language of its judgement.
 use Rattle.std.specs.Prelude.{ℕ, List, [], ◌∷◌, Option, Some, None, option_map}
 use Rattle.rdx_sexp.specs.Sexp.{Sexp}
 use Rattle.rdx_lang.specs.Patterns.{Language}
-use Rattle.rdx_lang.specs.Programs.{language_named}
+use Rattle.rdx_lang.specs.Programs.{Premise, language_named}
 use Rattle.rdx_grammar.specs.Languages.{empty_language}
 use Rattle.rdx_grammar.specs.Nonterminals.{names_of}
 use Rattle.rdx_grammar.specs.Parts.{parts, text_of}
@@ -17,7 +17,7 @@ use Rattle.rdx_defs.specs.StandChecks.{shape_at, bad_name_at, bad_place_at, dept
 use Rattle.rdx_defs.specs.Stands.{Stand, names_bound, bound_by_premise}
 use Rattle.rdx_defs.specs.TemplateReading.{template_reading}
 use Rattle.rdx_query.specs.Known.{Known, judgement_language, or_empty}
-use Rattle.rdx_query.specs.Queries.{Query, holds}
+use Rattle.rdx_query.specs.Queries.{Query, holds, test_holds}
 
 -- ---- the parts
 
@@ -35,6 +35,15 @@ holds_among o = None
 -- the parts of such a form, where it has two or three items
 abbrev pub holds_parts : Sexp → Option HoldsParts
 holds_parts d = holds_among (parts d)
+
+-- the parts of a list `(head d)` alone
+abbrev pub lone_among : Option (List Sexp) → Option HoldsParts
+lone_among (Some (h ∷ d ∷ [])) = Some (record { premise = d; result = None })
+lone_among o = None
+
+-- the parts of a test, where it has two items
+abbrev pub lone_parts : Sexp → Option HoldsParts
+lone_parts d = lone_among (parts d)
 
 -- ---- the language
 
@@ -95,11 +104,15 @@ holds_refusal K d (Some h) =
 
 -- ---- what is asked
 
+-- the premise with these parts
+abbrev pub asked_premise : Known → Headed → Premise
+asked_premise K q = premise_reading K.scope (asked_names K (Some q)) [] q
+
 -- the query of a premise with these parts, and of a template behind it
 abbrev pub holds_over : Known → Option Sexp → Headed → Query
 holds_over K t q =
     holds
-    (premise_reading K.scope (asked_names K (Some q)) [] q)
+    (asked_premise K q)
     (option_map (template_reading K.scope (names_bound (bound_by_premise K.scope (asked_names K (Some q)) (Some q)))) t)
 
 -- the query of a form with these parts, if the premise has its shape
@@ -110,3 +123,12 @@ holds_by K (Some h) = option_map (holds_over K h.result) (headed h.premise)
 -- the query that the form d asks, if it has the parts
 abbrev pub holds_query : Known → Sexp → Option Query
 holds_query K d = holds_by K (holds_parts d)
+
+-- the test of a premise with these parts, if it has its shape
+abbrev pub holds_test_by : Known → Option HoldsParts → Option Query
+holds_test_by K None = None
+holds_test_by K (Some h) = option_map (λ q. test_holds (asked_premise K q)) (headed h.premise)
+
+-- the test that the form d is, if it has the parts
+abbrev pub holds_test_query : Known → Sexp → Option Query
+holds_test_query K d = holds_test_by K (lone_parts d)

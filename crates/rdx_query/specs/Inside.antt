@@ -10,5 +10,7 @@ pub mod Steps
 pub mod Fitting
 pub mod Closing
 pub mod Appending
+pub mod Counting
+pub mod Comparing
 pub mod Contexts
 pub mod Whether

@@ -11,9 +11,9 @@ use Rattle.rdx_query.specs.Queries.{Query}
 abbrev pub OneMeaning : Type 0
 OneMeaning = (ds : List Sexp) (P Q : Program) (qs rs : List Query) → IsFile ds P qs → IsFile ds Q rs → (P ≡ Q) × (qs ≡ rs)
 
--- data write one text at most, and all that they state is met or not
+-- by the same choices data write one text at most, and all that they state is met or not
 abbrev pub OneText : Type 0
-OneText = (ds : List Sexp) (t u : List ℕ) (m n : Bool) → Writes ds t m → Writes ds u n → (t ≡ u) × (m ≡ n)
+OneText = (ds : List Sexp) (cs t u : List ℕ) (m n : Bool) → Writes ds cs t m → Writes ds cs u n → (t ≡ u) × (m ≡ n)
 
 -- data have one refusal at most
 abbrev pub OneRefusal : Type 0
@@ -25,7 +25,7 @@ NeverBothAcceptedAndRefused = (ds : List Sexp) (P : Program) (qs : List Query) (
 
 -- data that are refused write nothing
 abbrev pub NeverBothTextAndRefusal : Type 0
-NeverBothTextAndRefusal = (ds : List Sexp) (text : List ℕ) (met : Bool) (r : Refusal) → Writes ds text met → IsFileRefusal ds r → ⊥
+NeverBothTextAndRefusal = (ds : List Sexp) (cs text : List ℕ) (met : Bool) (r : Refusal) → Writes ds cs text met → IsFileRefusal ds r → ⊥
 
 -- the data are accepted
 pub record AreAccepted (ds : List Sexp) : Type 0 where
@@ -42,12 +42,12 @@ pub record AreRefused (ds : List Sexp) : Type 0 where
 abbrev pub NeverNeither : Type 0
 NeverNeither = (ds : List Sexp) → AreAccepted ds ⊎ AreRefused ds
 
--- the data write something
-pub record DoWrite (ds : List Sexp) : Type 0 where
+-- the data write something by these choices
+pub record DoWrite (ds : List Sexp) (cs : List ℕ) : Type 0 where
   pub text : List ℕ
   pub met : Bool
-  pub written : Writes ds text met
+  pub written : Writes ds cs text met
 
--- data write some text or are refused: each query that is accepted has an answer
+-- data write some text or are refused: each query that is accepted has an answer, whatever the choices
 abbrev pub SomeTextOrRefusal : Type 0
-SomeTextOrRefusal = (ds : List Sexp) → DoWrite ds ⊎ AreRefused ds
+SomeTextOrRefusal = (ds : List Sexp) (cs : List ℕ) → DoWrite ds cs ⊎ AreRefused ds

@@ -9,6 +9,7 @@ pub mod HostForms
 pub mod MatchForms
 pub mod HoldsForms
 pub mod StepForms
+pub mod TestForms
 pub mod RelationForms
 pub mod ClosureForms
 pub mod DefineForms
@@ -21,6 +22,9 @@ pub mod AnswerText
 pub mod MatchAnswers
 pub mod HoldsAnswers
 pub mod StepAnswers
+pub mod StepperAnswers
+pub mod Tests
+pub mod TestAnswers
 pub mod Answering
 pub mod Workload
 pub mod Views

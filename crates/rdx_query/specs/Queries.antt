@@ -1,11 +1,12 @@
 -- What a form can ask.
-use Rattle.std.specs.Prelude.{◌≡◌, ℕ, List, Option, Some, IsSome}
+use Rattle.std.specs.Prelude.{◌≡◌, ℕ, Bool, List, Option, Some, IsSome}
 use Rattle.rdx_lang.specs.Patterns.{Pattern}
 use Rattle.rdx_lang.specs.Programs.{Judgement, Premise, Program, Relation, language_named, judgement_named, relation_named}
 use Rattle.rdx_lang.specs.Templates.{Host, Template}
 
 -- a query, over what a host expression makes: in the language of a name, the bindings by which a pattern matches it, whether there are some, or
--- what the pattern splits it into; itself; or, by the relation of a name, the terms that it leads to, or the steps with the names of their rules
+-- what the pattern splits it into; itself; or, by the relation of a name, the terms that it leads to, the steps with the names of their rules, or the
+-- terms at which one comes by the choices with which a file is run
 pub data Query : Type 0 where
   matches : List ℕ → Pattern → Host → Query
   whether : List ℕ → Pattern → Host → Query
@@ -15,6 +16,16 @@ pub data Query : Type 0 where
   holds : Premise → Option Template → Query
   reducts : List ℕ → Host → Query
   tagged : List ℕ → Host → Query
+  stepper : List ℕ → Host → Query
+  -- a test: that two host expressions make the same; that the relation of a name leads from what one makes to what the others make, in one step, or
+  -- where the run from it ends; that a pattern matches what one makes, or that it does not; or that a premise is met
+  test_equal : Host → Host → Query
+  test_step : List ℕ → Host → List Host → Query
+  test_run : List ℕ → Host → List Host → Query
+  test_match : List ℕ → Pattern → Host → Bool → Query
+  test_holds : Premise → Query
+  -- how many tests passed since this was asked last, and how many failed
+  test_results : Query
 
 -- a relation of this name is known, and its language is
 pub record KnowsRelation (P : Program) (x : List ℕ) : Type 0 where
@@ -37,3 +48,10 @@ NamesKnown P (value h) = Unit {0}
 NamesKnown P (holds q t) = KnowsJudgement P q.judgement
 NamesKnown P (reducts name h) = KnowsRelation P name
 NamesKnown P (tagged name h) = KnowsRelation P name
+NamesKnown P (stepper name h) = KnowsRelation P name
+NamesKnown P (test_equal h k) = Unit {0}
+NamesKnown P (test_step name h ks) = KnowsRelation P name
+NamesKnown P (test_run name h ks) = KnowsRelation P name
+NamesKnown P (test_match name p h wanted) = IsSome (language_named P name)
+NamesKnown P (test_holds q) = KnowsJudgement P q.judgement
+NamesKnown P test_results = Unit {0}

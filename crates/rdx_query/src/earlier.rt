@@ -1,8 +1,8 @@
 // Which of two refusals is reported: the one by the check with the lesser number.
-ghost use Rattle.std.specs.Prelude.{◌≡◌};
-ghost use Rattle.rdx_grammar.specs.Refusal.{refusal_of};
+ghost use Rattle.std.specs.Prelude.{◌≡◌, Ok, Option, IfOk};
+ghost use Rattle.rdx_grammar.specs.Refusal.{Refusal, refusal_of};
 ghost use Rattle.rdx_query.specs.Inside.Earlier as model;
-ghost use Rattle.rdx_query.specs.Inside.Earlier.{IsFirstFault, IsUnless};
+ghost use Rattle.rdx_query.specs.Inside.Earlier.{IsFirstFault, IsRefusedBy, IsUnless};
 
 use rdx_grammar::{DefFault, DefKind, DefRefusal};
 
@@ -26,8 +26,8 @@ fn number(kind: DefKind) -> u32
     }
 }
 
-// Of two refusals the one by the check with the lesser number; the first, where both are by one.
-fn earlier(one: DefRefusal, other: DefRefusal) -> DefRefusal
+/// Of two refusals the one by the check with the lesser number; the first, where both are by one.
+pub(crate) fn earlier(one: DefRefusal, other: DefRefusal) -> DefRefusal
     ensures { refusal_of result ≡ model.earlier_of (refusal_of one) (refusal_of other) }
 {
     if number(other.kind) < number(one.kind) {
@@ -58,5 +58,21 @@ pub(crate) fn unless<T: Drop>(
     match own {
         Some(refusal) => Err(first_fault(refusal, read)),
         None => read,
+    }
+}
+
+/// Both of what was read, or the refusal of the two that is reported.
+pub(crate) fn both<T: Drop, U: Drop>(
+    one: Result<T, DefFault>,
+    other: Result<U, DefFault>,
+) -> Result<(T, U), DefFault>
+    ensures refused { (o p : Option Refusal) → IsRefusedBy o one → IsRefusedBy p other
+        → IsRefusedBy (model.earlier o p) result }
+    ensures read { IfOk result (λ r. (one ≡ Ok r.0) × (other ≡ Ok r.1)) }
+{
+    match one {
+        Ok(one) => Ok((one, other?)),
+        Err(DefFault::Refused(refusal)) => Err(first_fault(refusal, other)),
+        Err(DefFault::NoMemory) => Err(DefFault::NoMemory),
     }
 }

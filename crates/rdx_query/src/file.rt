@@ -31,6 +31,21 @@ pub enum Query {
     Reducts(Name, HostExpr),
     /// The steps that it takes from the term, each with the name of its rule.
     Tagged(Name, HostExpr),
+    /// The terms at which one comes from the term by the choices with which the file is run.
+    Stepper(Name, HostExpr),
+    /// A test that two host expressions make the same, marks forgotten.
+    TestEqual(HostExpr, HostExpr),
+    /// A test that the terms to which the relation of this name leads from the term are those that
+    /// the others make.
+    TestStep(Name, HostExpr, Vec<HostExpr>),
+    /// A test that the run from the term ends in the one that the others make.
+    TestRun(Name, HostExpr, Vec<HostExpr>),
+    /// A test that the pattern matches the term, or that it does not, in the language of this name.
+    TestMatch(Name, CheckedPat, HostExpr, bool),
+    /// A test that the premise is met.
+    TestHolds(Premise),
+    /// How many tests passed and failed since this was asked last.
+    TestResults,
 }
 
 /// A file that was accepted.

@@ -7,7 +7,7 @@ ghost use Rattle.rdx_query.specs.Definitions as defined;
 ghost use Rattle.rdx_query.specs.Ends.{form_ends};
 ghost use Rattle.rdx_query.specs.FormKinds as forms;
 ghost use Rattle.rdx_query.specs.Inside.Fitting.{AreCrossed, IsFitting};
-ghost use Rattle.rdx_query.specs.Inside.KindViews.{definition_kind_of, passed_kind_of, query_kind_of};
+ghost use Rattle.rdx_query.specs.Inside.KindViews.{definition_kind_of, passed_kind_of, query_kind_of, test_kind_of};
 ghost use Rattle.rdx_query.specs.Inside.KnownView.{known_of};
 ghost use Rattle.rdx_query.specs.Inside.Steps.{AddsBy, AsksQuery, PassesBy, StepsBy};
 ghost use Rattle.rdx_query.specs.Known.{with_definition};
@@ -15,16 +15,17 @@ ghost use Rattle.rdx_query.specs.Views.{query_of};
 
 use crate::Query;
 use crate::define_forms::define_relation;
-use crate::holds_forms::read_holds;
+use crate::holds_forms::{read_holds, read_holds_test};
 use crate::host_forms::read_unbound;
 use crate::judgement_forms::define_judgement;
-use crate::kind::{DefinitionKind, FormKind, PassedKind, QueryKind, form_kind};
+use crate::kind::{DefinitionKind, FormKind, PassedKind, QueryKind, TestKind, form_kind};
 use crate::known::Known;
 use crate::language_forms::{define_extension, define_language};
 use crate::match_forms::{Asked, read_query};
 use crate::metafunction_forms::define_metafunction;
 use crate::passed_forms::{check_offers, check_wants};
 use crate::step_forms::{Stepping, read_steps};
+use crate::test_forms::{Leading, Same, check_results, read_equal, read_leading};
 use rdx_defs::ReadPremise;
 use rdx_grammar::refusal::unnamed;
 use rdx_grammar::{DefFault, DefKind, add_crosses_for};
@@ -80,6 +81,53 @@ fn define(
     }
 }
 
+// The test that a form of this kind is, or the question how many passed.
+fn test(alloc: Global, known: &mut Known, kind: TestKind, form: &Datum) -> Result<Query, DefFault>
+    requires readable { IsReadable form.now }
+    requires kind { forms.form_kind form.now ≡ forms.asks (test_kind_of kind) }
+    requires crossed { AreCrossed (known_of known.old).program.languages
+        (known_of known.old).ends }
+    requires ends { AreAmong (form_ends form.now) (known_of known.old).ends }
+    ensures asks { AsksQuery (known_of known.old) form.now result }
+    ensures same { known_of known.new ≡ known_of known.old }
+{
+    match kind {
+        TestKind::Equal => {
+            let Same { found, wanted } = read_equal(alloc, known, form)?;
+            Ok(Query::TestEqual(found, wanted))
+        }
+        TestKind::Step => {
+            let Leading {
+                relation,
+                from,
+                wanted,
+            } = read_leading(alloc, known, form)?;
+            Ok(Query::TestStep(relation, from, wanted))
+        }
+        TestKind::Run => {
+            let Leading {
+                relation,
+                from,
+                wanted,
+            } = read_leading(alloc, known, form)?;
+            Ok(Query::TestRun(relation, from, wanted))
+        }
+        TestKind::Match => {
+            let Asked { name, pat, host } = read_query(alloc, known, form)?;
+            Ok(Query::TestMatch(name, pat, host, true))
+        }
+        TestKind::NoMatch => {
+            let Asked { name, pat, host } = read_query(alloc, known, form)?;
+            Ok(Query::TestMatch(name, pat, host, false))
+        }
+        TestKind::Holds => Ok(Query::TestHolds(read_holds_test(alloc, known, form)?)),
+        TestKind::Results => {
+            check_results(form)?;
+            Ok(Query::TestResults)
+        }
+    }
+}
+
 // The query that a form of this kind asks.
 fn question(
     alloc: Global,
@@ -121,6 +169,11 @@ fn question(
             let Stepping { relation, host } = read_steps(alloc, known, form)?;
             Ok(Query::Tagged(relation, host))
         }
+        QueryKind::Stepper => {
+            let Stepping { relation, host } = read_steps(alloc, known, form)?;
+            Ok(Query::Stepper(relation, host))
+        }
+        QueryKind::Test(kind) => test(alloc, known, kind, form),
     }
 }
 

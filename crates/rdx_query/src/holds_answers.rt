@@ -12,9 +12,10 @@ ghost use Rattle.rdx_lang.specs.TemplateView.{template_of};
 ghost use Rattle.rdx_query.specs.HoldsAnswers.{FindsMet, IsHoldsAnswer, IsPremiseAnswer, IsValuesAnswer, Values};
 ghost use Rattle.rdx_query.specs.Inside.Appending.{Tries};
 ghost use Rattle.rdx_query.specs.Queries.{KnowsJudgement};
+ghost use Rattle.rdx_query.specs.TestAnswers.{IsHoldsTestAnswer};
 
 use crate::step_answers::terms_of;
-use crate::texts::{write_answers, write_holds};
+use crate::texts::{write_answers, write_holds, write_verdict};
 use rdx_eval::{Engine, EvalFault};
 use rdx_lang::{Binding, Judgement, Premise, Program, Template};
 use rdx_table::Table;
@@ -59,8 +60,8 @@ fn meeting(engine: &mut Engine<Table>, premise: &Premise) -> Result<Vec<Binding>
     engine.meet(&judgement.language, premise)
 }
 
-// Whether there are bindings.
-fn are_some(found: &[Binding]) -> bool
+/// Whether there are bindings.
+pub(crate) fn are_some(found: &[Binding]) -> bool
     ensures { result ≡ judging.are_some (bindings_of found.now) }
 {
     !found.is_empty()
@@ -71,7 +72,7 @@ fn answer_whether_met(
     engine: &mut Engine<Table>,
     premise: &Premise,
     out: &mut Vec<u8>,
-) -> Result<(), EvalFault>
+) -> Result<bool, EvalFault>
     requires { KnowsJudgement (program_of (engines.program_in engine.old).now)
         premise.now.judgement }
     ensures answer { Tries
@@ -80,7 +81,8 @@ fn answer_whether_met(
     ensures same { engines.program_in engine.new ≡ engines.program_in engine.old }
 {
     let found = meeting(engine, premise)?;
-    Ok(write_holds(are_some(&found), out)?)
+    write_holds(are_some(&found), out)?;
+    Ok(true)
 }
 
 // What the template makes of the bindings that meet the premise, ascending and each once, or the
@@ -116,7 +118,7 @@ fn answer_values(
     premise: &Premise,
     t: &Template,
     out: &mut Vec<u8>,
-) -> Result<(), EvalFault>
+) -> Result<bool, EvalFault>
     requires { KnowsJudgement (program_of (engines.program_in engine.old).now)
         premise.now.judgement }
     ensures answer { Tries
@@ -125,7 +127,8 @@ fn answer_values(
     ensures same { engines.program_in engine.new ≡ engines.program_in engine.old }
 {
     let values = values_of(alloc, engine, premise, t)?;
-    Ok(write_answers(&values, out)?)
+    write_answers(&values, out)?;
+    Ok(true)
 }
 
 /// Appends whether the premise is met; or, where there is a template, what it makes of the bindings
@@ -136,7 +139,7 @@ pub(crate) fn answer_holds(
     premise: &Premise,
     template: &Option<Template>,
     out: &mut Vec<u8>,
-) -> Result<(), EvalFault>
+) -> Result<bool, EvalFault>
     requires { KnowsJudgement (program_of (engines.program_in engine.old).now)
         premise.now.judgement }
     ensures answer { Tries
@@ -148,4 +151,23 @@ pub(crate) fn answer_holds(
         Some(t) => answer_values(alloc, engine, premise, t, out),
         None => answer_whether_met(engine, premise, out),
     }
+}
+
+/// Appends whether the test passes that the premise is met, or gives the fault on the way.
+pub(crate) fn answer_holds_test(
+    engine: &mut Engine<Table>,
+    premise: &Premise,
+    out: &mut Vec<u8>,
+) -> Result<bool, EvalFault>
+    requires { KnowsJudgement (program_of (engines.program_in engine.old).now)
+        premise.now.judgement }
+    ensures answer { Tries
+        (IsHoldsTestAnswer (program_of (engines.program_in engine.old).now)
+        (premise_of premise.now)) out.old.items out.new.items result }
+    ensures same { engines.program_in engine.new ≡ engines.program_in engine.old }
+{
+    let found = meeting(engine, premise)?;
+    let passes = are_some(&found);
+    write_verdict(passes, out)?;
+    Ok(passes)
 }

@@ -12,20 +12,21 @@ ghost use Rattle.rdx_query.specs.HoldsForms.{asked_names, asked_unknown_at};
 ghost use Rattle.rdx_grammar.specs.Ends.{ends_in};
 ghost use Rattle.rdx_grammar.specs.Inside.Among.{AreAmong};
 ghost use Rattle.rdx_query.specs.Inside.Fitting.{AreCrossed};
-ghost use Rattle.rdx_query.specs.Inside.Asking.{HoldsAskedBy, HoldsFitsBy};
+ghost use Rattle.rdx_query.specs.Inside.Asking.{HoldsAskedBy, HoldsFitsBy, HoldsTestedBy};
 ghost use Rattle.rdx_query.specs.Inside.KnownView.{known_of};
 
 use crate::earlier::unless;
 use crate::known::Known;
 use crate::language_forms::empty_language;
 use crate::lookup::{judgement_language, place_named};
-use crate::parts::{HoldsParts, holds_parts, judgement_head};
+use crate::parts::{HoldsParts, holds_parts, judgement_head, lone_parts};
 use crate::refusals::misshaped;
 use rdx_defs::{ReadPremise, read_premise};
 use rdx_grammar::refusal::{named_at, unnamed};
 use rdx_grammar::shape::text;
 use rdx_grammar::unbuilt::has_word_to_come;
 use rdx_grammar::{DefFault, DefKind, DefRefusal};
+use rdx_lang::Premise;
 use rdx_sexp::Datum;
 use rdx_term::NoMemory;
 use std::alloc::Global;
@@ -126,4 +127,24 @@ pub(crate) fn read_holds(
     let refusal = refuse_asked(alloc, known, parts.premise)?;
     let read = read_over(alloc, known, parts.premise, parts.result);
     unless(refusal, read)
+}
+
+/// The premise of a test that it is met, where this is known.
+pub(crate) fn read_holds_test(
+    alloc: Global,
+    known: &mut Known,
+    form: &Datum,
+) -> Result<Premise, DefFault>
+    requires readable { IsReadable form.now }
+    requires crossed { AreCrossed (known_of known.old).program.languages
+        (known_of known.old).ends }
+    requires ends { AreAmong (ends_in form.now) (known_of known.old).ends }
+    ensures asks { HoldsTestedBy (known_of known.old) form.now result }
+    ensures same { known_of known.new ≡ known_of known.old }
+{
+    if lone_parts(form).is_none() {
+        return Err(DefFault::Refused(misshaped(form)));
+    }
+    let ReadPremise { premise, .. } = read_holds(alloc, known, form)?;
+    Ok(premise)
 }

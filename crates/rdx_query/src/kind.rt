@@ -39,6 +39,29 @@ pub enum QueryKind {
     Reducts,
     /// The steps, with the names of their rules: `apply-reduction-relation/tag-with-names`.
     Tagged,
+    /// A walk of steps: `stepper`.
+    Stepper,
+    /// Whether a test passes, or how many did.
+    Test(TestKind),
+}
+
+/// What a test asks.
+#[derive(Clone, Copy, Debug, PartialEq, Eq)]
+pub enum TestKind {
+    /// That two host expressions make the same: `test-equal`.
+    Equal,
+    /// The terms to which a relation leads in one step: `test-->`.
+    Step,
+    /// The term in which a run rests: `test-->>`.
+    Run,
+    /// That a pattern matches a term: `test-match`.
+    Match,
+    /// That it does not: `test-no-match`.
+    NoMatch,
+    /// That a premise is met: `test-judgment-holds`.
+    Holds,
+    /// How many tests passed and failed: `test-results`.
+    Results,
 }
 
 /// What is passed over.
@@ -79,20 +102,17 @@ fn kind_by_text(head: &str) -> FormKind
         "judgment-holds" => FormKind::Asks(QueryKind::Holds),
         "apply-reduction-relation" => FormKind::Asks(QueryKind::Reducts),
         "apply-reduction-relation/tag-with-names" => FormKind::Asks(QueryKind::Tagged),
+        "stepper" => FormKind::Asks(QueryKind::Stepper),
+        "test-equal" => FormKind::Asks(QueryKind::Test(TestKind::Equal)),
+        "test-->" => FormKind::Asks(QueryKind::Test(TestKind::Step)),
+        "test-->>" => FormKind::Asks(QueryKind::Test(TestKind::Run)),
+        "test-match" => FormKind::Asks(QueryKind::Test(TestKind::Match)),
+        "test-no-match" => FormKind::Asks(QueryKind::Test(TestKind::NoMatch)),
+        "test-judgment-holds" => FormKind::Asks(QueryKind::Test(TestKind::Holds)),
+        "test-results" => FormKind::Asks(QueryKind::Test(TestKind::Results)),
         "require" => FormKind::Passes(PassedKind::Wants),
         "provide" => FormKind::Passes(PassedKind::Offers),
-        "stepper"
-        | "test-equal"
-        | "test-->"
-        | "test-->>"
-        | "test-match"
-        | "test-no-match"
-        | "test-judgment-holds"
-        | "test-results"
-        | "generate-term"
-        | "redex-check"
-        | "alpha-equivalent?"
-        | "substitute" => FormKind::ToCome,
+        "generate-term" | "redex-check" | "alpha-equivalent?" | "substitute" => FormKind::ToCome,
         _ => FormKind::Asks(QueryKind::Value),
     }
 }

@@ -7,7 +7,7 @@ pub fn one_meaning()
     ensures { OneMeaning }
 {}
 
-/// The data of a file write one text at most.
+/// The data of a file write one text at most, by the same choices.
 pub fn one_text()
     ensures { OneText }
 {
@@ -15,6 +15,7 @@ pub fn one_text()
     rdx_eval::laws::one_term();
     rdx_eval::laws::one_meeting();
     rdx_reduce::laws::one_stepping();
+    rdx_run::laws::one_walk();
 }
 
 /// The data of a file have one refusal at most.
@@ -39,7 +40,7 @@ pub fn never_neither()
     rdx_lang::laws::free_or_recursive();
 }
 
-/// Data write some text or are refused.
+/// Data write some text or are refused, whatever the choices.
 pub fn some_text_or_refusal()
     ensures { SomeTextOrRefusal }
 {
@@ -48,6 +49,7 @@ pub fn some_text_or_refusal()
     rdx_eval::laws::one_term();
     rdx_eval::laws::one_meeting();
     rdx_reduce::laws::one_stepping();
+    rdx_run::laws::some_walk();
 }
 
 /// The examples of `specs/Examples.antt` hold.

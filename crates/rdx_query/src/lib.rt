@@ -8,6 +8,8 @@
 
 mod answers;
 mod closure_forms;
+mod comparing;
+mod counting;
 mod define_forms;
 mod earlier;
 mod ends;
@@ -31,11 +33,15 @@ mod refusals;
 mod relation_forms;
 mod step_answers;
 mod step_forms;
+mod stepper_answers;
+mod test_answers;
+mod test_forms;
 #[cfg(test)]
 mod tests;
 mod texts;
+mod walk_texts;
 mod workload;
 
-pub use answers::{Answered, answer};
+pub use answers::{Answered, Mode, answer};
 pub use file::{CheckedFile, Query, check_file};
 pub use workload::workload_text;

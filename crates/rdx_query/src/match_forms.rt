@@ -1,20 +1,17 @@
 // Forms that match a pattern against a term or split the term by it: their shape, their refusal and what they ask.
-ghost use Rattle.std.specs.Prelude.{◌≡◌, ◌<◌, Option, Ok, length, get_or, IfOk};
+ghost use Rattle.std.specs.Prelude.{◌≡◌, ◌<◌, length, get_or};
 ghost use Rattle.rdx_lang.specs.Checked.{language_in};
 ghost use Rattle.rdx_lang.specs.declared.checked.CheckedLang.{CheckedLang};
 ghost use Rattle.rdx_grammar.specs.Answers.{ReadsPattern};
 ghost use Rattle.rdx_grammar.specs.Nonterminals.{names_of};
 ghost use Rattle.rdx_grammar.specs.Readable.{IsReadable};
-ghost use Rattle.rdx_grammar.specs.Refusal.{Refusal};
 ghost use Rattle.rdx_grammar.specs.Ends.{ends_in};
 ghost use Rattle.rdx_grammar.specs.Inside.Among.{AreAmong};
 ghost use Rattle.rdx_query.specs.Inside.Fitting.{AreCrossed};
 ghost use Rattle.rdx_query.specs.Inside.Asking.{FitsBy, AsksBy};
-ghost use Rattle.rdx_query.specs.Inside.Earlier as refusals;
-ghost use Rattle.rdx_query.specs.Inside.Earlier.{IsRefusedBy};
 ghost use Rattle.rdx_query.specs.Inside.KnownView.{known_of};
 
-use crate::earlier::first_fault;
+use crate::earlier::{both, first_fault};
 use crate::host_forms::read_unbound;
 use crate::known::Known;
 use crate::language_forms::empty_language;
@@ -71,22 +68,6 @@ fn read_over(
     ensures same { known_of known.new ≡ known_of known.old }
 {
     read_pattern(alloc, &mut known.program.languages[place], d)
-}
-
-// Both of what was read, or the refusal of the two that is reported.
-fn both(
-    pat: Result<CheckedPat, DefFault>,
-    host: Result<HostExpr, DefFault>,
-) -> Result<(CheckedPat, HostExpr), DefFault>
-    ensures refused { (o p : Option Refusal) → IsRefusedBy o pat → IsRefusedBy p host
-        → IsRefusedBy (refusals.earlier o p) result }
-    ensures read { IfOk result (λ r. (pat ≡ Ok r.0) × (host ≡ Ok r.1)) }
-{
-    match pat {
-        Ok(pat) => Ok((pat, host?)),
-        Err(DefFault::Refused(refusal)) => Err(first_fault(refusal, host)),
-        Err(DefFault::NoMemory) => Err(DefFault::NoMemory),
-    }
 }
 
 /// What a query asks, where this is known.

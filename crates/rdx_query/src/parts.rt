@@ -1,12 +1,13 @@
 // The parts of data and of forms.
 ghost use Rattle.std.specs.Prelude.{◌≡◌, [], option_map};
 ghost use Rattle.rdx_grammar.specs.Parts.{parts};
-ghost use Rattle.rdx_query.specs.HoldsForms.{holds_parts};
-ghost use Rattle.rdx_query.specs.Inside.PartViews.{closure_of, define_kind_of, defining_by, defining_of, defining_with, holds_of, judgement_head, parts_of, second_item, language_item, steps_of};
+ghost use Rattle.rdx_query.specs.HoldsForms.{holds_parts, lone_parts};
+ghost use Rattle.rdx_query.specs.Inside.PartViews.{closure_of, define_kind_of, defining_by, defining_of, defining_with, holds_of, judgement_head, parts_of, second_item, language_item, equals_of, leading_of, steps_of};
 ghost use Rattle.rdx_query.specs.LanguageForms.{base_name};
 ghost use Rattle.rdx_query.specs.MatchForms.{query_parts};
 ghost use Rattle.rdx_query.specs.DefineParts.{closure_among, closure_parts, define_named, define_parts, kind_among, kind_by_word};
 ghost use Rattle.rdx_query.specs.StepForms.{step_parts};
+ghost use Rattle.rdx_query.specs.TestForms.{equal_parts, leading_parts};
 
 use rdx_grammar::shape::{is_symbol, is_word, items, symbol};
 use rdx_sexp::Datum;
@@ -24,6 +25,22 @@ pub(crate) struct QueryParts<'a> {
 pub(crate) struct StepParts<'a> {
     pub(crate) relation: &'a Datum,
     pub(crate) host: &'a Datum,
+}
+
+/// The host expressions that have to make the same.
+#[derive(Clone, Copy)]
+pub(crate) struct EqualParts<'a> {
+    pub(crate) found: &'a Datum,
+    pub(crate) wanted: &'a Datum,
+}
+
+/// The name of a relation, the host expression from whose term it is to lead, and those to whose
+/// terms.
+#[derive(Clone, Copy)]
+pub(crate) struct LeadingParts<'a> {
+    pub(crate) relation: &'a Datum,
+    pub(crate) from: &'a Datum,
+    pub(crate) wanted: &'a [Datum],
 }
 
 /// What has to be a premise, and the template behind it, where there is one.
@@ -120,6 +137,30 @@ pub(crate) fn step_parts(d: &Datum) -> Option<StepParts<'_>>
     }
 }
 
+/// The parts of a test of two host expressions.
+pub(crate) fn equal_parts(d: &Datum) -> Option<EqualParts<'_>>
+    ensures { option_map equals_of result ≡ equal_parts d.now }
+{
+    match items(d)? {
+        [_, found, wanted] => Some(EqualParts { found, wanted }),
+        _ => None,
+    }
+}
+
+/// The parts of a test of a relation.
+pub(crate) fn leading_parts(d: &Datum) -> Option<LeadingParts<'_>>
+    ensures { option_map leading_of result ≡ leading_parts d.now }
+{
+    match items(d)? {
+        [_, relation, from, wanted @ ..] if is_symbol(relation) => Some(LeadingParts {
+            relation,
+            from,
+            wanted,
+        }),
+        _ => None,
+    }
+}
+
 /// The parts of a form that asks whether a premise is met.
 pub(crate) fn holds_parts(d: &Datum) -> Option<HoldsParts<'_>>
     ensures { option_map holds_of result ≡ holds_parts d.now }
@@ -132,6 +173,19 @@ pub(crate) fn holds_parts(d: &Datum) -> Option<HoldsParts<'_>>
         [_, premise, result] => Some(HoldsParts {
             premise,
             result: Some(result),
+        }),
+        _ => None,
+    }
+}
+
+/// The parts of a test that a premise is met.
+pub(crate) fn lone_parts(d: &Datum) -> Option<HoldsParts<'_>>
+    ensures { option_map holds_of result ≡ lone_parts d.now }
+{
+    match items(d)? {
+        [_, premise] => Some(HoldsParts {
+            premise,
+            result: None,
         }),
         _ => None,
     }

@@ -20,8 +20,8 @@ use rdx_term::{Name, NoMemory, Term};
 use std::alloc::Global;
 use std::collections::BTreeSet;
 
-// The relation of this name.
-fn relation<'a>(program: &'a Program, name: &Name) -> &'a Relation
+/// The relation of this name.
+pub(crate) fn relation<'a>(program: &'a Program, name: &Name) -> &'a Relation
     requires { IsSome (named (program_of program.now) name.now) }
     ensures { named (program_of program.now) name.now ≡ Some (relation_of result.now) }
 {
@@ -59,7 +59,7 @@ pub(crate) fn answer_reducts(
     name: &Name,
     t: &Term,
     out: &mut Vec<u8>,
-) -> Result<(), EvalFault>
+) -> Result<bool, EvalFault>
     requires { KnowsRelation (program_of (engines.program_in engine.old).now) name.now }
     ensures answer { Tries
         (IsReductsAnswer (program_of (engines.program_in engine.old).now) name.now (tree_of t.now))
@@ -69,7 +69,8 @@ pub(crate) fn answer_reducts(
     let relation = relation(engine.program(), name);
     let found = steps(alloc, engine, relation, t)?;
     let reducts = reducts_of(alloc, found)?;
-    Ok(write_reducts(&reducts, out)?)
+    write_reducts(&reducts, out)?;
+    Ok(true)
 }
 
 /// Appends the steps of the relation of this name from this term, each with the name of its rule, or
@@ -80,7 +81,7 @@ pub(crate) fn answer_steps(
     name: &Name,
     t: &Term,
     out: &mut Vec<u8>,
-) -> Result<(), EvalFault>
+) -> Result<bool, EvalFault>
     requires { KnowsRelation (program_of (engines.program_in engine.old).now) name.now }
     ensures answer { Tries
         (IsTaggedAnswer (program_of (engines.program_in engine.old).now) name.now (tree_of t.now))
@@ -89,5 +90,6 @@ pub(crate) fn answer_steps(
 {
     let relation = relation(engine.program(), name);
     let found = steps(alloc, engine, relation, t)?;
-    Ok(write_steps(&relation.rules, &found, out)?)
+    write_steps(&relation.rules, &found, out)?;
+    Ok(true)
 }

@@ -1,7 +1,7 @@
 // The file without forms, both matchers side by side, and calls of the crates below that no file
 // makes so far.
 use crate::lookup::place_among;
-use crate::{Query, answer, check_file};
+use crate::{Mode, Query, answer, check_file};
 use rdx_delta::{
     HostEntry, HostTable, host_add, host_add1, host_eq, host_equal, host_ge, host_gt, host_is_zero,
     host_le, host_lt, host_mul, host_not, host_quotient, host_remainder, host_sub, host_sub1,
@@ -54,7 +54,7 @@ fn a_file_without_forms_writes_nothing(rt: HostRuntime) -> Result<(), Fail> {
     let table = host_table(&rt)?;
     match check_file(alloc, &[]) {
         Ok(file) => {
-            let answered = answer(alloc, &file, &table)?;
+            let answered = answer(alloc, &file, &table, &Mode::Run)?;
             assert!(rt; answered.transcript.is_empty() && answered.met);
         }
         Err(_) => assert!(rt; false, "refused"),
@@ -141,11 +141,21 @@ fn both_matchers_agree(rt: HostRuntime) -> Result<(), Fail> {
         match query {
             Query::Match(name, pat, host)
             | Query::Whether(name, pat, host)
-            | Query::Decompose(name, pat, host) => {
+            | Query::Decompose(name, pat, host)
+            | Query::TestMatch(name, pat, host, _) => {
                 let same = agree(alloc, &mut plain, &mut table, name, pat, host)?;
                 assert!(rt; same);
             }
-            Query::Value(_) | Query::Holds(_, _) | Query::Reducts(_, _) | Query::Tagged(_, _) => {
+            Query::Value(_)
+            | Query::Holds(_, _)
+            | Query::Reducts(_, _)
+            | Query::Tagged(_, _)
+            | Query::Stepper(_, _)
+            | Query::TestEqual(_, _)
+            | Query::TestStep(_, _, _)
+            | Query::TestRun(_, _, _)
+            | Query::TestHolds(_)
+            | Query::TestResults => {
                 assert!(rt; false, "no pattern");
             }
         }

@@ -11,13 +11,14 @@ ghost use Rattle.rdx_lang.specs.BindingView.{value_of, pair_of};
 ghost use Rattle.rdx_lang.specs.ProgramView.{rule_of};
 ghost use Rattle.rdx_lang.specs.Shown.{binding_of, bindings_of, decomposition_of, decompositions_of};
 ghost use Rattle.rdx_eval.specs.Answers.{ambiguous, lengths_differ, not_context, spent};
+ghost use Rattle.rdx_eval.specs.Judgements as judging;
 ghost use Rattle.rdx_eval.specs.Views.{fault_of};
 ghost use Rattle.rdx_defs.specs.StandChecks.{label_text};
 ghost use Rattle.rdx_reduce.specs.StepView.{step_of};
 ghost use Rattle.rdx_query.specs.AnswerText as text;
 ghost use Rattle.rdx_query.specs.Inside.Contexts.{HaveContexts};
-ghost use Rattle.rdx_query.specs.Inside.Whether as whether;
 ghost use Rattle.rdx_query.specs.StepAnswers as steps;
+ghost use Rattle.rdx_query.specs.Tests as tests;
 
 use itoa::Buffer;
 use rdx_defs::operation_text;
@@ -217,7 +218,7 @@ pub(crate) fn write_splits(
 
 /// Whether there are some.
 pub(crate) fn write_whether(are_some: bool, out: &mut Vec<u8>) -> Result<(), NoMemory>
-    ensures { OnOk result ((found : List bindings.Binding) → are_some ≡ whether.are_some found
+    ensures { OnOk result ((found : List bindings.Binding) → are_some ≡ judging.are_some found
         → out.new.items ≡ out.old.items ++ text.whether_text found) }
 {
     let line: &[u8] = if are_some {
@@ -225,6 +226,15 @@ pub(crate) fn write_whether(are_some: bool, out: &mut Vec<u8>) -> Result<(), NoM
     } else {
         b"matches #f\n"
     };
+    out.extend_from_slice(line)?;
+    Ok(())
+}
+
+/// Whether a test passes.
+pub(crate) fn write_verdict(passes: bool, out: &mut Vec<u8>) -> Result<(), NoMemory>
+    ensures { OnOk result (out.new.items ≡ out.old.items ++ tests.verdict_line passes) }
+{
+    let line: &[u8] = if passes { b"pass\n" } else { b"fail\n" };
     out.extend_from_slice(line)?;
     Ok(())
 }
@@ -332,8 +342,8 @@ fn name_at(rules: &[Rule], place: usize) -> Option<&RcStr>
     rules.get(place)?.name.as_ref()
 }
 
-// `name reduct`.
-fn write_step(rules: &[Rule], step: &Step, out: &mut Vec<u8>) -> Result<(), NoMemory>
+/// `name reduct`.
+pub(crate) fn write_step(rules: &[Rule], step: &Step, out: &mut Vec<u8>) -> Result<(), NoMemory>
     ensures { OnOk result (out.new.items ≡ out.old.items
         ++ text.step_text (steps.name_at (map rule_of rules.now) step.now.rule, tree_of step.now.reduct)) }
 {

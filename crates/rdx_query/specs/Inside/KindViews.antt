@@ -7,7 +7,9 @@ use Rattle.rdx_query.specs.declared.kind.FormKind.TheVariants.{Defines, Asks, Pa
 use Rattle.rdx_query.specs.declared.kind.PassedKind.{PassedKind}
 use Rattle.rdx_query.specs.declared.kind.PassedKind.TheVariants.{Wants, Offers}
 use Rattle.rdx_query.specs.declared.kind.QueryKind.{QueryKind}
-use Rattle.rdx_query.specs.declared.kind.QueryKind.TheVariants.{Match, Whether, Decompose, Value, Holds, Reducts, Tagged}
+use Rattle.rdx_query.specs.declared.kind.QueryKind.TheVariants.{Match, Whether, Decompose, Value, Holds, Reducts, Tagged, Stepper, Test}
+use Rattle.rdx_query.specs.declared.kind.TestKind.{TestKind}
+use Rattle.rdx_query.specs.declared.kind.TestKind.TheVariants as tests
 
 -- what a form defines
 abbrev pub definition_kind_of : DefinitionKind → model.DefinitionKind
@@ -16,6 +18,16 @@ definition_kind_of Extension = model.extension
 definition_kind_of Metafunction = model.metafunction
 definition_kind_of Judgement = model.judgement
 definition_kind_of Relation = model.relation
+
+-- what a test asks
+abbrev pub test_kind_of : TestKind → model.QueryKind
+test_kind_of tests.Equal = model.test_equal
+test_kind_of tests.Step = model.test_step
+test_kind_of tests.Run = model.test_run
+test_kind_of tests.Match = model.test_match
+test_kind_of tests.NoMatch = model.test_no_match
+test_kind_of tests.Holds = model.test_holds
+test_kind_of tests.Results = model.test_results
 
 -- what a form asks
 abbrev pub query_kind_of : QueryKind → model.QueryKind
@@ -26,6 +38,8 @@ query_kind_of Value = model.value
 query_kind_of Holds = model.holds
 query_kind_of Reducts = model.reducts
 query_kind_of Tagged = model.tagged
+query_kind_of Stepper = model.stepper
+query_kind_of (Test k) = test_kind_of k
 
 -- what is passed over
 abbrev pub passed_kind_of : PassedKind → model.PassedKind

@@ -9,11 +9,14 @@ use Rattle.rdx_query.specs.MatchForms as matching
 use Rattle.rdx_query.specs.DefineParts as defining
 use Rattle.rdx_query.specs.DefineParts.{DefineKind, by_cases, by_contexts, by_crosses}
 use Rattle.rdx_query.specs.StepForms as stepping
+use Rattle.rdx_query.specs.TestForms as testing
 use Rattle.rdx_query.specs.declared.parts.ClosureParts.{ClosureParts}
 use Rattle.rdx_query.specs.declared.parts.DefineKind as code_kind
 use Rattle.rdx_query.specs.declared.parts.DefineKind.TheVariants.{Cases, Contexts, Crosses}
 use Rattle.rdx_query.specs.declared.parts.DefineParts.{DefineParts}
+use Rattle.rdx_query.specs.declared.parts.EqualParts.{EqualParts}
 use Rattle.rdx_query.specs.declared.parts.HoldsParts.{HoldsParts}
+use Rattle.rdx_query.specs.declared.parts.LeadingParts.{LeadingParts}
 use Rattle.rdx_query.specs.declared.parts.QueryParts.{QueryParts}
 use Rattle.rdx_query.specs.declared.parts.StepParts.{StepParts}
 
@@ -24,6 +27,14 @@ parts_of q = record { language = q.language.now; pattern = q.pattern.now; host =
 -- those of a form that asks for steps
 abbrev pub steps_of : StepParts → stepping.StepParts
 steps_of q = record { relation = q.relation.now; host = q.host.now }
+
+-- those of a test of two host expressions
+abbrev pub equals_of : EqualParts → testing.EqualParts
+equals_of q = record { found = q.found.now; wanted = q.wanted.now }
+
+-- those of a test of a relation
+abbrev pub leading_of : LeadingParts → testing.LeadingParts
+leading_of q = record { relation = q.relation.now; from = q.from.now; wanted = q.wanted.now }
 
 -- those of a form that asks whether a premise is met
 abbrev pub holds_of : HoldsParts → holding.HoldsParts

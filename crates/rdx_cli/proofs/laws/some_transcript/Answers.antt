@@ -2,4 +2,4 @@ use Rattle.rdx_cli.proofs.SomeText.{some_transcript}
 use Rattle.rdx_cli.proofs.laws.some_transcript.Goals as goal
 
 pub returns : goal.returns
-returns c mode bytes = some_transcript c.never_neither.ensures c.some_text_or_refusal.ensures mode bytes
+returns c row bytes = some_transcript c.never_neither.ensures c.some_text_or_refusal.ensures row bytes

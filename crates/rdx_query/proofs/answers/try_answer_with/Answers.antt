@@ -1,4 +1,4 @@
-use Rattle.std.proofs.Common.{◌≡◌, ◌∙◌, false, refl, ap, subst}
+use Rattle.std.proofs.Common.{◌≡◌, ◌∙◌, ℕ, List, false, refl, ap, subst}
 use Rattle.std.specs.Prelude.{Err}
 use Rattle.std.specs.Borrow.{Bor}
 use Rattle.rdx_term.specs.Tree.{Tree}
@@ -19,6 +19,8 @@ use Rattle.rdx_query.specs.AnswerText.{fault_line}
 use Rattle.rdx_query.specs.Answering.{HostValue, over_fault, IsAnswer}
 use Rattle.rdx_query.specs.Inside.Appending.{Tries, IsAnswerOver}
 use Rattle.rdx_query.specs.Queries as model
+use Rattle.rdx_query.specs.Inside.Counting.{counts_of}
+use Rattle.rdx_query.specs.Tests.{Counts}
 use Rattle.rdx_query.specs.Views.{query_of}
 use Rattle.rdx_query.proofs.Trying.{error_tried, answer_over, tried_over}
 use Rattle.rdx_query.proofs.answers.try_answer_with.Goals as goal
@@ -29,8 +31,10 @@ returns-in_err-t-clause-answer g c =
     let q : model.Query = query_of c.args.query.now in
     let h : Host = host_of c.args.host.now in
     let empty : binding_of c.new-2.result ≡ no_names = c.new-2.ensures ∙ ap pairs_of c.new.ensures.items in
-    error_tried tree_of (HostValue P h) (IsAnswer P q) c.args.out.now.items c.from_residual.result _ c.from_residual.ensures.1
-    (λ f v. answer_over P q h (fault_line f) false c.requires.host (over_fault f v refl refl))
+    let cs : List ℕ = c.args.choices.now in
+    let n : Counts = counts_of c.args.counts in
+    error_tried tree_of (HostValue P h) (IsAnswer P cs n q) c.args.out.now.items c.from_residual.result _ c.from_residual.ensures.1
+    (λ f v. answer_over P cs n q h (fault_line f) false c.requires.host (over_fault f v refl refl))
     (subst (λ (b : Binding). Says tree_of (HostMakes (calls_at P height) b h) (Err c.in_err-t.field-0.0)) empty c.in_err-t.ensures.answer)
 
 pub returns-clause-answer : goal.returns-clause-answer
@@ -40,7 +44,8 @@ returns-clause-answer g c =
     let h : Host = host_of c.args.host.now in
     let t : Tree = tree_of c.in_ok-t.t in
     let empty : binding_of c.new-2.result ≡ no_names = c.new-2.ensures ∙ ap pairs_of c.new.ensures.items in
-    tried_over P q h t c.args.out.now.items c.try_answer_over.new.out.items c.try_answer_over.result c.requires.host
+    let cs : List ℕ = c.args.choices.now in
+    tried_over P cs (counts_of c.args.counts) q h t c.args.out.now.items c.try_answer_over.new.out.items c.try_answer_over.result c.requires.host
     (subst (λ (b : Binding). HostMakes (calls_at P height) b h (value t)) empty c.in_ok-t.ensures.answer)
-    (subst (λ (p : Bor Program). Tries (IsAnswerOver (program_of p.now) q t) c.args.out.now.items c.try_answer_over.new.out.items c.try_answer_over.result)
+    (subst (λ (p : Bor Program). Tries (IsAnswerOver (program_of p.now) cs q t) c.args.out.now.items c.try_answer_over.new.out.items c.try_answer_over.result)
     c.in_ok-t.ensures.same c.try_answer_over.ensures.answer)

@@ -3,4 +3,4 @@ use Rattle.rdx_query.proofs.OneReading.{accepts-refuses}
 use Rattle.rdx_query.proofs.laws.never_both_text_and_refusal.Goals as goal
 
 pub returns : goal.returns
-returns c ds text met r w f = accepts-refuses (known_before ds) ds (record (known_before ds) { program = w.program }) w.queries r w.accepted f
+returns c ds cs text met r w f = accepts-refuses (known_before ds) ds (record (known_before ds) { program = w.program }) w.queries r w.accepted f

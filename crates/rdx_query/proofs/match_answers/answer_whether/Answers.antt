@@ -1,56 +1,12 @@
-use Rattle.std.proofs.Common.{◌≡◌, ◌∙◌, Some, List, refl, sym, ap, subst}
-use Rattle.std.proofs.lemmas.Result.{on_ok_weaker}
-use Rattle.std.specs.Prelude.{IfSome, Vec}
-use Rattle.std.specs.declared.alloc.Global.{Global}
-use Rattle.rdx_term.specs.Tree.{Tree}
-use Rattle.rdx_term.specs.View.{tree_of}
-use Rattle.rdx_lang.specs.Bindings.{Binding}
-use Rattle.rdx_lang.specs.Checked.{language_in, ranks_in, pattern_in}
-use Rattle.rdx_lang.specs.Edges.{IsFree}
-use Rattle.rdx_lang.specs.Listing.{Matches}
-use Rattle.rdx_lang.specs.Patterns.{Pattern, Language, closed}
-use Rattle.rdx_lang.specs.ProgramView.{program_of}
-use Rattle.rdx_lang.specs.Programs as programs
-use Rattle.rdx_lang.specs.Programs.{language_named}
-use Rattle.rdx_lang.specs.Shown.{bindings_of}
-use Rattle.rdx_lang.specs.declared.binding.Binding as code
-use Rattle.rdx_lang.specs.declared.program.Program.{Program}
-use Rattle.rdx_eval.specs.Views.{program_in}
-use Rattle.rdx_query.proofs.Whether.{whether_closed}
+use Rattle.std.proofs.Common.{refl}
 use Rattle.rdx_query.specs.AnswerText.{whether_text}
-use Rattle.rdx_query.specs.Inside.Whether.{are_some, TellsWhether}
-use Rattle.rdx_query.proofs.match_answers.answer_whether.Goals.{in-Some+in_ok-found-in-Some, in-None+in_ok-found-in-None}
 use Rattle.rdx_query.proofs.match_answers.answer_whether.Goals as goal
 
 pub returns-clause-answer : goal.returns-clause-answer
 returns-clause-answer g c =
-    let P : programs.Program = program_of (program_in c.args.engine.now).now in
-    let L : Language = language_in c.language-language.result.now in
-    let p : Pattern = pattern_in c.args.pat.now in
-    let t : Tree = tree_of c.args.t.now in
-    let bs : List Binding = bindings_of c.match-closed.found.items in
-    let known : language_named P c.args.name.now ≡ Some L =
-    subst (λ (q : Program). language_named (program_of q) c.args.name.now ≡ Some L) c.program.ensures c.language-language.ensures in
-    let free : IsFree L =
-    c.ranks_fall.ensures.free L (ranks_in c.language-language.result.now) c.language-language.result.now.well_formed c.language-language.result.now.ranked in
-    let told : TellsWhether L p t (are_some bs) =
-    elim c.match-closed.branch [
-      | in-Some+in_ok-found-in-Some w ↦
-          let e : pattern_in w.in-Some.closed ≡ closed p = subst (λ r. IfSome r (λ k. pattern_in k ≡ closed p)) w.in-Some.is c.in_ok-closed.ensures in
-          let listing : Matches L (pattern_in w.in-Some.closed) t bs =
-          subst (λ (v : Vec code.Binding Global). Matches L (pattern_in w.in-Some.closed) t (bindings_of v.items)) (sym w.found-is) w.in_ok-found-in-Some.ensures.listing
-          in
-          whether_closed c.some_listing.ensures.matches L p t (are_some bs) free
-          (record { found = bs; listing = subst (λ (q : Pattern). Matches L q t bs) e listing; told = refl })
-      | in-None+in_ok-found-in-None w ↦
-          let listing : Matches L p t bs = subst (λ (v : Vec code.Binding Global). Matches L p t (bindings_of v.items)) (sym w.found-is) w.in_ok-found-in-None.ensures.listing in
-          record { found = bs; listing = listing; told = refl }
-    ]
-    in
-    on_ok_weaker c.write_whether.result
-    (λ h. record {
-      text = whether_text told.found;
-      answer = record { found = told.found; finds = record { language = L; known = known; listing = told.listing }; printed = refl; is_met = refl };
-      gained = h told.found (c.are_some.ensures ∙ ap (λ xs. are_some (bindings_of xs)) c.deref.ensures.value ∙ told.told);
-    })
-    c.write_whether.ensures
+    let w = c.in_ok-is_match.ensures.told in
+    record {
+      text = whether_text w.found;
+      answer = record { found = w.found; finds = w.finds; printed = refl; is_met = refl };
+      gained = c.in_ok-write_whether.ensures w.found w.told;
+    }
