@@ -1,4 +1,5 @@
 pub mod Index
+pub mod Interned
 pub mod Nodes
 pub mod Settings
 pub mod Tasks

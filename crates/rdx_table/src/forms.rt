@@ -186,7 +186,7 @@ impl<'s, 'a> Look<'s, 'a> {
             ≡ tree_at (aim_tree self.now goal) (spot_of spot.now).path }
         ensures splits { result.splits ≡ goal.splits }
     {
-        let id = part_id(&self.setting.store, goal.id, &spot.trail);
+        let id = part_id(self.setting.store, goal.id, &spot.trail);
         Goal { number, id, ..goal }
     }
 

@@ -9,6 +9,7 @@ mod entry;
 mod forms;
 mod frame;
 mod index;
+mod interned;
 mod items;
 mod look;
 mod memo;

@@ -34,7 +34,7 @@ pub(crate) struct Setting<'a> {
     /// The numbers of these.
     pub(crate) index: Index<'a>,
     /// The terms.
-    pub(crate) store: Store,
+    pub(crate) store: &'a Store,
 }
 
 // The alternatives of a nonterminal; none of another form.
@@ -71,11 +71,11 @@ impl<'a> Setting<'a> {
     pub(crate) fn new(
         alloc: Global,
         language: &'a CheckedLang,
-        store: Store,
+        store: &'a Store,
     ) -> Result<Setting<'a>, NoMemory>
         ensures ready { IfOk result (λ s. IsReady s) }
         ensures language { IfOk result (λ s. language_at s ≡ language_in language.now) }
-        ensures terms { IfOk result (λ s. trees_at_hand s ≡ store) }
+        ensures terms { IfOk result (λ s. trees_at_hand s ≡ store.now) }
     {
         let mut nodes = Vec::new(alloc);
         let mut index = Index::new(alloc);

@@ -6,8 +6,10 @@ ghost use Rattle.rdx_lang.specs.Rules.{Match};
 ghost use Rattle.rdx_bind.specs.Columns.{HasAsked};
 ghost use Rattle.rdx_bind.specs.Rows.{split_row_of};
 ghost use Rattle.rdx_bind.specs.Spots.{SplitsAt};
+ghost use Rattle.rdx_table.specs.Inside.Interned.{tree_in};
 ghost use Rattle.rdx_table.specs.Inside.Tasks.{asked_where};
 
+use crate::interned::Interned;
 use crate::setting::Setting;
 use crate::solve::solve;
 use crate::splitting::sorted_splits;
@@ -15,21 +17,42 @@ use crate::task::Goal;
 use rdx_bind::listing;
 use rdx_bind::rows::Row;
 use rdx_lang::{Binding, CheckedLang, CheckedPat, Matcher, Split};
-use rdx_store::Store;
 use rdx_term::{NoMemory, Term};
 use std::alloc::Global;
 
 /// A matcher that works out each pattern at each term once, and keeps what is pending on a stack
-/// in memory.
+/// in memory. It holds the ids of the last term's parts, for a call with the same term.
 #[derive(Drop)]
 pub struct Table {
     alloc: Global,
+    // The term of the last call, if memory sufficed for its row.
+    last: Option<Interned>,
 }
 
 impl Table {
     /// A matcher that takes its memory from here.
     pub fn new(alloc: Global) -> Result<Table, NoMemory> {
-        Ok(Table { alloc })
+        Ok(Table { alloc, last: None })
+    }
+
+    // What the pattern binds where it matches the term, and where it splits it if this is asked for
+    // too. The term stays interned for the next call.
+    fn row(
+        &mut self,
+        language: &CheckedLang,
+        pat: &CheckedPat,
+        t: &Term,
+        splits: bool,
+    ) -> Result<Row, NoMemory>
+        ensures { IfOk result (λ row. HasAsked
+            (Match (language_in language.now) (pattern_in pat.now) (tree_of t.now))
+            (SplitsAt (language_in language.now) (pattern_in pat.now) (tree_of t.now))
+            (asked_where splits) (split_row_of row)) }
+    {
+        let whole = Interned::of(self.alloc, self.last.take(), t)?;
+        let row = row_of(self.alloc, language, pat, &whole, splits)?;
+        self.last = Some(whole);
+        Ok(row)
     }
 }
 
@@ -39,18 +62,17 @@ fn row_of(
     alloc: Global,
     language: &CheckedLang,
     pat: &CheckedPat,
-    t: &Term,
+    whole: &Interned,
     splits: bool,
 ) -> Result<Row, NoMemory>
     ensures { IfOk result (λ row. HasAsked
-        (Match (language_in language.now) (pattern_in pat.now) (tree_of t.now))
-        (SplitsAt (language_in language.now) (pattern_in pat.now) (tree_of t.now))
+        (Match (language_in language.now) (pattern_in pat.now) (tree_in whole.now))
+        (SplitsAt (language_in language.now) (pattern_in pat.now) (tree_in whole.now))
         (asked_where splits) (split_row_of row)) }
 {
-    let mut store = Store::new(alloc)?;
-    let id = store.id_of(t)?;
-    let mut setting = Setting::new(alloc, language, store)?;
+    let mut setting = Setting::new(alloc, language, &whole.store)?;
     let number = setting.add(pat.pat())?;
+    let id = whole.id;
     solve(setting, Goal { number, id, splits })
 }
 
@@ -61,7 +83,7 @@ impl Matcher for Table {
         pat: &CheckedPat,
         t: &Term,
     ) -> Result<Vec<Binding>, NoMemory> {
-        let row = row_of(self.alloc, language, pat, t, false)?;
+        let row = self.row(language, pat, t, false)?;
         listing(self.alloc, row.matches)
     }
 
@@ -71,7 +93,7 @@ impl Matcher for Table {
         pat: &CheckedPat,
         t: &Term,
     ) -> Result<Vec<Split>, NoMemory> {
-        let row = row_of(self.alloc, language, pat, t, true)?;
+        let row = self.row(language, pat, t, true)?;
         sorted_splits(self.alloc, t, row.spots)
     }
 }

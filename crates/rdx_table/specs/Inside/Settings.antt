@@ -24,7 +24,7 @@ patterns_at_hand s = patterns_in s.nodes.items
 
 -- the terms, by their ids
 abbrev pub trees_at_hand : Setting → List Tree
-trees_at_hand s = s.store
+trees_at_hand s = s.store.now
 
 -- the nodes are right, and the index has the numbers of nonterminals
 pub record IsReady (s : Setting) : Type 0 where
