@@ -1,3 +1,4 @@
+pub mod Places
 pub mod Gathered
 pub mod HandedOn
 pub mod GatheredLoops
@@ -19,6 +20,7 @@ pub mod LeastValues
 pub mod TextSets
 pub mod FirstVariants
 pub mod Symbols
+pub mod ValuesByName
 pub mod Examples
 pub mod CallExamples
 pub mod JudgementExamples

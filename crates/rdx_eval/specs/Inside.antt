@@ -1,8 +1,10 @@
 pub mod Parts
 pub mod Metafunctions
 pub mod Judgements
+pub mod Relations
 pub mod Sequences
 pub mod Scopes
 pub mod Stops
 pub mod Taken
 pub mod Extras
+pub mod Found

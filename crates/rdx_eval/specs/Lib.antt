@@ -15,4 +15,5 @@ pub mod Examples
 pub mod CallExamples
 pub mod JudgementExamples
 pub mod FreshExamples
+pub mod Model
 pub mod Inside

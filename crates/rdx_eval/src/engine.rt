@@ -1,14 +1,18 @@
 // The engine's calls.
 ghost use Rattle.std.specs.Prelude.{◌≡◌};
+ghost use Rattle.std.specs.Option.{ForSome};
+ghost use Rattle.rdx_lang.specs.ProgramView.{program_of};
+ghost use Rattle.rdx_eval.specs.Model.Names.{AreNamesOf};
 
 use crate::extending::listed_bindings;
-use crate::lookup::language_named;
+use crate::lookup::Names;
 use crate::room::Room;
 use crate::scope::{Scope, Setting};
 use crate::{EvalFault, evaluation};
 use rdx_delta::HostTable;
 use rdx_lang::{
-    Binding, CheckedLang, CheckedPat, Extra, HostExpr, Matcher, Premise, Program, Split, Template,
+    Binding, CheckedLang, CheckedPat, Extra, HostExpr, Judgement, Matcher, Premise, Program,
+    Relation, Split, Template,
 };
 use rdx_term::{Name, NoMemory, Term};
 use std::alloc::Global;
@@ -22,21 +26,24 @@ pub struct Engine<'a, M: Drop> {
     alloc: Global,
     program: &'a Program,
     host: &'a HostTable,
+    names: Option<Names<'a>>,
     matcher: M,
+    ghost of_program: { ForSome names (AreNamesOf (program_of program.now)) },
 }
 
 impl<'a, M: Matcher + Drop> Engine<'a, M> {
-    ghost use Rattle.std.specs.Prelude.{IfOk, IsSome};
+    ghost use Rattle.std.specs.Prelude.{IfOk, IsSome, OnOk, option_map};
     ghost use Rattle.rdx_term.specs.View.{tree_of};
     ghost use Rattle.rdx_lang.specs.Checked.{language_in, pattern_in};
     ghost use Rattle.rdx_lang.specs.Listing.{Matches, Splits};
-    ghost use Rattle.rdx_lang.specs.ProgramView.{program_of, extras_of, premise_of};
-    ghost use Rattle.rdx_lang.specs.Programs.{language_named};
+    ghost use Rattle.rdx_lang.specs.ProgramView.{program_of, extras_of, judgement_of, premise_of, relation_of};
+    ghost use Rattle.rdx_lang.specs.Programs.{judgement_named, language_named, relation_named};
     ghost use Rattle.rdx_lang.specs.Shown.{binding_of, bindings_of, decompositions_of};
     ghost use Rattle.rdx_lang.specs.TemplateView.{template_of, host_of};
     ghost use Rattle.rdx_eval.specs.Heights.{calls_at, height};
     ghost use Rattle.rdx_eval.specs.Extending.{ExtendOver, MeetsOver};
     ghost use Rattle.rdx_eval.specs.Instantiation.{Makes, HostMakes};
+    ghost use Rattle.rdx_eval.specs.Languages.{language_found};
     ghost use Rattle.rdx_eval.specs.Judgements.{Holds};
     ghost use Rattle.rdx_eval.specs.Views.{Says, bindings_in, terms_in};
 
@@ -53,18 +60,19 @@ impl<'a, M: Matcher + Drop> Engine<'a, M> {
             alloc,
             program,
             host,
+            names: None,
             matcher,
         }
     }
 
-    // What stays the same in an evaluation.
-    fn setting(&self) -> Setting<'a, HostTable>
-        ensures { result.program ≡ self.now.program }
+    // The names of the program, which are taken out where they are there.
+    fn names(&mut self) -> Result<Names<'a>, NoMemory>
+        ensures names { IfOk result (AreNamesOf (program_of self.old.program.now)) }
+        ensures same { self.new.program ≡ self.old.program }
     {
-        Setting {
-            alloc: self.alloc,
-            program: self.program,
-            host: self.host,
+        match self.names.take() {
+            Some(names) => Ok(names),
+            None => Names::new(self.alloc, self.program),
         }
     }
 
@@ -73,6 +81,42 @@ impl<'a, M: Matcher + Drop> Engine<'a, M> {
         ensures { result.now ≡ self.now.program.now }
     {
         self.program
+    }
+
+    /// The language of this name, where the program has one.
+    pub fn language(&mut self, name: &Name) -> Result<Option<&'a CheckedLang>, NoMemory>
+        ensures found { IfOk result (λ found. language_found found
+            ≡ language_named (program_of self.old.program.now) name.now) }
+        ensures same { self.new.program ≡ self.old.program }
+    {
+        let names = self.names()?;
+        let found = names.language_named(self.program, name);
+        self.names = Some(names);
+        Ok(found)
+    }
+
+    /// The relation of this name, where the program has one.
+    pub fn relation(&mut self, name: &Name) -> Result<Option<&'a Relation>, NoMemory>
+        ensures found { IfOk result (λ found. option_map (λ r. relation_of r.now) found
+            ≡ relation_named (program_of self.old.program.now) name.now) }
+        ensures same { self.new.program ≡ self.old.program }
+    {
+        let names = self.names()?;
+        let found = names.relation_named(self.program, name);
+        self.names = Some(names);
+        Ok(found)
+    }
+
+    /// The judgement of this name, where the program has one.
+    pub fn judgement(&mut self, name: &Name) -> Result<Option<&'a Judgement>, NoMemory>
+        ensures found { IfOk result (λ found. option_map (λ j. judgement_of j.now) found
+            ≡ judgement_named (program_of self.old.program.now) name.now) }
+        ensures same { self.new.program ≡ self.old.program }
+    {
+        let names = self.names()?;
+        let found = names.judgement_named(self.program, name);
+        self.names = Some(names);
+        Ok(found)
     }
 
     /// The bindings by which the pattern matches the term, as its matcher lists them.
@@ -109,7 +153,8 @@ impl<'a, M: Matcher + Drop> Engine<'a, M> {
             (binding_of b.now) (template_of t.now)) result }
         ensures same { self.new.program ≡ self.old.program }
     {
-        let setting = self.setting();
+        let names = self.names()?;
+        let setting = Setting::new(self.alloc, self.program, &names, self.host);
         let scope = Scope {
             setting: &setting,
             height: HEIGHT,
@@ -117,7 +162,9 @@ impl<'a, M: Matcher + Drop> Engine<'a, M> {
             turns: &[],
         };
         let room = Room::whole();
-        Ok(evaluation::instantiate(&scope, &mut self.matcher, room, t)?)
+        let answer = evaluation::instantiate(&scope, &mut self.matcher, room, t);
+        self.names = Some(names);
+        Ok(answer?)
     }
 
     /// What the host expression makes of the binding, or the first fault.
@@ -126,7 +173,8 @@ impl<'a, M: Matcher + Drop> Engine<'a, M> {
             (binding_of b.now) (host_of h.now)) result }
         ensures same { self.new.program ≡ self.old.program }
     {
-        let setting = self.setting();
+        let names = self.names()?;
+        let setting = Setting::new(self.alloc, self.program, &names, self.host);
         let scope = Scope {
             setting: &setting,
             height: HEIGHT,
@@ -134,7 +182,9 @@ impl<'a, M: Matcher + Drop> Engine<'a, M> {
             turns: &[],
         };
         let room = Room::whole();
-        Ok(evaluation::evaluate(&scope, &mut self.matcher, room, h)?)
+        let answer = evaluation::evaluate(&scope, &mut self.matcher, room, h);
+        self.names = Some(names);
+        Ok(answer?)
     }
 
     /// The value of the metafunction of this name for the list of arguments, or the first fault. A
@@ -144,9 +194,12 @@ impl<'a, M: Matcher + Drop> Engine<'a, M> {
             f.now (tree_of args.now)) result }
         ensures same { self.new.program ≡ self.old.program }
     {
-        let setting = self.setting();
+        let names = self.names()?;
+        let setting = Setting::new(self.alloc, self.program, &names, self.host);
         let room = Room::whole();
-        Ok(evaluation::call(&setting, &mut self.matcher, room, HEIGHT, f, args)?)
+        let answer = evaluation::call(&setting, &mut self.matcher, room, HEIGHT, f, args);
+        self.names = Some(names);
+        Ok(answer?)
     }
 
     /// The lists of outputs of the judgement of this name for the list of inputs, ascending and
@@ -157,9 +210,12 @@ impl<'a, M: Matcher + Drop> Engine<'a, M> {
             result }
         ensures same { self.new.program ≡ self.old.program }
     {
-        let setting = self.setting();
+        let names = self.names()?;
+        let setting = Setting::new(self.alloc, self.program, &names, self.host);
         let room = Room::whole();
-        Ok(evaluation::judge(&setting, &mut self.matcher, room, HEIGHT, j, ins)?)
+        let answer = evaluation::judge(&setting, &mut self.matcher, room, HEIGHT, j, ins);
+        self.names = Some(names);
+        Ok(answer?)
     }
 
     /// Whether the judgement of this name has outputs for the list of inputs, or the first fault.
@@ -181,10 +237,11 @@ impl<'a, M: Matcher + Drop> Engine<'a, M> {
             (calls_at (program_of self.old.program.now) height) (premise_of premise.now)) result }
         ensures same { self.new.program ≡ self.old.program }
     {
-        let Some(language) = language_named(self.program, language) else {
+        let names = self.names()?;
+        let setting = Setting::new(self.alloc, self.program, &names, self.host);
+        let Some(language) = names.language_named(self.program, language) else {
             unreachable!()
         };
-        let setting = self.setting();
         let none = Binding::new(Vec::new(self.alloc));
         let found = evaluation::by_premise(
             &setting,
@@ -194,8 +251,9 @@ impl<'a, M: Matcher + Drop> Engine<'a, M> {
             language,
             premise,
             &none,
-        )?;
-        Ok(listed_bindings(self.alloc, found)?)
+        );
+        self.names = Some(names);
+        Ok(listed_bindings(self.alloc, found?)?)
     }
 
     /// Which bindings the extras make of these, one extra after the other, in a language of the
@@ -214,12 +272,13 @@ impl<'a, M: Matcher + Drop> Engine<'a, M> {
             (extras_of extras.now) (bindings_in found)) result }
         ensures same { self.new.program ≡ self.old.program }
     {
-        let Some(language) = language_named(self.program, language) else {
+        let names = self.names()?;
+        let setting = Setting::new(self.alloc, self.program, &names, self.host);
+        let Some(language) = names.language_named(self.program, language) else {
             unreachable!()
         };
-        let setting = self.setting();
         let room = Room::whole();
-        Ok(evaluation::extend(
+        let answer = evaluation::extend(
             &setting,
             &mut self.matcher,
             room,
@@ -228,6 +287,8 @@ impl<'a, M: Matcher + Drop> Engine<'a, M> {
             extras,
             found,
             whole,
-        )?)
+        );
+        self.names = Some(names);
+        Ok(answer?)
     }
 }

@@ -26,7 +26,6 @@ ghost use Rattle.rdx_eval.specs.Views.{terms_in, bindings_in};
 use crate::extending::{found_by, listed_bindings, matched, matched_each, unless_false};
 use crate::fresh::freshened_each;
 use crate::host::{Host, is_false, operate};
-use crate::lookup::{judgement_named, language_named, metafunction_named};
 use crate::making::{filled, listed};
 use crate::room::Room;
 use crate::scope::{Scope, Setting};
@@ -297,10 +296,13 @@ pub(crate) fn call<M: Matcher, H: Host>(
     if height == 0 {
         return Err(spent(setting.alloc, f)?);
     }
-    let Some(metafunction) = metafunction_named(setting.program, f) else {
+    let Some(metafunction) = setting.names.metafunction_named(setting.program, f) else {
         return Err(undefined(setting.alloc, f, args)?);
     };
-    let Some(language) = language_named(setting.program, &metafunction.language) else {
+    let Some(language) = setting
+        .names
+        .language_named(setting.program, &metafunction.language)
+    else {
         return Err(undefined(setting.alloc, f, args)?);
     };
     let clauses = metafunction.clauses.as_slice();
@@ -354,8 +356,8 @@ fn by_clauses<M: Matcher, H: Host>(
 // The one value that the result of a clause has for all these bindings, which are some.
 #[cycle(evaluation)]
 #[inline(never)]
-fn result_of<'x, M: Matcher, H: Host>(
-    setting: &'x Setting<'x, H>,
+fn result_of<'x, 'n, M: Matcher, H: Host>(
+    setting: &'x Setting<'x, 'n, H>,
     matcher: &mut M,
     room: Room,
     height: usize,
@@ -402,10 +404,13 @@ pub(crate) fn judge<M: Matcher, H: Host>(
     if height == 0 {
         return Err(spent(setting.alloc, j)?);
     }
-    let Some(judgement) = judgement_named(setting.program, j) else {
+    let Some(judgement) = setting.names.judgement_named(setting.program, j) else {
         return Ok(Vec::new(setting.alloc));
     };
-    let Some(language) = language_named(setting.program, &judgement.language) else {
+    let Some(language) = setting
+        .names
+        .language_named(setting.program, &judgement.language)
+    else {
         return Ok(Vec::new(setting.alloc));
     };
     let rules = judgement.rules.as_slice();
@@ -449,8 +454,8 @@ fn by_rules<M: Matcher, H: Host>(
 // The lists that the outputs of a rule make of all these bindings, in their order.
 #[cycle(evaluation)]
 #[inline(never)]
-fn output_lists<'x, M: Matcher, H: Host>(
-    setting: &'x Setting<'x, H>,
+fn output_lists<'x, 'n, M: Matcher, H: Host>(
+    setting: &'x Setting<'x, 'n, H>,
     matcher: &mut M,
     room: Room,
     height: usize,
@@ -518,7 +523,7 @@ pub(crate) fn extend<M: Matcher, H: Host>(
         let earlier = &extras[..i];
         let extra = &extras[i];
         bs = by_each(
-            setting, matcher, room, height, language, whole, earlier, extra, &bs,
+            setting, matcher, room, height, language, whole, earlier, extra, bs,
         )?;
     }
     Ok(bs)
@@ -536,22 +541,22 @@ fn by_each<M: Matcher, H: Host>(
     whole: &Term,
     earlier: &[Extra],
     extra: &Extra,
-    bs: &[Binding],
+    bs: Vec<Binding>,
 ) -> Result<Vec<Binding>, Stop>
     ensures { Tells bindings_in (ByEach (language_in language.now) (calls_in setting.now height)
         (behind_all (avoiding (tree_of whole.now)) (extras_of earlier.now)) (extra_of extra.now)
-        (bindings_of bs.now)) result }
+        (bindings_in bs)) result }
 {
     let room = room.inside()?;
     let found = match extra {
         Extra::Where(pat, template) => {
-            where_each(setting, matcher, room, height, language, pat, template, bs)?
+            where_each(setting, matcher, room, height, language, pat, template, &bs)?
         }
         Extra::Side(h) => side_each(setting, matcher, room, height, h, bs)?,
         Extra::Holds(premise) => {
-            premise_each(setting, matcher, room, height, language, premise, bs)?
+            premise_each(setting, matcher, room, height, language, premise, &bs)?
         }
-        Extra::Fresh(name) => freshened_each(setting.alloc, whole, earlier, name, bs)?,
+        Extra::Fresh(name) => freshened_each(setting.alloc, whole, earlier, name, &bs)?,
     };
     Ok(listed_bindings(setting.alloc, found)?)
 }
@@ -559,8 +564,8 @@ fn by_each<M: Matcher, H: Host>(
 // The joins of each binding with those by which the pattern matches what the template makes of it.
 #[cycle(evaluation)]
 #[inline(never)]
-fn where_each<'x, M: Matcher, H: Host>(
-    setting: &'x Setting<'x, H>,
+fn where_each<'x, 'n, M: Matcher, H: Host>(
+    setting: &'x Setting<'x, 'n, H>,
     matcher: &mut M,
     room: Room,
     height: usize,
@@ -592,24 +597,24 @@ fn where_each<'x, M: Matcher, H: Host>(
 // The bindings of which the host expression does not make false.
 #[cycle(evaluation)]
 #[inline(never)]
-fn side_each<'x, M: Matcher, H: Host>(
-    setting: &'x Setting<'x, H>,
+fn side_each<M: Matcher, H: Host>(
+    setting: &Setting<H>,
     matcher: &mut M,
     room: Room,
     height: usize,
     h: &HostExpr,
-    bs: &'x [Binding],
+    bs: Vec<Binding>,
 ) -> Result<Vec<Binding>, Stop>
     ensures { Tells bindings_in (Gather (SideOne (calls_in setting.now height) (host_of h.now))
-        (bindings_of bs.now)) result }
+        (bindings_in bs)) result }
 {
     let room = room.inside()?;
     let mut found = Vec::new(setting.alloc);
     for binding in bs {
         let scope = Scope {
-            setting,
+            setting: &*setting,
             height,
-            b: binding,
+            b: &binding,
             turns: &[],
         };
         let t = evaluate(&scope, matcher, room, h)?;
@@ -622,8 +627,8 @@ fn side_each<'x, M: Matcher, H: Host>(
 // What the premise makes of each binding.
 #[cycle(evaluation)]
 #[inline(never)]
-fn premise_each<'x, M: Matcher, H: Host>(
-    setting: &'x Setting<'x, H>,
+fn premise_each<'x, 'n, M: Matcher, H: Host>(
+    setting: &'x Setting<'x, 'n, H>,
     matcher: &mut M,
     room: Room,
     height: usize,
@@ -646,8 +651,8 @@ fn premise_each<'x, M: Matcher, H: Host>(
 /// What a premise makes of one binding.
 #[cycle(evaluation)]
 #[inline(never)]
-pub(crate) fn by_premise<'x, M: Matcher, H: Host>(
-    setting: &'x Setting<'x, H>,
+pub(crate) fn by_premise<'x, 'n, M: Matcher, H: Host>(
+    setting: &'x Setting<'x, 'n, H>,
     matcher: &mut M,
     room: Room,
     height: usize,

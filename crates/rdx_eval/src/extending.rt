@@ -98,12 +98,12 @@ pub(crate) fn matched_each<M: Matcher>(
 
 /// The binding alone, unless the term is false.
 #[inline(never)]
-pub(crate) fn unless_false(alloc: Global, t: &Term, b: &Binding) -> Result<Vec<Binding>, NoMemory>
-    ensures { IfOk result (λ found. bindings_in found ≡ kept (tree_of t.now) (binding_of b.now)) }
+pub(crate) fn unless_false(alloc: Global, t: &Term, b: Binding) -> Result<Vec<Binding>, NoMemory>
+    ensures { IfOk result (λ found. bindings_in found ≡ kept (tree_of t.now) (binding_of b)) }
 {
     let mut found = Vec::new(alloc);
     if !is_false(t) {
-        found.push(b.share()?)?;
+        found.push(b)?;
     }
     Ok(found)
 }

@@ -6,13 +6,15 @@ ghost use Rattle.std.specs.List.{list_any};
 ghost use Rattle.rdx_term.specs.Tree.{symbol as symbol_tree};
 ghost use Rattle.rdx_term.specs.View.{tree_of};
 ghost use Rattle.rdx_lang.specs.Bindings.{one_name, one as one_term};
+ghost use Rattle.rdx_lang.specs.BindingView.{found_value};
 ghost use Rattle.rdx_lang.specs.ProgramView.{extras_of};
 ghost use Rattle.rdx_lang.specs.Shown.{binding_of, bindings_of};
 ghost use Rattle.rdx_lang.specs.Variants.{first_from};
 ghost use Rattle.rdx_eval.specs.Answers.{Gather, value};
 ghost use Rattle.rdx_eval.specs.Extending.{Joins, Joined};
-ghost use Rattle.rdx_eval.specs.Fresh.{avoiding, freshly, symbols, symbols_of};
+ghost use Rattle.rdx_eval.specs.Fresh.{avoiding, freshly, symbol_in, symbols, symbols_of};
 ghost use Rattle.rdx_eval.specs.Inside.Extras.{behind_all, fresh_names};
+ghost use Rattle.rdx_eval.specs.Inside.Found.{at_text, FindsValues};
 ghost use Rattle.rdx_eval.specs.Inside.Taken.{texts_of, texts_in, texts_within, HaveSame, IsFirst};
 ghost use Rattle.rdx_eval.specs.Views.{bindings_in};
 
@@ -21,7 +23,7 @@ use rdx_bind::combining::one_pair;
 use rdx_lang::{Binding, Extra, Value, variant};
 use rdx_term::{Name, NoMemory, Term};
 use std::alloc::Global;
-use std::collections::BTreeSet;
+use std::collections::{BTreeMap, BTreeSet};
 
 // Puts the symbols of the term behind the others.
 fn add_symbols<'a>(t: &'a Term, found: &mut Vec<&'a str>) -> Result<(), NoMemory>
@@ -64,6 +66,40 @@ fn names_of<'a>(alloc: Global, extras: &'a [Extra]) -> Result<Vec<&'a Name>, NoM
     Ok(names)
 }
 
+// What each name that is bound stands for.
+fn values_by_name<'a>(
+    alloc: Global,
+    b: &'a Binding,
+) -> Result<BTreeMap<&'a str, &'a Value>, NoMemory>
+    ensures { IfOk result (λ values. FindsValues values (binding_of b.now)) }
+{
+    let pairs = b.pairs();
+    let mut values = BTreeMap::new(alloc);
+    for place in (0..pairs.len()).rev() {
+        let pair = &pairs[place];
+        values.insert(pair.0.text(), &pair.1)?;
+    }
+    Ok(values)
+}
+
+// What the name stands for.
+fn value_of<'a>(values: &BTreeMap<&str, &'a Value>, name: &Name) -> Option<&'a Value>
+    ensures { result ≡ at_text values.now name.now }
+{
+    values.get(name.text()).copied()
+}
+
+// Puts the symbols that a name stands for behind the others.
+fn add_bound<'a>(value: Option<&'a Value>, found: &mut Vec<&'a str>) -> Result<(), NoMemory>
+    ensures { OnOk result (texts_in found.new
+        ≡ texts_in found.old ++ symbol_in (found_value value.entry)) }
+{
+    match value {
+        Some(Value::One(t)) => add_symbols(t, found),
+        Some(Value::Many(_) | Value::Len(_)) | None => Ok(()),
+    }
+}
+
 // The symbols that the names stand for in the binding.
 fn bound_symbols<'a>(
     alloc: Global,
@@ -73,11 +109,10 @@ fn bound_symbols<'a>(
     ensures { IfOk result (λ few. texts_in few
         ≡ symbols_of (texts_of names.now) (binding_of b.now)) }
 {
+    let values = values_by_name(alloc, b)?;
     let mut few = Vec::new(alloc);
     for name in names {
-        if let Some(Value::One(t)) = b.get(name) {
-            add_symbols(t, &mut few)?;
-        }
+        add_bound(value_of(&values, name), &mut few)?;
     }
     Ok(few)
 }

@@ -28,4 +28,3 @@ mod values;
 
 pub use engine::Engine;
 pub use fault::{EvalFault, Fault};
-pub use lookup::language_named;

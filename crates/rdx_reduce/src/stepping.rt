@@ -14,7 +14,7 @@ ghost use Rattle.rdx_reduce.specs.Steps.{RuleSteps, AllSteps};
 
 use crate::Step;
 use crate::sorting::listing;
-use rdx_eval::{Engine, EvalFault, language_named};
+use rdx_eval::{Engine, EvalFault};
 use rdx_lang::{Binding, CheckedLang, Matcher, Relation, Rule};
 use rdx_term::{Name, Term};
 use std::alloc::Global;
@@ -107,7 +107,7 @@ pub fn steps<M: Matcher + Drop>(
         (relation_of relation.now) (tree_of t.now)) result }
     ensures same { program_in engine.new ≡ program_in engine.old }
 {
-    let Some(language) = language_named(engine.program(), &relation.language) else {
+    let Some(language) = engine.language(&relation.language)? else {
         unreachable!()
     };
     let found = all_steps(

@@ -147,7 +147,8 @@ invariant-where_each-loop-binding g l =
 
 abbrev pub invariant-side_each-loop-binding : goal.invariant-side_each-loop-binding
 invariant-side_each-loop-binding g l =
-    Gathers (SideOne (calls_in l.setting l.height) (host_of l.h)) (bindings_of l.bs) (bindings_of (drop l.binding-index l.bs)) (bindings_in l.found)
+    Gathers (SideOne (calls_in l.setting l.height) (host_of l.h)) (bindings_of l.fn.bs.items) (bindings_of l.binding-iterator.rest.items)
+    (bindings_in l.found)
 
 abbrev pub invariant-premise_each-loop-b : goal.invariant-premise_each-loop-b
 invariant-premise_each-loop-b g l =

@@ -1,4 +1,4 @@
-use Rattle.std.proofs.Common.{Option, Some, subst}
+use Rattle.std.proofs.Common.{◌∙◌, Option, Some, ap, subst}
 use Rattle.std.specs.Borrow.{Bor}
 use Rattle.std.specs.Prelude.{Err}
 use Rattle.rdx_term.specs.Tree.{Tree}
@@ -15,17 +15,17 @@ use Rattle.rdx_eval.specs.Views.{bindings_in}
 use Rattle.rdx_eval.proofs.HandedOn.{told_on}
 use Rattle.rdx_eval.proofs.engine.Engine.extend.Goals as goal
 
-pub returns-in_err-extend-clause-answer : goal.returns-in_err-extend-clause-answer
-returns-in_err-extend-clause-answer g c =
+pub returns-in_err-answer-clause-answer : goal.returns-in_err-answer-clause-answer
+returns-in_err-answer-clause-answer g c =
     let p = c.args.self.now.program in
     let w : Tree = tree_of c.args.whole.now in
     told_on bindings_in bindings_in
     (ExtendOver (language_named (program_of p.now) c.args.language.now) (calls_at (program_of p.now) height) w (extras_of c.args.extras.now)
-    (bindings_in c.args.found)) c.from_residual.result c.in_err-extend.field-0.0 c.from_residual.ensures.1
+    (bindings_in c.args.found)) c.from_residual-in_err-answer.result c.in_err-answer.field-0.0 c.from_residual-in_err-answer.ensures.1
     (subst (λ (L : Option Language). Tells bindings_in
-    (ExtendOver L (calls_at (program_of p.now) height) w (extras_of c.args.extras.now) (bindings_in c.args.found)) (Err c.in_err-extend.field-0.0))
-    c.in-Some.ensures
+    (ExtendOver L (calls_at (program_of p.now) height) w (extras_of c.args.extras.now) (bindings_in c.args.found)) (Err c.in_err-answer.field-0.0))
+    (c.in-Some.ensures ∙ ap (λ (p : Bor code_program.Program). language_named (program_of p.now) c.args.language.now) c.names.ensures.same)
     (subst (λ (q : Bor code_program.Program). Tells bindings_in
     (ExtendOver (Some (language_in c.in-Some.language.now)) (calls_at (program_of q.now) height) w (extras_of c.args.extras.now) (bindings_in c.args.found))
-    (Err c.in_err-extend.field-0.0))
-    c.setting-setting.ensures c.in_err-extend.ensures))
+    (Err c.in_err-answer.field-0.0))
+    (c.new-setting.ensures ∙ c.names.ensures.same) c.in_err-answer.ensures))

@@ -10,7 +10,7 @@ use Rattle.rdx_lang.specs.Bindings.{Binding}
 use Rattle.rdx_lang.specs.Checked.{language_in, pattern_in}
 use Rattle.rdx_lang.specs.Patterns.{Language}
 use Rattle.rdx_lang.specs.ProgramView.{extra_of, extras_of, premise_of}
-use Rattle.rdx_lang.specs.Programs.{Extra, Premise, such_as, provided, holds}
+use Rattle.rdx_lang.specs.Programs.{Extra, Premise, such_as, provided, holds, fresh}
 use Rattle.rdx_lang.specs.Shown.{binding_of, bindings_of}
 use Rattle.rdx_lang.specs.Templates.{Host}
 use Rattle.rdx_lang.specs.TemplateView.{template_of, host_of}
@@ -27,6 +27,7 @@ use Rattle.rdx_eval.specs.Inside.Scopes.{calls_in}
 use Rattle.rdx_eval.specs.Instantiation.{HostMakes, Makes, MakeList}
 use Rattle.rdx_eval.specs.Views.{terms_in, bindings_in}
 use Rattle.rdx_eval.proofs.ExtraAfterExtra.{extends-next, extends-fault}
+use Rattle.rdx_eval.proofs.Gathered.{gathers-end, gathers-fault, gathers-next}
 use Rattle.rdx_eval.proofs.GatheredLoops.{gather-next, gather-end, gather-error}
 use Rattle.rdx_eval.proofs.HandedOn.{handed_on, error_handed_on}
 use Rattle.rdx_eval.proofs.evaluation.+evaluation.Goals as goal
@@ -53,10 +54,9 @@ extend-returns-in_err-bs g t c =
     let x = c.index-extras-i.result in
     let done : List Extra = extras_of (take i xs) in
     let e : extras_of (drop i xs) ≡ extra_of x ∷ extras_of (drop (i + 1) xs) = rest_at extra_of xs i x c.loop-i-test.true c.index-extras-i.is in
-    error_handed_on bindings_in bindings_in (ByEach L C (behind_all a done) (extra_of x) (bindings_of c.deref.result.now))
+    error_handed_on bindings_in bindings_in (ByEach L C (behind_all a done) (extra_of x) (bindings_in c.loop-i.bs))
     (Extend L C a (extras_of xs) (bindings_in c.args.found)) c.from_residual-in_err-bs.result _ c.from_residual-in_err-bs.ensures.1
-    (λ f h. extends-fault L C a (extras_of xs) (bindings_in c.args.found) done _ (bindings_in c.loop-i.bs) (extra_of x) _ e f
-    (subst (λ (bs : List code_binding.Binding). ByEach L C (behind_all a done) (extra_of x) (bindings_of bs) (fault f)) c.deref.ensures.value h)
+    (λ f h. extends-fault L C a (extras_of xs) (bindings_in c.args.found) done _ (bindings_in c.loop-i.bs) (extra_of x) _ e f h
     c.loop-i.invariant)
     c.in_err-bs.ensures
 
@@ -72,10 +72,7 @@ extend-loop-i-preserved g t c =
     let cs : List Binding = bindings_in c.in_ok-bs.bs in
     let e : extras_of (drop i xs) ≡ extra_of x ∷ extras_of (drop (i + 1) xs) = rest_at extra_of xs i x c.loop-i-test.true c.index-extras-i.is in
     let d : extras_of (take (i + 1) xs) ≡ done ++ extra_of x ∷ [] = taken_next extra_of xs i x c.loop-i-test.true c.index-extras-i.is in
-    let h : ByEach L C (behind_all a done) (extra_of x) (bindings_in c.loop-i.bs) (value cs) =
-    subst (λ (bs : List code_binding.Binding). ByEach L C (behind_all a done) (extra_of x) (bindings_of bs) (value cs)) c.deref.ensures.value
-    c.in_ok-bs.ensures in
-    extends-next L C a (extras_of xs) (bindings_in c.args.found) done _ (bindings_in c.loop-i.bs) (extra_of x) _ e (extras_of (take (i + 1) xs)) d cs h
+    extends-next L C a (extras_of xs) (bindings_in c.args.found) done _ (bindings_in c.loop-i.bs) (extra_of x) _ e (extras_of (take (i + 1) xs)) d cs c.in_ok-bs.ensures
     c.loop-i.invariant
 
 -- what is gathered of one form of extras is what is gathered of the extra that has it
@@ -89,18 +86,19 @@ by_each-returns-in_err-found-in-Where g t c =
     let C : Calls = calls_in c.args.setting.now c.args.height in
     let L : Language = language_in c.args.language.now in
     let a : Avoided = behind_all (avoiding (tree_of c.args.whole.now)) (extras_of c.args.earlier.now) in
-    let bs : List Binding = bindings_of c.args.bs.now in
+    let bs : List Binding = bindings_in c.args.bs in
     let e : extra_of c.args.extra.now ≡ such_as (pattern_in c.in-Where.pat) (template_of c.in-Where.template) = ap extra_of c.in-Where.is in
-    error_handed_on bindings_in bindings_in (Gather (WhereOne L C (pattern_in c.in-Where.pat) (template_of c.in-Where.template)) bs)
+    error_handed_on bindings_in bindings_in (Gather (WhereOne L C (pattern_in c.in-Where.pat) (template_of c.in-Where.template)) (bindings_of c.deref.result.now))
     (ByEach L C a (extra_of c.args.extra.now) bs) c.from_residual-in_err-found-in-Where.result _ c.from_residual-in_err-found-in-Where.ensures.1
-    (λ f h. stops (subst (λ (x : Extra). Gather (By L C a x) bs (fault f)) (sym e) h)) c.in_err-found-in-Where.ensures
+    (λ f h. stops (subst (λ (x : Extra). Gather (By L C a x) bs (fault f)) (sym e)
+    (subst (λ (vs : List code_binding.Binding). Gather (WhereOne L C (pattern_in c.in-Where.pat) (template_of c.in-Where.template)) (bindings_of vs) (fault f)) c.deref.ensures.value h))) c.in_err-found-in-Where.ensures
 
 pub by_each-returns-in_err-found-in-Side : goal.by_each-returns-in_err-found-in-Side
 by_each-returns-in_err-found-in-Side g t c =
     let C : Calls = calls_in c.args.setting.now c.args.height in
     let L : Language = language_in c.args.language.now in
     let a : Avoided = behind_all (avoiding (tree_of c.args.whole.now)) (extras_of c.args.earlier.now) in
-    let bs : List Binding = bindings_of c.args.bs.now in
+    let bs : List Binding = bindings_in c.args.bs in
     let e : extra_of c.args.extra.now ≡ provided (host_of c.in-Side.h) = ap extra_of c.in-Side.is in
     error_handed_on bindings_in bindings_in (Gather (SideOne C (host_of c.in-Side.h)) bs)
     (ByEach L C a (extra_of c.args.extra.now) bs) c.from_residual-in_err-found-in-Side.result _ c.from_residual-in_err-found-in-Side.ensures.1
@@ -111,29 +109,36 @@ by_each-returns-in_err-found-in-Holds g t c =
     let C : Calls = calls_in c.args.setting.now c.args.height in
     let L : Language = language_in c.args.language.now in
     let a : Avoided = behind_all (avoiding (tree_of c.args.whole.now)) (extras_of c.args.earlier.now) in
-    let bs : List Binding = bindings_of c.args.bs.now in
+    let bs : List Binding = bindings_in c.args.bs in
     let e : extra_of c.args.extra.now ≡ holds (premise_of c.in-Holds.premise) = ap extra_of c.in-Holds.is in
-    error_handed_on bindings_in bindings_in (Gather (ByPremise L C (premise_of c.in-Holds.premise)) bs)
+    error_handed_on bindings_in bindings_in (Gather (ByPremise L C (premise_of c.in-Holds.premise)) (bindings_of c.deref-in-Holds.result.now))
     (ByEach L C a (extra_of c.args.extra.now) bs) c.from_residual-in_err-found-in-Holds.result _ c.from_residual-in_err-found-in-Holds.ensures.1
-    (λ f h. stops (subst (λ (x : Extra). Gather (By L C a x) bs (fault f)) (sym e) h)) c.in_err-found-in-Holds.ensures
+    (λ f h. stops (subst (λ (x : Extra). Gather (By L C a x) bs (fault f)) (sym e)
+    (subst (λ (vs : List code_binding.Binding). Gather (ByPremise L C (premise_of c.in-Holds.premise)) (bindings_of vs) (fault f)) c.deref-in-Holds.ensures.value h))) c.in_err-found-in-Holds.ensures
 
 pub by_each-returns : goal.by_each-returns
 by_each-returns g t c =
     let C : Calls = calls_in c.args.setting.now c.args.height in
     let L : Language = language_in c.args.language.now in
     let a : Avoided = behind_all (avoiding (tree_of c.args.whole.now)) (extras_of c.args.earlier.now) in
-    let bs : List Binding = bindings_of c.args.bs.now in
+    let bs : List Binding = bindings_in c.args.bs in
     let R : Extra → List code_binding.Binding → Type 0 = λ e ds. Gather (By L C a e) bs (value (bindings_of ds)) in
     let h : R (extra_of c.args.extra.now) c.match-extra.found.items =
     elim c.match-extra.branch [
       | by_each-in-Where+in_ok-found-in-Where w ↦
-          gathered_by R (ap extra_of w.in-Where.is) w.found-is w.in_ok-found-in-Where.ensures
+          gathered_by R (ap extra_of w.in-Where.is) w.found-is
+          (subst (λ (vs : List code_binding.Binding). Gather (By L C a (such_as (pattern_in w.in-Where.pat) (template_of w.in-Where.template))) (bindings_of vs) (value (bindings_in w.in_ok-found-in-Where.found))) w.deref.ensures.value
+          w.in_ok-found-in-Where.ensures)
       | by_each-in-Side+in_ok-found-in-Side w ↦
           gathered_by R (ap extra_of w.in-Side.is) w.found-is w.in_ok-found-in-Side.ensures
       | by_each-in-Holds+in_ok-found-in-Holds w ↦
-          gathered_by R (ap extra_of w.in-Holds.is) w.found-is w.in_ok-found-in-Holds.ensures
+          gathered_by R (ap extra_of w.in-Holds.is) w.found-is
+          (subst (λ (vs : List code_binding.Binding). Gather (By L C a (holds (premise_of w.in-Holds.premise))) (bindings_of vs) (value (bindings_in w.in_ok-found-in-Holds.found))) w.deref-in-Holds.ensures.value
+          w.in_ok-found-in-Holds.ensures)
       | by_each-in-Fresh+in_ok-found-in-Fresh w ↦
-          gathered_by R (ap extra_of w.in-Fresh.is) w.found-is w.in_ok-found-in-Fresh.ensures
+          gathered_by R (ap extra_of w.in-Fresh.is) w.found-is
+          (subst (λ (vs : List code_binding.Binding). Gather (By L C a (fresh w.in-Fresh.name)) (bindings_of vs) (value (bindings_in w.in_ok-found-in-Fresh.found))) w.deref-in-Fresh.ensures.value
+          w.in_ok-found-in-Fresh.ensures)
     ] in
     goes h (lists c.in_ok-listed_bindings.ensures)
 
@@ -166,23 +171,49 @@ pub side_each-returns-in_err-t : goal.side_each-returns-in_err-t
 side_each-returns-in_err-t g t c =
     let C : Calls = calls_in c.args.setting.now c.args.height in
     let h : Host = host_of c.args.h.now in
-    let x = c.binding-item.result in
-    gather-error binding_of (SideOne C h) c.args.bs.now c.loop-binding.binding-index (bindings_in c.loop-binding.found) c.loop-binding.invariant x
-    c.loop-binding-test.true c.binding-item.is tree_of bindings_in (HostMakes C (binding_of x) h)
-    c.from_residual-in_err-t.result _ c.from_residual-in_err-t.ensures.1 (λ f k. stops k) c.in_err-t.ensures
+    let bs : List Binding = bindings_in c.args.bs in
+    let x : Binding = binding_of c.in-Some.binding in
+    let e = ap bindings_of c.in-Some.ensures.steps.0 in
+    error_handed_on tree_of bindings_in (HostMakes C x h) (Gather (SideOne C h) bs) c.from_residual-in_err-t.result _ c.from_residual-in_err-t.ensures.1
+    (λ f k. gathers-fault (SideOne C h) bs x _ _ (bindings_in c.loop-binding.found) f e (stops k) c.loop-binding.invariant) c.in_err-t.ensures
 
 pub side_each-loop-binding-preserved : goal.side_each-loop-binding-preserved
 side_each-loop-binding-preserved g t c =
     let R : Binding → Answer (List Binding) → Type 0 = SideOne (calls_in c.args.setting.now c.args.height) (host_of c.args.h.now) in
     let d : bindings_in c.append.new.self ≡ bindings_in c.loop-binding.found ++ bindings_in c.in_ok-more.more = grind (arith, common_steps) in
-    gather-next binding_of R c.args.bs.now c.loop-binding.binding-index (bindings_in c.loop-binding.found) c.loop-binding.invariant
-    c.binding-item.result c.loop-binding-test.true c.binding-item.is (bindings_in c.in_ok-more.more) (bindings_in c.append.new.self) d
-    (goes c.in_ok-t.ensures (ap value c.in_ok-more.ensures))
+    gathers-next R (bindings_in c.args.bs) (binding_of c.in-Some.binding) _ _ (bindings_in c.loop-binding.found) (bindings_in c.in_ok-more.more)
+    (bindings_in c.append.new.self) (ap bindings_of c.in-Some.ensures.steps.0) d (goes c.in_ok-t.ensures (ap value c.in_ok-more.ensures))
+    c.loop-binding.invariant
+
+pub side_each-loop-binding-preserved-in_ok-append : goal.side_each-loop-binding-preserved-in_ok-append
+side_each-loop-binding-preserved-in_ok-append g t c =
+    let R : Binding → Answer (List Binding) → Type 0 = SideOne (calls_in c.args.setting.now c.args.height) (host_of c.args.h.now) in
+    let d : bindings_in c.append.new.self ≡ bindings_in c.loop-binding.found ++ bindings_in c.in_ok-more.more = grind (arith, common_steps) in
+    gathers-next R (bindings_in c.args.bs) (binding_of c.in-Some.binding) _ _ (bindings_in c.loop-binding.found) (bindings_in c.in_ok-more.more)
+    (bindings_in c.append.new.self) (ap bindings_of c.in-Some.ensures.steps.0) d (goes c.in_ok-t.ensures (ap value c.in_ok-more.ensures))
+    c.loop-binding.invariant
+
+pub side_each-loop-binding-preserved-in_ok-append-2 : goal.side_each-loop-binding-preserved-in_ok-append-2
+side_each-loop-binding-preserved-in_ok-append-2 g t c =
+    let R : Binding → Answer (List Binding) → Type 0 = SideOne (calls_in c.args.setting.now c.args.height) (host_of c.args.h.now) in
+    let d : bindings_in c.append.new.self ≡ bindings_in c.loop-binding.found ++ bindings_in c.in_ok-more.more = grind (arith, common_steps) in
+    gathers-next R (bindings_in c.args.bs) (binding_of c.in-Some.binding) _ _ (bindings_in c.loop-binding.found) (bindings_in c.in_ok-more.more)
+    (bindings_in c.append.new.self) (ap bindings_of c.in-Some.ensures.steps.0) d (goes c.in_ok-t.ensures (ap value c.in_ok-more.ensures))
+    c.loop-binding.invariant
+
+pub side_each-loop-binding-preserved-in_ok-append-3 : goal.side_each-loop-binding-preserved-in_ok-append-3
+side_each-loop-binding-preserved-in_ok-append-3 g t c =
+    let R : Binding → Answer (List Binding) → Type 0 = SideOne (calls_in c.args.setting.now c.args.height) (host_of c.args.h.now) in
+    let d : bindings_in c.append.new.self ≡ bindings_in c.loop-binding.found ++ bindings_in c.in_ok-more.more = grind (arith, common_steps) in
+    gathers-next R (bindings_in c.args.bs) (binding_of c.in-Some.binding) _ _ (bindings_in c.loop-binding.found) (bindings_in c.in_ok-more.more)
+    (bindings_in c.append.new.self) (ap bindings_of c.in-Some.ensures.steps.0) d (goes c.in_ok-t.ensures (ap value c.in_ok-more.ensures))
+    c.loop-binding.invariant
 
 pub side_each-returns : goal.side_each-returns
 side_each-returns g t c =
-    gather-end binding_of (SideOne (calls_in c.args.setting.now c.args.height) (host_of c.args.h.now)) c.args.bs.now c.loop-binding.binding-index
-    (bindings_in c.loop-binding.found) c.loop-binding.invariant c.loop-binding-test.false
+    let e : c.loop-binding.binding-iterator.rest.items ≡ [] = grind (arith, common_steps) in
+    gathers-end (SideOne (calls_in c.args.setting.now c.args.height) (host_of c.args.h.now)) (bindings_in c.args.bs) _ (bindings_in c.loop-binding.found)
+    (ap bindings_of e) c.loop-binding.invariant
 
 pub premise_each-returns-in_err-more : goal.premise_each-returns-in_err-more
 premise_each-returns-in_err-more g t c =
