@@ -51,6 +51,8 @@ pub mod ScopeParts
 pub mod ScopeForms
 pub mod ShorthandCuts
 pub mod ArrowPlaces
+pub mod NamedPlaces
+pub mod FoundDepths
 pub mod ShorthandRefused
 pub mod NestedShortcuts
 pub mod CopiedDepths

@@ -42,4 +42,5 @@ pub mod RelationExamples
 pub mod ShorthandExamples
 pub mod MetafunctionExamples
 pub mod JudgementExamples
+pub mod Model
 pub mod Inside

@@ -44,12 +44,10 @@ pub(crate) fn headed_list(d: &Datum) -> Option<Headed<'_>>
 pub(crate) fn mode_of<'a>(scope: &'a Scope, name: &str) -> Option<&'a [bool]>
     ensures { option_map (λ m. m.now) result ≡ scopes.mode_of (scopes.scope_of scope.now) name.now }
 {
-    for (judgement, mode) in &scope.judgements {
-        if judgement.text() == name {
-            return Some(mode);
-        }
+    match scope.judgement(name) {
+        Some(judgement) => Some(judgement.1.as_slice()),
+        None => None,
     }
-    None
 }
 
 /// Whether the mode is known and has another number of arguments.

@@ -291,8 +291,5 @@ pub fn scope_of(alloc: Global, forms: &[Datum]) -> Result<Scope, NoMemory>
         add_functions(d, &mut metafunctions)?;
         add_judgements(alloc, d, &mut judgements)?;
     }
-    Ok(Scope {
-        metafunctions,
-        judgements,
-    })
+    Scope::new(alloc, metafunctions, judgements)
 }

@@ -20,6 +20,7 @@ use crate::crosses::add_asked;
 use crate::judgements::refusals::refuse_question;
 use crate::stands::names::lone_names;
 use crate::stands::readings;
+use crate::templates::bound::Bound;
 use crate::templates::readings as templates;
 use rdx_grammar::{DefFault, Names, language_names};
 use rdx_lang::{CheckedLang, Premise, Template};
@@ -49,17 +50,12 @@ fn read_alone(
         option_map premise_of q
         ≡ option_map (premise_reading (scope_of scope.now) names.now []) (headed.headed d.now)) }
 {
-    match headed_list(d) {
-        Some(premise) => Ok(Some(readings::read_premise(
-            alloc,
-            scope,
-            language,
-            names,
-            &[],
-            premise,
-        )?)),
-        None => Ok(None),
-    }
+    let Some(premise) = headed_list(d) else {
+        return Ok(None);
+    };
+    let bound = Bound::new(alloc);
+    let premise = readings::read_premise(alloc, scope, language, names, &bound, premise)?;
+    Ok(Some(premise))
 }
 
 // The template behind a premise, where there is one.

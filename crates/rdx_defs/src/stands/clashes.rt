@@ -9,22 +9,34 @@ ghost use Rattle.rdx_defs.specs.Stands.{bound_among};
 
 use crate::earliest::earlier;
 use crate::stands::names::bound_name;
-use crate::templates::bound::depth_of;
+use crate::templates::bound::Bound;
 use rdx_grammar::checks::{bound_by, when};
 use rdx_grammar::occurrences::Occurrence;
+use rdx_grammar::shape::text;
 use rdx_grammar::{Names, Position};
 use rdx_sexp::Datum;
-use rdx_term::{Name, NoMemory};
+use rdx_term::NoMemory;
 use std::alloc::Global;
 
 // The depth with which a text is bound among these, or else among those.
 #[tactic(auto, using(crate::proofs::Depths::depth_before, crate::proofs::Depths::depth_behind))]
-fn depth_among(bound: &[(Name, u32)], behind: &[(Name, u32)], text: &str) -> Option<u32>
+fn depth_among(bound: &Bound<'_>, behind: &Bound<'_>, text: &str) -> Option<u32>
     ensures { result ≡ model.depth_of (bound.now ++ behind.now) text.now }
 {
-    match depth_of(bound, text) {
+    match bound.depth_of(text) {
         Some(depth) => Some(depth),
-        None => depth_of(behind, text),
+        None => behind.depth_of(text),
+    }
+}
+
+// The same, or else at last among these here.
+#[tactic(auto, using(crate::proofs::Depths::depth_before, crate::proofs::Depths::depth_behind))]
+fn depth_here(bound: &Bound<'_>, behind: &Bound<'_>, here: &Bound<'_>, text: &str) -> Option<u32>
+    ensures { result ≡ model.depth_of ((bound.now ++ behind.now) ++ here.now) text.now }
+{
+    match depth_among(bound, behind, text) {
+        Some(depth) => Some(depth),
+        None => here.depth_of(text),
     }
 }
 
@@ -39,28 +51,30 @@ fn is_another(depth: u32, first: Option<u32>) -> bool
 }
 
 /// The earliest symbol that binds a name at another depth than it has first, be that among these
-/// names or at a symbol before it.
+/// names, among those behind them or at a symbol before it.
 #[tactic(auto, using(crate::proofs::EarliestPlaces::lesser_none))]
 pub(crate) fn earliest_clash<'a>(
     alloc: Global,
     names: &Names,
-    bound: &[(Name, u32)],
+    bound: &Bound<'_>,
+    behind: &Bound<'_>,
     found: &[Occurrence<'a>],
 ) -> Result<Option<&'a Datum>, NoMemory>
     requires { BindNames (bound_among names.now (occurrences_of found.now)) }
     ensures { IfOk result (λ r.
         option_map (λ d. d.now) r
-        ≡ earliest start (other_depths bound.now
+        ≡ earliest start (other_depths (bound.now ++ behind.now)
         (bound_among names.now (occurrences_of found.now)))) }
 {
-    let mut here = Vec::new(alloc);
+    let mut here = Bound::new(alloc);
     let mut clash = None;
     for o in found {
         if let Some((depth, d)) = bound_by(names, Position::Query, o) {
+            let name = text(d);
             let entry = bound_name(depth, d)?;
-            let first = depth_among(bound, &here, entry.0.text());
+            let first = depth_here(bound, behind, &here, name);
             clash = earlier(clash, when(is_another(entry.1, first), d));
-            here.push(entry)?;
+            here.push(name, entry)?;
         }
     }
     Ok(clash)

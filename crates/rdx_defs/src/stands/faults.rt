@@ -1,5 +1,5 @@
 // The checks of a form that have to know what is bound.
-ghost use Rattle.std.specs.Prelude.{◌≡◌, ◌∷◌, [], IfOk, IsTrue, map, option_map};
+ghost use Rattle.std.specs.Prelude.{◌≡◌, ◌++◌, ◌∷◌, [], IfOk, IsTrue, map, option_map};
 ghost use Rattle.rdx_grammar.specs.OccurrenceView.{occurrences_of};
 ghost use Rattle.rdx_grammar.specs.Readable.{IsReadable};
 ghost use Rattle.rdx_defs.specs.Earliest.{earliest, start};
@@ -20,9 +20,10 @@ use crate::stands::clashes::earliest_clash;
 use crate::stands::collecting::in_takes;
 use crate::stands::names::{
     add_argument_names, add_extra_names, branch_names, input_names, lone_names, rule_names,
-    share_names, taken_names,
+    taken_names,
 };
 use crate::stands::patterns::{earliest_bad_occurrence, earliest_escape};
+use crate::templates::bound::Bound;
 use crate::templates::driving::{driving_of, driving_of_host};
 use crate::templates::places::{
     bad_in_host, bad_in_template, escape_in_host, escape_in_template, shallow_in_host,
@@ -31,7 +32,7 @@ use crate::templates::places::{
 use rdx_grammar::Names;
 use rdx_grammar::occurrences::Occurrence;
 use rdx_sexp::Datum;
-use rdx_term::{Name, NoMemory};
+use rdx_term::NoMemory;
 use std::alloc::Global;
 
 /// One of these checks.
@@ -52,7 +53,7 @@ fn fault_in_template<'a>(
     alloc: Global,
     check: Check,
     scope: &Scope,
-    bound: &[(Name, u32)],
+    bound: &Bound<'_>,
     t: &'a Datum,
 ) -> Result<Option<&'a Datum>, NoMemory>
     requires { IsReadable t.now }
@@ -73,7 +74,7 @@ fn fault_in_host<'a>(
     alloc: Global,
     check: Check,
     scope: &Scope,
-    bound: &[(Name, u32)],
+    bound: &Bound<'_>,
     h: &'a Datum,
 ) -> Result<Option<&'a Datum>, NoMemory>
     requires { IsReadable h.now }
@@ -89,34 +90,54 @@ fn fault_in_host<'a>(
     }
 }
 
-// The earliest one in a pattern in which these stand, where these names are bound before.
+// The earliest one in a pattern in which these stand, where these names and those are bound before.
 fn fault_in_pattern<'a>(
     alloc: Global,
     check: Check,
     names: &Names,
-    bound: &[(Name, u32)],
+    bound: &Bound<'_>,
+    behind: &Bound<'_>,
     found: &[Occurrence<'a>],
 ) -> Result<Option<&'a Datum>, NoMemory>
     requires { BindNames (bound_among names.now (occurrences_of found.now)) }
     ensures { IfOk result (λ r.
         option_map (λ d. d.now) r
-        ≡ earliest start (by_names.pattern_faults check names.now bound.now
+        ≡ earliest start (by_names.pattern_faults check names.now (bound.now ++ behind.now)
         (occurrences_of found.now))) }
 {
     match check {
         Check::Places => Ok(earliest_bad_occurrence(names, found)),
-        Check::Depths => earliest_clash(alloc, names, bound, found),
+        Check::Depths => earliest_clash(alloc, names, bound, behind, found),
         Check::Driving => Ok(None),
         Check::Escapes => Ok(earliest_escape(found)),
     }
 }
 
-// The earliest one in what is taken.
+// The earliest one in what is taken, where these names and those are bound before.
+fn fault_in_takes_behind<'a>(
+    alloc: Global,
+    check: Check,
+    names: &Names,
+    bound: &Bound<'_>,
+    behind: &Bound<'_>,
+    takes: Takes<'a>,
+) -> Result<Option<&'a Datum>, NoMemory>
+    requires { CanBind names.now (takes_of takes) }
+    ensures { IfOk result (λ r.
+        option_map (λ d. d.now) r
+        ≡ earliest start (by_names.pattern_faults check names.now (bound.now ++ behind.now)
+        (taken_occurrences (takes_of takes.entry)))) }
+{
+    let found = in_takes(alloc, takes)?;
+    fault_in_pattern(alloc, check, names, bound, behind, &found)
+}
+
+// The same, where these names are bound before.
 fn fault_in_takes<'a>(
     alloc: Global,
     check: Check,
     names: &Names,
-    bound: &[(Name, u32)],
+    bound: &Bound<'_>,
     takes: Takes<'a>,
 ) -> Result<Option<&'a Datum>, NoMemory>
     requires { CanBind names.now (takes_of takes) }
@@ -125,31 +146,32 @@ fn fault_in_takes<'a>(
         ≡ earliest start (by_names.pattern_faults check names.now bound.now
         (taken_occurrences (takes_of takes.entry)))) }
 {
-    let found = in_takes(alloc, takes)?;
-    fault_in_pattern(alloc, check, names, bound, &found)
+    let none = Bound::new(alloc);
+    fault_in_takes_behind(alloc, check, names, bound, &none, takes)
 }
 
-// The earliest one in an argument that is a pattern, or else a template, where these names are
-// bound for each.
+// The earliest one in an argument that is a pattern, before which these names and those are bound,
+// or else a template, where all these are.
 fn fault_in_argument<'a>(
     alloc: Global,
     check: Check,
     scope: &Scope,
     names: &Names,
     is_pattern: bool,
-    before: &[(Name, u32)],
-    all: &[(Name, u32)],
+    before: &Bound<'_>,
+    here: &Bound<'_>,
+    all: &Bound<'_>,
     d: &'a Datum,
 ) -> Result<Option<&'a Datum>, NoMemory>
     requires pattern { IsTrue is_pattern → CanBind names.now (one d.now) }
     requires readable { IsReadable d.now }
     ensures { IfOk result (λ r.
         option_map (λ d. d.now) r
-        ≡ earliest start (by_names.flagged_faults check (scope_of scope.now) names.now before.now
-        all.now (is_pattern ∷ []) (d.now ∷ []))) }
+        ≡ earliest start (by_names.flagged_faults check (scope_of scope.now) names.now
+        (before.now ++ here.now) all.now (is_pattern ∷ []) (d.now ∷ []))) }
 {
     if is_pattern {
-        fault_in_takes(alloc, check, names, before, Takes::One(d))
+        fault_in_takes_behind(alloc, check, names, before, here, Takes::One(d))
     } else {
         fault_in_template(alloc, check, scope, all, d)
     }
@@ -157,30 +179,33 @@ fn fault_in_argument<'a>(
 
 // The earliest one in arguments, behind names that are bound before the first pattern, where these
 // names are bound for the templates.
-fn fault_in_arguments<'a>(
+fn fault_in_arguments<'a, 'b>(
     alloc: Global,
     check: Check,
     scope: &Scope,
     names: &Names,
-    mut before: Vec<(Name, u32)>,
-    all: &[(Name, u32)],
+    before: &Bound<'b>,
+    all: &Bound<'b>,
     arguments: Arguments<'_, 'a>,
 ) -> Result<Option<&'a Datum>, NoMemory>
     requires { ArgumentsHave (scope_of scope.now) (can_bind names.now) (arguments_of arguments) }
     ensures { IfOk result (λ r.
         option_map (λ d. d.now) r
         ≡ earliest start (by_names.arguments_faults check (scope_of scope.now) names.now
-        before.items all.now (arguments_of arguments.entry))) }
+        before.now all.now (arguments_of arguments.entry))) }
 {
     let Some(mode) = arguments.mode else {
         return Ok(None);
     };
+    let mut here = Bound::new(alloc);
     let mut place = None;
     for (flag, d) in mode.iter().zip(arguments.items) {
         let is_pattern = arguments.is_pattern(*flag);
-        let fault = fault_in_argument(alloc, check, scope, names, is_pattern, &before, all, d)?;
+        let fault = fault_in_argument(
+            alloc, check, scope, names, is_pattern, before, &here, all, d,
+        )?;
         place = earlier(place, fault);
-        add_argument_names(alloc, names, is_pattern, d, &mut before)?;
+        add_argument_names(alloc, names, is_pattern, d, &mut here)?;
     }
     Ok(place)
 }
@@ -191,7 +216,7 @@ fn fault_in_premise<'a>(
     check: Check,
     scope: &Scope,
     names: &Names,
-    bound: &[(Name, u32)],
+    bound: &Bound<'_>,
     d: &'a Datum,
 ) -> Result<Option<&'a Datum>, NoMemory>
     requires { PremiseHas (scope_of scope.now) (can_bind names.now) (headed.headed d.now) }
@@ -204,8 +229,7 @@ fn fault_in_premise<'a>(
         return Ok(None);
     };
     let arguments = premise_arguments(scope, premise);
-    let before = share_names(alloc, bound)?;
-    fault_in_arguments(alloc, check, scope, names, before, bound, arguments)
+    fault_in_arguments(alloc, check, scope, names, bound, bound, arguments)
 }
 
 // The earliest one in an extra.
@@ -215,7 +239,7 @@ fn fault_in_extra<'a>(
     check: Check,
     scope: &Scope,
     names: &Names,
-    bound: &[(Name, u32)],
+    bound: &Bound<'_>,
     extra: ExtraForm<'a>,
 ) -> Result<Option<&'a Datum>, NoMemory>
     requires { ExtraHas (scope_of scope.now) (can_bind names.now) (extra_form_of extra) }
@@ -247,14 +271,14 @@ fn fault_in_extras<'a>(
     scope: &Scope,
     names: &Names,
     place: ExtraPlace,
-    mut bound: Vec<(Name, u32)>,
+    mut bound: Bound<'a>,
     extras: &'a [Datum],
 ) -> Result<Option<&'a Datum>, NoMemory>
     requires { ExtrasHave (scope_of scope.now) (can_bind names.now) (place_of place) extras.now }
     ensures { IfOk result (λ r.
         option_map (λ d. d.now) r
         ≡ earliest start (by_names.extras_faults (place_of place) check (scope_of scope.now)
-        names.now bound.items extras.now)) }
+        names.now bound.entry extras.now)) }
 {
     let mut fault = None;
     for d in extras {
@@ -281,7 +305,8 @@ fn fault_in_branch<'a>(
         ≡ earliest start (by_names.branch_faults check (scope_of scope.now) names.now
         (branch_of branch.entry))) }
 {
-    let taken = fault_in_takes(alloc, check, names, &[], branch.takes)?;
+    let none = Bound::new(alloc);
+    let taken = fault_in_takes(alloc, check, names, &none, branch.takes)?;
     let all = branch_names(alloc, scope, names, branch)?;
     let given = fault_in_template(alloc, check, scope, &all, branch.result)?;
     let bound = taken_names(alloc, names, branch.takes)?;
@@ -340,7 +365,7 @@ fn fault_in_conclusion<'a>(
         check,
         scope,
         names,
-        Vec::new(alloc),
+        &Bound::new(alloc),
         &all,
         rule.arguments,
     )
@@ -434,7 +459,8 @@ fn fault_in_question<'a>(
         ≡ earliest start (by_names.question_faults check (scope_of scope.now) names.now
         (question_of question.entry))) }
 {
-    let fault = fault_in_premise(alloc, check, scope, names, &[], question.premise)?;
+    let none = Bound::new(alloc);
+    let fault = fault_in_premise(alloc, check, scope, names, &none, question.premise)?;
     let Some(template) = question.result else {
         return Ok(fault);
     };
@@ -480,9 +506,10 @@ fn fault_in_alone<'a>(
         option_map (λ d. d.now) r
         ≡ earliest start (by_names.alone_faults check names.now (map (λ d. d.now) alone.now))) }
 {
+    let none = Bound::new(alloc);
     let mut fault = None;
     for pattern in alone {
-        let next = fault_in_takes(alloc, check, names, &[], Takes::One(pattern))?;
+        let next = fault_in_takes(alloc, check, names, &none, Takes::One(pattern))?;
         fault = earlier(fault, next);
     }
     Ok(fault)

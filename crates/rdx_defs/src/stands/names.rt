@@ -17,8 +17,10 @@ use crate::arguments::{Arguments, headed_list, premise_arguments};
 use crate::branches::{Branch, RuleBranch, Takes};
 use crate::extras::{ExtraForm, ExtraPlace, form_at};
 use crate::stands::collecting::in_takes;
+use crate::templates::bound::Bound;
 use rdx_grammar::checks::bound_by;
 use rdx_grammar::occurrences::Occurrence;
+use rdx_grammar::shape::text;
 use rdx_grammar::{Names, Position, symbol_name};
 use rdx_sexp::Datum;
 use rdx_term::{Name, NoMemory};
@@ -34,51 +36,51 @@ pub(crate) fn bound_name(depth: usize, d: &Datum) -> Result<(Name, u32), NoMemor
 }
 
 // Adds the names that these bind, over these nonterminals.
-fn add_bound(
+fn add_bound<'a>(
     names: &Names,
-    found: &[Occurrence],
-    out: &mut Vec<(Name, u32)>,
+    found: &[Occurrence<'a>],
+    out: &mut Bound<'a>,
 ) -> Result<(), NoMemory>
     requires { BindNames (bound_among names.now (occurrences_of found.now)) }
     ensures { IfOk result (λ _.
-        out.new.items
-        ≡ out.old.items ++ names_bound (bound_among names.now (occurrences_of found.now))) }
+        out.new
+        ≡ out.old ++ names_bound (bound_among names.now (occurrences_of found.now))) }
 {
     for o in found {
         if let Some((depth, d)) = bound_by(names, Position::Query, o) {
-            out.push(bound_name(depth, d)?)?;
+            out.push(text(d), bound_name(depth, d)?)?;
         }
     }
     Ok(())
 }
 
 // Adds the names that what is taken binds.
-fn add_taken_names(
+fn add_taken_names<'a>(
     alloc: Global,
     names: &Names,
-    takes: Takes<'_>,
-    out: &mut Vec<(Name, u32)>,
+    takes: Takes<'a>,
+    out: &mut Bound<'a>,
 ) -> Result<(), NoMemory>
     requires { CanBind names.now (takes_of takes) }
     ensures { IfOk result (λ _.
-        out.new.items ≡ out.old.items ++ by_names.taken_names names.now (takes_of takes.entry)) }
+        out.new ≡ out.old ++ by_names.taken_names names.now (takes_of takes.entry)) }
 {
     let found = in_takes(alloc, takes)?;
     add_bound(names, &found, out)
 }
 
 /// Adds the names that an argument binds, if it is a pattern.
-pub(crate) fn add_argument_names(
+pub(crate) fn add_argument_names<'a>(
     alloc: Global,
     names: &Names,
     is_pattern: bool,
-    d: &Datum,
-    out: &mut Vec<(Name, u32)>,
+    d: &'a Datum,
+    out: &mut Bound<'a>,
 ) -> Result<(), NoMemory>
     requires { IsTrue is_pattern → CanBind names.now (one d.now) }
     ensures { IfOk result (λ _.
-        out.new.items
-        ≡ out.old.items
+        out.new
+        ≡ out.old
         ++ by_names.patterns_names names.now (data_at (is_pattern ∷ []) (d.now ∷ []))) }
 {
     if is_pattern {
@@ -89,16 +91,16 @@ pub(crate) fn add_argument_names(
 }
 
 /// Adds the names that the patterns among arguments bind.
-pub(crate) fn add_arguments_names(
+pub(crate) fn add_arguments_names<'a>(
     alloc: Global,
     names: &Names,
-    arguments: Arguments<'_, '_>,
-    out: &mut Vec<(Name, u32)>,
+    arguments: Arguments<'_, 'a>,
+    out: &mut Bound<'a>,
 ) -> Result<(), NoMemory>
     requires { CanBind names.now (each (patterns_in (arguments_of arguments))) }
     ensures { IfOk result (λ _.
-        out.new.items
-        ≡ out.old.items
+        out.new
+        ≡ out.old
         ++ by_names.patterns_names names.now (patterns_in (arguments_of arguments.entry))) }
 {
     let Some(mode) = arguments.mode else {
@@ -111,17 +113,17 @@ pub(crate) fn add_arguments_names(
 }
 
 // Adds the names that a datum binds that has to be a premise.
-fn add_premise_names(
+fn add_premise_names<'a>(
     alloc: Global,
     scope: &Scope,
     names: &Names,
-    d: &Datum,
-    out: &mut Vec<(Name, u32)>,
+    d: &'a Datum,
+    out: &mut Bound<'a>,
 ) -> Result<(), NoMemory>
     requires { PremiseHas (scope_of scope.now) (can_bind names.now) (headed.headed d.now) }
     ensures { IfOk result (λ _.
-        out.new.items
-        ≡ out.old.items
+        out.new
+        ≡ out.old
         ++ by_names.premise_names (scope_of scope.now) names.now (headed.headed d.now)) }
 {
     match headed_list(d) {
@@ -133,29 +135,29 @@ fn add_premise_names(
 }
 
 // Adds names that are made.
-fn add_fresh_names(made: &[Datum], out: &mut Vec<(Name, u32)>) -> Result<(), NoMemory>
+fn add_fresh_names<'a>(made: &'a [Datum], out: &mut Bound<'a>) -> Result<(), NoMemory>
     requires { AreNames made.now }
     ensures { IfOk result (λ _.
-        out.new.items ≡ out.old.items ++ by_names.fresh_names made.now) }
+        out.new ≡ out.old ++ by_names.fresh_names made.now) }
 {
     for d in made {
-        out.push(bound_name(0, d)?)?;
+        out.push(text(d), bound_name(0, d)?)?;
     }
     Ok(())
 }
 
 /// Adds the names that an extra binds.
-pub(crate) fn add_extra_names(
+pub(crate) fn add_extra_names<'a>(
     alloc: Global,
     scope: &Scope,
     names: &Names,
-    extra: ExtraForm<'_>,
-    out: &mut Vec<(Name, u32)>,
+    extra: ExtraForm<'a>,
+    out: &mut Bound<'a>,
 ) -> Result<(), NoMemory>
     requires { ExtraHas (scope_of scope.now) (can_bind names.now) (extra_form_of extra) }
     ensures { IfOk result (λ _.
-        out.new.items
-        ≡ out.old.items
+        out.new
+        ≡ out.old
         ++ by_names.extra_names (scope_of scope.now) names.now (extra_form_of extra.entry)) }
 {
     match extra {
@@ -171,18 +173,18 @@ pub(crate) fn add_extra_names(
 }
 
 /// Adds the names that extras at such a place bind.
-pub(crate) fn add_extras_names(
+pub(crate) fn add_extras_names<'a>(
     alloc: Global,
     scope: &Scope,
     names: &Names,
     place: ExtraPlace,
-    extras: &[Datum],
-    out: &mut Vec<(Name, u32)>,
+    extras: &'a [Datum],
+    out: &mut Bound<'a>,
 ) -> Result<(), NoMemory>
     requires { ExtrasHave (scope_of scope.now) (can_bind names.now) (place_of place) extras.now }
     ensures { IfOk result (λ _.
-        out.new.items
-        ≡ out.old.items
+        out.new
+        ≡ out.old
         ++ by_names.extras_names (place_of place) (scope_of scope.now) names.now extras.now) }
 {
     for d in extras {
@@ -192,30 +194,30 @@ pub(crate) fn add_extras_names(
 }
 
 /// The names that what is taken binds.
-pub(crate) fn taken_names(
+pub(crate) fn taken_names<'a>(
     alloc: Global,
     names: &Names,
-    takes: Takes<'_>,
-) -> Result<Vec<(Name, u32)>, NoMemory>
+    takes: Takes<'a>,
+) -> Result<Bound<'a>, NoMemory>
     requires { CanBind names.now (takes_of takes) }
     ensures { IfOk result (λ bound.
-        bound.items ≡ by_names.taken_names names.now (takes_of takes.entry)) }
+        bound ≡ by_names.taken_names names.now (takes_of takes.entry)) }
 {
-    let mut bound = Vec::new(alloc);
+    let mut bound = Bound::new(alloc);
     add_taken_names(alloc, names, takes, &mut bound)?;
     Ok(bound)
 }
 
 /// All names that a case or a clause binds.
-pub(crate) fn branch_names(
+pub(crate) fn branch_names<'a>(
     alloc: Global,
     scope: &Scope,
     names: &Names,
-    branch: Branch<'_>,
-) -> Result<Vec<(Name, u32)>, NoMemory>
+    branch: Branch<'a>,
+) -> Result<Bound<'a>, NoMemory>
     requires { BranchHas (scope_of scope.now) (can_bind names.now) (branch_of branch) }
     ensures { IfOk result (λ bound.
-        bound.items
+        bound
         ≡ by_names.branch_names (scope_of scope.now) names.now (branch_of branch.entry)) }
 {
     let mut bound = taken_names(alloc, names, branch.takes)?;
@@ -225,30 +227,30 @@ pub(crate) fn branch_names(
 }
 
 /// The names that the inputs of the conclusion of a rule bind.
-pub(crate) fn input_names(
+pub(crate) fn input_names<'a>(
     alloc: Global,
     names: &Names,
-    rule: RuleBranch<'_, '_>,
-) -> Result<Vec<(Name, u32)>, NoMemory>
+    rule: RuleBranch<'_, 'a>,
+) -> Result<Bound<'a>, NoMemory>
     requires { CanBind names.now (each (patterns_in (rule_branch_of rule).arguments)) }
     ensures { IfOk result (λ bound.
-        bound.items ≡ by_names.input_names names.now (rule_branch_of rule.entry)) }
+        bound ≡ by_names.input_names names.now (rule_branch_of rule.entry)) }
 {
-    let mut bound = Vec::new(alloc);
+    let mut bound = Bound::new(alloc);
     add_arguments_names(alloc, names, rule.arguments, &mut bound)?;
     Ok(bound)
 }
 
 /// All names that a rule binds.
-pub(crate) fn rule_names(
+pub(crate) fn rule_names<'a>(
     alloc: Global,
     scope: &Scope,
     names: &Names,
-    rule: RuleBranch<'_, '_>,
-) -> Result<Vec<(Name, u32)>, NoMemory>
+    rule: RuleBranch<'_, 'a>,
+) -> Result<Bound<'a>, NoMemory>
     requires { RuleHas (scope_of scope.now) (can_bind names.now) (rule_branch_of rule) }
     ensures { IfOk result (λ bound.
-        bound.items
+        bound
         ≡ by_names.rule_names (scope_of scope.now) names.now (rule_branch_of rule.entry)) }
 {
     let mut bound = input_names(alloc, names, rule)?;
@@ -258,32 +260,18 @@ pub(crate) fn rule_names(
 }
 
 /// The names that a datum binds that has to be a premise, before which none is bound.
-pub(crate) fn lone_names(
+pub(crate) fn lone_names<'a>(
     alloc: Global,
     scope: &Scope,
     names: &Names,
-    d: &Datum,
-) -> Result<Vec<(Name, u32)>, NoMemory>
+    d: &'a Datum,
+) -> Result<Bound<'a>, NoMemory>
     requires { PremiseHas (scope_of scope.now) (can_bind names.now) (headed.headed d.now) }
     ensures { IfOk result (λ bound.
-        bound.items
+        bound
         ≡ by_names.premise_names (scope_of scope.now) names.now (headed.headed d.now)) }
 {
-    let mut bound = Vec::new(alloc);
+    let mut bound = Bound::new(alloc);
     add_premise_names(alloc, scope, names, d, &mut bound)?;
     Ok(bound)
-}
-
-/// The same names once more.
-pub(crate) fn share_names(
-    alloc: Global,
-    bound: &[(Name, u32)],
-) -> Result<Vec<(Name, u32)>, NoMemory>
-    ensures { IfOk result (λ shared. shared.items ≡ bound.now) }
-{
-    let mut shared = Vec::new(alloc);
-    for (name, depth) in bound {
-        shared.push((name.share()?, *depth))?;
-    }
-    Ok(shared)
 }

@@ -25,6 +25,7 @@ use crate::arguments::{Arguments, Headed, headed_list, premise_arguments};
 use crate::branches::{Branch, Takes};
 use crate::extras::{ExtraForm, ExtraPlace, form_at};
 use crate::stands::names::{add_extra_names, branch_names, taken_names};
+use crate::templates::bound::Bound;
 use crate::templates::readings as templates;
 use rdx_grammar::shape::text;
 use rdx_grammar::{Names, Position, readings, symbol_name};
@@ -135,7 +136,7 @@ pub(crate) fn read_patterns(
 pub(crate) fn read_templates(
     alloc: Global,
     scope: &Scope,
-    bound: &[(Name, u32)],
+    bound: &Bound<'_>,
     arguments: Arguments<'_, '_>,
 ) -> Result<Vec<Template>, NoMemory>
     ensures { IfOk result (λ read.
@@ -160,12 +161,10 @@ fn judgement_name(scope: &Scope, name: &str) -> Result<Name, NoMemory>
     requires { IsSome (mode_of (scope_of scope.now) name.now) }
     ensures { IfOk result (λ x. x ≡ name.now) }
 {
-    for (judgement, _) in &scope.judgements {
-        if judgement.text() == name {
-            return judgement.share();
-        }
+    match scope.judgement(name) {
+        Some(judgement) => judgement.0.share(),
+        None => unreachable!(),
     }
-    unreachable!()
 }
 
 /// A premise, behind names that are bound.
@@ -174,7 +173,7 @@ pub(crate) fn read_premise(
     scope: &Scope,
     language: &CheckedLang,
     names: &Names,
-    bound: &[(Name, u32)],
+    bound: &Bound<'_>,
     premise: Headed<'_>,
 ) -> Result<Premise, NoMemory>
     requires { PremiseHas (scope_of scope.now)
@@ -201,7 +200,7 @@ fn add_premise(
     scope: &Scope,
     language: &CheckedLang,
     names: &Names,
-    bound: &[(Name, u32)],
+    bound: &Bound<'_>,
     d: &Datum,
     out: &mut Vec<Extra>,
 ) -> Result<(), NoMemory>
@@ -240,7 +239,7 @@ fn add_extra(
     scope: &Scope,
     language: &CheckedLang,
     names: &Names,
-    bound: &[(Name, u32)],
+    bound: &Bound<'_>,
     extra: ExtraForm<'_>,
     out: &mut Vec<Extra>,
 ) -> Result<(), NoMemory>
@@ -276,21 +275,21 @@ fn add_extra(
 }
 
 /// What extras at such a place ask, behind which these names are bound.
-pub(crate) fn read_extras(
+pub(crate) fn read_extras<'a>(
     alloc: Global,
     scope: &Scope,
     language: &CheckedLang,
     names: &Names,
     place: ExtraPlace,
-    mut bound: Vec<(Name, u32)>,
-    extras: &[Datum],
+    mut bound: Bound<'a>,
+    extras: &'a [Datum],
 ) -> Result<Vec<Extra>, NoMemory>
     requires { ExtrasHave (scope_of scope.now)
         (can_read (scope_of scope.now) (language_in language.now) names.now)
         (place_of place) extras.now }
     ensures { IfOk result (λ read.
         extras_of read.items
-        ≡ by_names.extras_reading (place_of place) (scope_of scope.now) names.now bound.items
+        ≡ by_names.extras_reading (place_of place) (scope_of scope.now) names.now bound.entry
         extras.now) }
 {
     let mut read = Vec::new(alloc);

@@ -5,13 +5,12 @@ ghost use Rattle.rdx_defs.specs.Inside.PartView.{part_of, parts_of};
 ghost use Rattle.rdx_defs.specs.TemplateChecks as model;
 
 use crate::earliest::earlier;
-use crate::templates::bound::depth_of;
+use crate::templates::bound::Bound;
 use crate::templates::parts::TemplatePart;
 use rdx_grammar::checks::when;
 use rdx_grammar::names::begins_with_dots;
 use rdx_grammar::shape::text;
 use rdx_sexp::Datum;
-use rdx_term::Name;
 
 fn bad_part<'a>(part: &TemplatePart<'a>) -> Option<&'a Datum>
     ensures { option_map (λ d. d.now) result ≡ earliest start (model.bad_part (part_of part.now)) }
@@ -45,12 +44,12 @@ fn are_fewer(ellipses: u32, depth: Option<u32>) -> bool
     }
 }
 
-fn shallow_part<'a>(bound: &[(Name, u32)], part: &TemplatePart<'a>) -> Option<&'a Datum>
+fn shallow_part<'a>(bound: &Bound<'_>, part: &TemplatePart<'a>) -> Option<&'a Datum>
     ensures { option_map (λ d. d.now) result
         ≡ earliest start (model.shallow_part bound.now (part_of part.now)) }
 {
     match part {
-        TemplatePart::Single(depth, d) => when(are_fewer(*depth, depth_of(bound, text(d))), d),
+        TemplatePart::Single(depth, d) => when(are_fewer(*depth, bound.depth_of(text(d))), d),
         TemplatePart::Malformed(_) | TemplatePart::Escape(_) => None,
     }
 }
@@ -58,7 +57,7 @@ fn shallow_part<'a>(bound: &[(Name, u32)], part: &TemplatePart<'a>) -> Option<&'
 /// The earliest name under fewer ellipses than its depth.
 #[tactic(auto, using(crate::proofs::EarliestPlaces::lesser_assoc, crate::proofs::EarliestPlaces::lesser_none, crate::proofs::EarliestPlaces::earliest_append))]
 pub(crate) fn earliest_shallow_part<'a>(
-    bound: &[(Name, u32)],
+    bound: &Bound<'_>,
     found: &[TemplatePart<'a>],
 ) -> Option<&'a Datum>
     ensures { option_map (λ d. d.now) result

@@ -13,12 +13,11 @@ ghost use Rattle.rdx_defs.specs.TemplateReading.{symbol_template, template_readi
 
 use crate::Scope;
 use crate::earliest::earlier;
-use crate::templates::bound::depth_of;
+use crate::templates::bound::Bound;
 use crate::templates::heads::{TemplateHead, template_head};
 use crate::templates::host_heads::{HostHead, host_head};
 use rdx_grammar::heads::{Role, Roles, is_pattern, is_repeated, next, rest};
 use rdx_sexp::{Datum, Form};
-use rdx_term::Name;
 
 /// How many of the ellipses right around a template the names in it drive, and the earliest item in
 /// it that drives no ellipsis behind it.
@@ -40,10 +39,10 @@ fn reaching<'a>(reach: u32) -> Driving<'a>
 }
 
 // How many ellipses a symbol drives.
-fn symbol_reach(bound: &[(Name, u32)], text: &str) -> u32
+fn symbol_reach(bound: &Bound<'_>, text: &str) -> u32
     ensures { result ≡ model.reach (symbol_template bound.now text.now) }
 {
-    match depth_of(bound, text) {
+    match bound.depth_of(text) {
         Some(depth) => depth,
         None => 0,
     }
@@ -83,7 +82,7 @@ fn undriven_in<'a>(repeated: bool, item: &'a Datum, inner: Driving<'a>) -> Optio
 
 /// What the names in the template of a datum drive, in one walk.
 #[cycle(driving)]
-pub(crate) fn driving_of<'a>(scope: &Scope, bound: &[(Name, u32)], d: &'a Datum) -> Driving<'a>
+pub(crate) fn driving_of<'a>(scope: &Scope, bound: &Bound<'_>, d: &'a Datum) -> Driving<'a>
     ensures reach { result.reach
         ≡ model.reach (template_reading (scope_of scope.now) bound.now d.now) }
     ensures undriven { option_map (λ d. d.now) result.undriven
@@ -112,7 +111,7 @@ pub(crate) fn driving_of<'a>(scope: &Scope, bound: &[(Name, u32)], d: &'a Datum)
 #[cycle(driving)]
 fn driving_of_items<'a>(
     scope: &Scope,
-    bound: &[(Name, u32)],
+    bound: &Bound<'_>,
     roles: Roles,
     from: usize,
     items: &'a [Datum],
@@ -144,7 +143,7 @@ fn driving_of_items<'a>(
 
 /// What those do in the host expression of a datum.
 #[cycle(driving)]
-pub(crate) fn driving_of_host<'a>(scope: &Scope, bound: &[(Name, u32)], d: &'a Datum) -> Driving<'a>
+pub(crate) fn driving_of_host<'a>(scope: &Scope, bound: &Bound<'_>, d: &'a Datum) -> Driving<'a>
     ensures reach { result.reach
         ≡ model.reach_in (host_reading (scope_of scope.now) bound.now d.now) }
     ensures undriven { option_map (λ d. d.now) result.undriven
@@ -167,7 +166,7 @@ pub(crate) fn driving_of_host<'a>(scope: &Scope, bound: &[(Name, u32)], d: &'a D
 
 // What those do in the host expressions behind a head.
 #[cycle(driving)]
-fn driving_of_hosts<'a>(scope: &Scope, bound: &[(Name, u32)], items: &'a [Datum]) -> Driving<'a>
+fn driving_of_hosts<'a>(scope: &Scope, bound: &Bound<'_>, items: &'a [Datum]) -> Driving<'a>
     ensures reach { result.reach
         ≡ model.reach_in_all (hosts_behind (scope_of scope.now) bound.now (sexps items.now)) }
     ensures undriven { option_map (λ d. d.now) result.undriven

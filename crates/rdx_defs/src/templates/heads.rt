@@ -3,12 +3,12 @@ ghost use Rattle.std.specs.Prelude.{◌≡◌, IfSome, is_some};
 ghost use Rattle.rdx_sexp.specs.Sexp.{sexps};
 ghost use Rattle.rdx_grammar.specs.Parts.{text_of};
 ghost use Rattle.rdx_defs.specs.Inside.HeadViews as inside;
-ghost use Rattle.rdx_defs.specs.Scope.{has_metafunction, scope_of};
+ghost use Rattle.rdx_defs.specs.Scope.{scope_of};
 ghost use Rattle.rdx_defs.specs.TemplateHeads as model;
 ghost use Rattle.rdx_defs.specs.TemplateReading.{head_text};
 
 use crate::Scope;
-use crate::templates::bound::depth_of;
+use crate::templates::bound::Bound;
 use rdx_grammar::shape::{is_symbol, is_word, text};
 use rdx_sexp::Datum;
 use rdx_term::Name;
@@ -45,32 +45,19 @@ pub(crate) fn is_evaluating(items: &[Datum]) -> bool
     is_headed(items, "unquote") && items.len() == 2
 }
 
-// The metafunction of this name, where there is one.
-fn metafunction_named<'a>(scope: &'a Scope, text: &str) -> Option<&'a Name>
-    ensures some { is_some result ≡ has_metafunction (scope_of scope.now) text.now }
-    ensures name { IfSome result (λ f. f.now ≡ text.now) }
-{
-    for function in &scope.metafunctions {
-        if function.text() == text {
-            return Some(function);
-        }
-    }
-    None
-}
-
 // The metafunction that the datum names, where that name is not bound.
-fn called<'a>(scope: &'a Scope, bound: &[(Name, u32)], d: &Datum) -> Option<&'a Name>
+fn called<'a>(scope: &'a Scope, bound: &Bound<'_>, d: &Datum) -> Option<&'a Name>
     ensures some { is_some result ≡ model.is_called (scope_of scope.now) bound.now d.now }
     ensures name { IfSome result (λ f. f.now ≡ text_of d.now) }
 {
-    if !is_symbol(d) || depth_of(bound, text(d)).is_some() {
+    if !is_symbol(d) || bound.depth_of(text(d)).is_some() {
         return None;
     }
-    metafunction_named(scope, text(d))
+    scope.metafunction(text(d))
 }
 
 // The kind of a list whose head is none of the words.
-fn other_head<'a>(scope: &'a Scope, bound: &[(Name, u32)], first: &Datum) -> TemplateHead<'a>
+fn other_head<'a>(scope: &'a Scope, bound: &Bound<'_>, first: &Datum) -> TemplateHead<'a>
     ensures kind { inside.template_head_view result
         ≡ inside.other_head (scope_of scope.now) bound.now first.now }
     ensures name { inside.Calls result (text_of first.now) }
@@ -84,7 +71,7 @@ fn other_head<'a>(scope: &'a Scope, bound: &[(Name, u32)], first: &Datum) -> Tem
 /// The kind of a list of these items.
 pub(crate) fn template_head<'a>(
     scope: &'a Scope,
-    bound: &[(Name, u32)],
+    bound: &Bound<'_>,
     items: &[Datum],
 ) -> TemplateHead<'a>
     ensures kind { inside.template_head_view result

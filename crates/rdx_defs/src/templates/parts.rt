@@ -9,11 +9,12 @@ ghost use Rattle.rdx_defs.specs.Scope.{scope_of};
 ghost use Rattle.rdx_defs.specs.TemplateOccurrences as model;
 
 use crate::Scope;
+use crate::templates::bound::Bound;
 use crate::templates::heads::{TemplateHead, template_head};
 use crate::templates::host_heads::{HostHead, host_head};
 use rdx_grammar::heads::{Role, Roles, is_pattern, is_repeated, next, rest};
 use rdx_sexp::{Datum, Form};
-use rdx_term::{Name, NoMemory};
+use rdx_term::NoMemory;
 
 /// One of the things that stand in a template. The items that ellipses repeat are left out: all
 /// that stands in one decides together whether it may be repeated.
@@ -39,7 +40,7 @@ fn deeper(repeated: bool, depth: u32) -> u32
 #[cycle(parts)]
 pub(crate) fn add_template<'a>(
     scope: &Scope,
-    bound: &[(Name, u32)],
+    bound: &Bound<'_>,
     depth: u32,
     d: &'a Datum,
     out: &mut Vec<TemplatePart<'a>>,
@@ -84,7 +85,7 @@ pub(crate) fn add_template<'a>(
 #[cycle(parts)]
 fn add_items<'a>(
     scope: &Scope,
-    bound: &[(Name, u32)],
+    bound: &Bound<'_>,
     depth: u32,
     roles: Roles,
     from: usize,
@@ -115,7 +116,7 @@ fn add_items<'a>(
 #[cycle(parts)]
 pub(crate) fn add_host<'a>(
     scope: &Scope,
-    bound: &[(Name, u32)],
+    bound: &Bound<'_>,
     depth: u32,
     d: &'a Datum,
     out: &mut Vec<TemplatePart<'a>>,
@@ -154,7 +155,7 @@ pub(crate) fn add_host<'a>(
 #[cycle(parts)]
 fn add_hosts<'a>(
     scope: &Scope,
-    bound: &[(Name, u32)],
+    bound: &Bound<'_>,
     depth: u32,
     items: &'a [Datum],
     out: &mut Vec<TemplatePart<'a>>,

@@ -8,17 +8,18 @@ ghost use Rattle.rdx_defs.specs.TemplateChecks as model;
 ghost use Rattle.rdx_defs.specs.TemplateOccurrences.{template_parts, host_parts};
 
 use crate::Scope;
+use crate::templates::bound::Bound;
 use crate::templates::checks::{earliest_bad_part, earliest_escape, earliest_shallow_part};
 use crate::templates::parts::{TemplatePart, add_host, add_template};
 use rdx_sexp::Datum;
-use rdx_term::{Name, NoMemory};
+use rdx_term::NoMemory;
 use std::alloc::Global;
 
 /// What stands in a template, without the items that an ellipsis repeats.
 pub(crate) fn in_template<'a>(
     alloc: Global,
     scope: &Scope,
-    bound: &[(Name, u32)],
+    bound: &Bound<'_>,
     d: &'a Datum,
 ) -> Result<Vec<TemplatePart<'a>>, NoMemory>
     requires { IsReadable d.now }
@@ -34,7 +35,7 @@ pub(crate) fn in_template<'a>(
 pub(crate) fn in_host<'a>(
     alloc: Global,
     scope: &Scope,
-    bound: &[(Name, u32)],
+    bound: &Bound<'_>,
     d: &'a Datum,
 ) -> Result<Vec<TemplatePart<'a>>, NoMemory>
     requires { IsReadable d.now }
@@ -50,7 +51,7 @@ pub(crate) fn in_host<'a>(
 pub(crate) fn bad_in_template<'a>(
     alloc: Global,
     scope: &Scope,
-    bound: &[(Name, u32)],
+    bound: &Bound<'_>,
     d: &'a Datum,
 ) -> Result<Option<&'a Datum>, NoMemory>
     requires { IsReadable d.now }
@@ -65,7 +66,7 @@ pub(crate) fn bad_in_template<'a>(
 pub(crate) fn bad_in_host<'a>(
     alloc: Global,
     scope: &Scope,
-    bound: &[(Name, u32)],
+    bound: &Bound<'_>,
     d: &'a Datum,
 ) -> Result<Option<&'a Datum>, NoMemory>
     requires { IsReadable d.now }
@@ -80,7 +81,7 @@ pub(crate) fn bad_in_host<'a>(
 pub(crate) fn shallow_in_template<'a>(
     alloc: Global,
     scope: &Scope,
-    bound: &[(Name, u32)],
+    bound: &Bound<'_>,
     d: &'a Datum,
 ) -> Result<Option<&'a Datum>, NoMemory>
     requires { IsReadable d.now }
@@ -96,7 +97,7 @@ pub(crate) fn shallow_in_template<'a>(
 pub(crate) fn shallow_in_host<'a>(
     alloc: Global,
     scope: &Scope,
-    bound: &[(Name, u32)],
+    bound: &Bound<'_>,
     d: &'a Datum,
 ) -> Result<Option<&'a Datum>, NoMemory>
     requires { IsReadable d.now }
@@ -112,7 +113,7 @@ pub(crate) fn shallow_in_host<'a>(
 pub(crate) fn escape_in_template<'a>(
     alloc: Global,
     scope: &Scope,
-    bound: &[(Name, u32)],
+    bound: &Bound<'_>,
     d: &'a Datum,
 ) -> Result<Option<&'a Datum>, NoMemory>
     requires { IsReadable d.now }
@@ -127,7 +128,7 @@ pub(crate) fn escape_in_template<'a>(
 pub(crate) fn escape_in_host<'a>(
     alloc: Global,
     scope: &Scope,
-    bound: &[(Name, u32)],
+    bound: &Bound<'_>,
     d: &'a Datum,
 ) -> Result<Option<&'a Datum>, NoMemory>
     requires { IsReadable d.now }

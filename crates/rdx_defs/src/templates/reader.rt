@@ -8,6 +8,7 @@ ghost use Rattle.rdx_defs.specs.Bound.{is_bound};
 ghost use Rattle.rdx_defs.specs.Scope.{has_metafunction, scope_of};
 
 use crate::Scope;
+use crate::templates::bound::Bound;
 use crate::templates::readings::{read_datum, read_host_datum};
 use crate::templates::refusals::{refuse_host, refuse_template};
 use rdx_grammar::DefFault;
@@ -15,6 +16,42 @@ use rdx_lang::{HostExpr, Template};
 use rdx_sexp::Datum;
 use rdx_term::Name;
 use std::alloc::Global;
+
+// The template of a datum where these names are bound.
+fn template_over(
+    alloc: Global,
+    scope: &Scope,
+    bound: &Bound<'_>,
+    d: &Datum,
+) -> Result<Template, DefFault>
+    requires { IsReadable d.now }
+    ensures reads { ReadsTemplate (scope_of scope.now) bound.now d.now result }
+    ensures fits { IfOk result (λ t. IsTrue (fits (has_metafunction (scope_of scope.now))
+        (is_bound bound.now) 0 (template_of t))) }
+{
+    if let Some(refusal) = refuse_template(alloc, scope, bound, d)? {
+        return Err(DefFault::Refused(refusal));
+    }
+    Ok(read_datum(alloc, scope, bound, d)?)
+}
+
+// The host expression of a datum where these names are bound.
+fn host_over(
+    alloc: Global,
+    scope: &Scope,
+    bound: &Bound<'_>,
+    d: &Datum,
+) -> Result<HostExpr, DefFault>
+    requires { IsReadable d.now }
+    ensures reads { ReadsHost (scope_of scope.now) bound.now d.now result }
+    ensures fits { IfOk result (λ h. IsTrue (fits_in (has_metafunction (scope_of scope.now))
+        (is_bound bound.now) 0 (host_of h))) }
+{
+    if let Some(refusal) = refuse_host(alloc, scope, bound, d)? {
+        return Err(DefFault::Refused(refusal));
+    }
+    Ok(read_host_datum(alloc, scope, bound, d)?)
+}
 
 /// The template of a datum in a file of this scope, where these names are bound, each with its
 /// depth. Where a name is bound more than once, its first depth counts.
@@ -29,10 +66,8 @@ pub fn read_template(
     ensures fits { IfOk result (λ t. IsTrue (fits (has_metafunction (scope_of scope.now))
         (is_bound bound.now) 0 (template_of t))) }
 {
-    if let Some(refusal) = refuse_template(alloc, scope, bound, d)? {
-        return Err(DefFault::Refused(refusal));
-    }
-    Ok(read_datum(alloc, scope, bound, d)?)
+    let bound = Bound::of(alloc, bound)?;
+    template_over(alloc, scope, &bound, d)
 }
 
 /// The host expression of a datum in a file of this scope, where these names are bound, each with
@@ -48,8 +83,6 @@ pub fn read_host(
     ensures fits { IfOk result (λ h. IsTrue (fits_in (has_metafunction (scope_of scope.now))
         (is_bound bound.now) 0 (host_of h))) }
 {
-    if let Some(refusal) = refuse_host(alloc, scope, bound, d)? {
-        return Err(DefFault::Refused(refusal));
-    }
-    Ok(read_host_datum(alloc, scope, bound, d)?)
+    let bound = Bound::of(alloc, bound)?;
+    host_over(alloc, scope, &bound, d)
 }

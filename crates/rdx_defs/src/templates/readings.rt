@@ -9,7 +9,7 @@ ghost use Rattle.rdx_defs.specs.Scope.{scope_of};
 ghost use Rattle.rdx_defs.specs.TemplateReading as model;
 
 use crate::Scope;
-use crate::templates::bound::depth_of;
+use crate::templates::bound::Bound;
 use crate::templates::heads::{TemplateHead, template_head};
 use crate::templates::host_heads::{HostHead, host_head};
 use rdx_grammar::heads::{Role, Roles, is_pattern, is_repeated, next, rest};
@@ -29,13 +29,13 @@ fn by_depth(name: Name, depth: Option<u32>) -> Template
     }
 }
 
-fn read_symbol(bound: &[(Name, u32)], text: &RcStr) -> Result<Template, NoMemory>
+fn read_symbol(bound: &Bound<'_>, text: &RcStr) -> Result<Template, NoMemory>
     ensures { IfOk result (λ t.
         template_of t ≡ model.symbol_template bound.now (rc_str_bytes text.now)) }
 {
     match Name::new(text.clone()?) {
         Some(name) => {
-            let depth = depth_of(bound, name.text());
+            let depth = bound.depth_of(name.text());
             Ok(by_depth(name, depth))
         }
         None => Ok(Template::Lit(Term::Hole)),
@@ -131,7 +131,7 @@ fn quoted(items: Vec<TItem>) -> HostExpr
 pub(crate) fn read_datum(
     alloc: Global,
     scope: &Scope,
-    bound: &[(Name, u32)],
+    bound: &Bound<'_>,
     d: &Datum,
 ) -> Result<Template, NoMemory>
     ensures { IfOk result (λ t.
@@ -167,7 +167,7 @@ pub(crate) fn read_datum(
 fn read_items(
     alloc: Global,
     scope: &Scope,
-    bound: &[(Name, u32)],
+    bound: &Bound<'_>,
     roles: Roles,
     from: usize,
     items: &[Datum],
@@ -196,7 +196,7 @@ fn read_items(
 pub(crate) fn read_host_datum(
     alloc: Global,
     scope: &Scope,
-    bound: &[(Name, u32)],
+    bound: &Bound<'_>,
     d: &Datum,
 ) -> Result<HostExpr, NoMemory>
     ensures { IfOk result (λ h.
@@ -226,7 +226,7 @@ pub(crate) fn read_host_datum(
 fn read_hosts(
     alloc: Global,
     scope: &Scope,
-    bound: &[(Name, u32)],
+    bound: &Bound<'_>,
     items: &[Datum],
 ) -> Result<Vec<HostExpr>, NoMemory>
     ensures { IfOk result (λ read.

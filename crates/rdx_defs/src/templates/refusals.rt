@@ -8,6 +8,7 @@ ghost use Rattle.rdx_defs.specs.Scope.{scope_of};
 ghost use Rattle.rdx_defs.specs.TemplateRefusal as model;
 
 use crate::Scope;
+use crate::templates::bound::Bound;
 use crate::templates::checks::{earliest_bad_part, earliest_escape, earliest_shallow_part};
 use crate::templates::driving::{driving_of, driving_of_host};
 use crate::templates::parts::TemplatePart;
@@ -17,14 +18,14 @@ use rdx_grammar::refusal::{named, unnamed};
 use rdx_grammar::unbuilt::has_word_to_come;
 use rdx_grammar::{DefKind, DefRefusal};
 use rdx_sexp::Datum;
-use rdx_term::{Name, NoMemory};
+use rdx_term::NoMemory;
 use std::alloc::Global;
 
 // The refusal by the check behind the first with the least number, of what stands in a template and
 // of the earliest item whose ellipsis nothing drives.
 fn refuse_late(
     alloc: Global,
-    bound: &[(Name, u32)],
+    bound: &Bound<'_>,
     undriven: Option<&Datum>,
     found: &[TemplatePart],
 ) -> Result<Option<DefRefusal>, NoMemory>
@@ -53,7 +54,7 @@ fn refuse_late(
 pub(crate) fn refuse_template(
     alloc: Global,
     scope: &Scope,
-    bound: &[(Name, u32)],
+    bound: &Bound<'_>,
     d: &Datum,
 ) -> Result<Option<DefRefusal>, NoMemory>
     requires { IsReadable d.now }
@@ -75,7 +76,7 @@ pub(crate) fn refuse_template(
 pub(crate) fn refuse_host(
     alloc: Global,
     scope: &Scope,
-    bound: &[(Name, u32)],
+    bound: &Bound<'_>,
     d: &Datum,
 ) -> Result<Option<DefRefusal>, NoMemory>
     requires { IsReadable d.now }

@@ -54,12 +54,12 @@ returns c =
     let a : arguments_of c.rule_branch-branch.result.arguments ≡ rule_arguments m r = ap (λ (b : RuleBranch). b.arguments) same in
     let inputs : pattern_in c.in_ok-ins.ins ≡ list_reading ns (patterns_in (rule_arguments m r)) =
     c.in_ok-ins.ensures ∙ ap (λ (x : arguments.Arguments). list_reading ns (patterns_in x)) a in
-    let bound : c.in_ok-bound.bound.items ≡ names_bound (bound_by_inputs ns m r) =
+    let bound : c.in_ok-bound.bound ≡ names_bound (bound_by_inputs ns m r) =
     c.in_ok-bound.ensures ∙ ap (input_names ns) same ∙ names.input-names S ns m r in
     let extras : extras_of c.in_ok-extras.extras.items ≡ model.extras_reading of_rule S ns (bound_by_inputs ns m r) r.premises =
     c.in_ok-extras.ensures ∙ ap (λ (es : Bound). extras_reading of_rule S ns es r.premises) bound ∙ sym (extras-reads S ns of_rule (bound_by_inputs ns m r) r.premises) in
-    let all : c.deref.result.now ≡ names_bound (bound_by_rule S ns m r) =
-    c.deref.ensures.value ∙ c.in_ok-all.ensures ∙ ap (rule_names S ns) same ∙ names.rule-names S ns m r in
+    let all : c.in_ok-all.all ≡ names_bound (bound_by_rule S ns m r) =
+    c.in_ok-all.ensures ∙ ap (rule_names S ns) same ∙ names.rule-names S ns m r in
     let outputs : map template_of c.in_ok-outs.outs.items ≡ templates_reading S (names_bound (bound_by_rule S ns m r)) (templates_in (rule_arguments m r)) =
     c.in_ok-outs.ensures ∙ (λ i. templates_reading S (all i) (templates_in (a i))) in
     λ i. record { name = c.in_ok-read_label.ensures i; inputs = inputs i; extras = extras i; outputs = outputs i }

@@ -32,8 +32,8 @@ pub loop-o-preserved : goal.loop-o-preserved
 loop-o-preserved c =
     let ns = c.args.names.now in
     let found = c.args.found.now in
-    let es = c.args.bound.now in
-    let hs = c.loop-o.here.items in
+    let es = c.args.bound.now ++ c.args.behind.now in
+    let hs = c.loop-o.here in
     let rest = bound_among ns (occurrences_of (drop (c.loop-o.o-index + 1) found)) in
     let r : bound_among ns (occurrences_of (drop c.loop-o.o-index found)) ≡ bounds_of (option_map (λ b. (b.0, b.1.now)) c.bound_by.result) ++ rest =
     ap (bound_among ns) (rest_at occurrence_of found c.loop-o.o-index c.o-item.result c.loop-o-test.true c.o-item.is)
@@ -44,11 +44,11 @@ loop-o-preserved c =
           let b : Bound = record { symbol = w.in-Some.d.now; depth = w.in-Some.depth } in
           let q : bound_among ns (occurrences_of (drop c.loop-o.o-index found)) ≡ b ∷ rest =
           r ∙ ap (λ o. bounds_of (option_map (λ b. (b.0, b.1.now)) o) ++ rest) w.in-Some.is in
-          let p : c.match-bound_by.here.items ≡ hs ++ e ∷ [] = ap (λ v. v.items) w.here-is ∙ w.in_ok-push.ensures.items in
+          let p : c.match-bound_by.here ≡ hs ++ e ∷ [] = w.here-is ∙ w.in_ok-push.ensures in
           let here : option_map (λ d. d.now) w.when.result ≡ first (when (is_other e.1 (depth_of (es ++ hs) e.0)) b.symbol) =
           w.when.ensures
           ∙ ap (λ (t : Bool). first (when t b.symbol))
-          (w.is_another.ensures ∙ ap (is_other e.1) (w.depth_among-first.ensures ∙ (λ i. depth_of (es ++ w.deref.ensures.value i) (w.text.ensures.value i)))) in
+          (w.is_another.ensures ∙ ap (is_other e.1) (w.depth_here-first.ensures ∙ ap (depth_of (es ++ hs)) (w.text-name.ensures ∙ ap (λ f. f.0) (sym w.in_ok-entry.ensures)))) in
           (λ i. lesser start ((ap (option_map (λ d. d.now)) w.clash-is ∙ w.earlier-clash.ensures) i) (earliest start (other_depths (es ++ p i) rest)))
           ∙ sym (clash-next es hs e b rest (option_map (λ d. d.now) c.loop-o.clash) (option_map (λ d. d.now) w.when.result) w.in_ok-entry.ensures here)
           ∙ (λ i. lesser start (option_map (λ d. d.now) c.loop-o.clash) (earliest start (other_depths (es ++ hs) (sym q i))))
@@ -56,5 +56,5 @@ loop-o-preserved c =
       | in_default w ↦
           let q : bound_among ns (occurrences_of (drop c.loop-o.o-index found)) ≡ rest =
           r ∙ ap (λ o. bounds_of (option_map (λ b. (b.0, b.1.now)) o) ++ rest) w.in_default.is in
-          (λ i. lesser start (option_map (λ d. d.now) (w.clash-is i)) (earliest start (other_depths (es ++ ap (λ v. v.items) w.here-is i) (sym q i)))) ∙ c.loop-o.invariant
+          (λ i. lesser start (option_map (λ d. d.now) (w.clash-is i)) (earliest start (other_depths (es ++ w.here-is i) (sym q i)))) ∙ c.loop-o.invariant
     ]

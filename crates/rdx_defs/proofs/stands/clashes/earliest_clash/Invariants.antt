@@ -8,5 +8,5 @@ use Rattle.rdx_defs.proofs.stands.clashes.earliest_clash.Given as goal
 
 abbrev pub invariant-loop-o : goal.invariant-loop-o
 invariant-loop-o l =
-    lesser start (option_map (λ d. d.now) l.clash) (earliest start (other_depths (l.bound ++ l.here.items) (bound_among l.names (occurrences_of (drop l.o-index l.found)))))
-    ≡ earliest start (other_depths l.bound (bound_among l.names (occurrences_of l.found)))
+    lesser start (option_map (λ d. d.now) l.clash) (earliest start (other_depths ((l.bound ++ l.behind) ++ l.here) (bound_among l.names (occurrences_of (drop l.o-index l.found)))))
+    ≡ earliest start (other_depths (l.bound ++ l.behind) (bound_among l.names (occurrences_of l.found)))

@@ -1,4 +1,4 @@
-use Rattle.std.proofs.Common.{◌≡◌, ◌++◌, ◌∙◌, List, [], ◌∷◌, map, sym, ap, subst}
+use Rattle.std.proofs.Common.{◌≡◌, ◌++◌, ◌∙◌, List, [], ◌∷◌, map, sym, ap, subst, append-nil, append_assoc}
 use Rattle.std.proofs.lemmas.Slice.Zip.{Zip-more, either_empty_from_Zip}
 use Rattle.std.specs.Iterator.Adapters.{zip_first, zip_second}
 use Rattle.std.specs.Prelude.{Option, option_map}
@@ -21,7 +21,7 @@ loop-flag-init c =
     let k = c.args.check in
     let S = scope_of c.args.scope.now in
     let ns = c.args.names.now in
-    let es = c.args.before.items in
+    let es = c.args.before.now in
     let all = c.args.all.now in
     let pairs = c.into_iter-flag-iterator.result in
     let f = flag_at c.args.arguments.at_inputs in
@@ -36,7 +36,9 @@ loop-flag-init c =
       tt,
       subst (λ (ds : List Sexp). CanBind ns (each ds)) same c.requires.patterns,
       subst AreReadable (sym b) c.requires.readable,
-      (λ i. earliest start (flagged_faults k S ns es all (map f (a i)) (b i)))
+      ap (λ (gs : Bound). earliest start (flagged_faults k S ns gs all (map f (iter_rest (zip_first pairs))) (iter_rest (zip_second pairs))))
+          (ap (λ (gs : Bound). es ++ gs) c.new-here.ensures ∙ append-nil es)
+          ∙ (λ i. earliest start (flagged_faults k S ns es all (map f (a i)) (b i)))
           ∙ sym (ap (λ o. earliest start (faults_by k S ns es all (option_map (λ m. map f m.now) o) items)) c.in-Some.is),
     )
 
@@ -70,7 +72,9 @@ loop-flag-preserved c =
     let k = c.args.check in
     let S = scope_of c.args.scope.now in
     let ns = c.args.names.now in
-    let es = c.loop-flag.before.items in
+    let before = c.args.before.now in
+    let here = c.loop-flag.here in
+    let es = before ++ here in
     let all = c.args.all.now in
     let f = flag_at c.args.arguments.at_inputs in
     let b = f c.in-Some-2.flag.now in
@@ -79,16 +83,18 @@ loop-flag-preserved c =
     let ds = iter_rest (zip_second c.next.new.self) in
     let z = Zip-more c.loop-flag.flag-iterator c.next.new.self c.next.result (c.in-Some-2.flag, c.in-Some-2.d) c.in-Some-2.is c.next.ensures.steps in
     let h = subst (λ (es : List Sexp). CanBind ns (each es)) (λ i. data_at (map f (z.0 i)) (z.1 i)) c.loop-flag.invariant.2 in
-    let more : c.add_argument_names.new.out.items ≡ es ++ patterns_names ns (data_at (b ∷ []) (d ∷ [])) =
-    c.in_ok-add_argument_names.ensures ∙ ap (λ x. es ++ patterns_names ns (data_at (x ∷ []) (d ∷ []))) c.is_pattern-is_pattern.ensures in (
+    let more : before ++ c.add_argument_names.new.out ≡ es ++ patterns_names ns (data_at (b ∷ []) (d ∷ [])) =
+    ap (λ (gs : Bound). before ++ gs)
+    (c.in_ok-add_argument_names.ensures ∙ ap (λ x. here ++ patterns_names ns (data_at (x ∷ []) (d ∷ []))) c.is_pattern-is_pattern.ensures)
+    ∙ sym (append_assoc before here (patterns_names ns (data_at (b ∷ []) (d ∷ [])))) in (
       (tt, tt),
       tt,
       (bind-argument ns b bs d ds h).1,
       (subst AreReadable z.1 c.loop-flag.invariant.3).1,
-      ap (λ (p : Option Sexp). lesser start p (earliest start (flagged_faults k S ns c.add_argument_names.new.out.items all bs ds)))
+      ap (λ (p : Option Sexp). lesser start p (earliest start (flagged_faults k S ns (before ++ c.add_argument_names.new.out) all bs ds)))
           (c.earlier-place.ensures
           ∙ ap (lesser start (option_map (λ d. d.now) c.loop-flag.place))
-          (c.in_ok-fault.ensures ∙ (λ i. earliest start (flagged_faults k S ns (c.deref.ensures.value i) all (c.is_pattern-is_pattern.ensures i ∷ []) (d ∷ [])))))
+          (c.in_ok-fault.ensures ∙ (λ i. earliest start (flagged_faults k S ns es all (c.is_pattern-is_pattern.ensures i ∷ []) (d ∷ [])))))
           ∙ ap (λ (gs : Bound). lesser start (lesser start (option_map (λ d. d.now) c.loop-flag.place) (earliest start (flagged_faults k S ns es all (b ∷ []) (d ∷ []))))
           (earliest start (flagged_faults k S ns gs all bs ds))) more
           ∙ sym (earliest-first k S ns all es b bs d ds (option_map (λ d. d.now) c.loop-flag.place))
@@ -103,6 +109,6 @@ returns c =
     let place = option_map (λ d. d.now) c.loop-flag.place in
     sym (lesser_none start place)
     ∙ ap (λ (ds : List Sexp). lesser start place (earliest start ds))
-    (sym (faults-end c.args.check (scope_of c.args.scope.now) c.args.names.now c.args.all.now c.loop-flag.before.items f (iter_rest (zip_first s)) (iter_rest (zip_second s))
+    (sym (faults-end c.args.check (scope_of c.args.scope.now) c.args.names.now c.args.all.now (c.args.before.now ++ c.loop-flag.here) f (iter_rest (zip_first s)) (iter_rest (zip_second s))
     (either_empty_from_Zip s c.next.new.self c.next.result c.in-None.is c.next.ensures.steps)))
     ∙ c.loop-flag.invariant.4

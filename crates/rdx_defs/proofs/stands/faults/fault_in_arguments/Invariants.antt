@@ -1,4 +1,4 @@
-use Rattle.std.proofs.Common.{◌≡◌, map}
+use Rattle.std.proofs.Common.{◌≡◌, ◌++◌, map}
 use Rattle.std.specs.Iterator.Adapters.{zip_first, zip_second}
 use Rattle.std.specs.Prelude.{option_map}
 use Rattle.std.specs.Slice.Iter.{iter_rest}
@@ -19,6 +19,6 @@ invariant-loop-flag l =
     × AreReadable (iter_rest (zip_second l.flag-iterator))
     × (lesser start (option_map (λ d. d.now) l.place)
     (earliest start
-    (flagged_faults l.check (scope_of l.scope) l.names l.before.items l.all (map (flag_at l.arguments.at_inputs) (iter_rest (zip_first l.flag-iterator)))
+    (flagged_faults l.check (scope_of l.scope) l.names (l.before ++ l.here) l.all (map (flag_at l.arguments.at_inputs) (iter_rest (zip_first l.flag-iterator)))
     (iter_rest (zip_second l.flag-iterator))))
-    ≡ earliest start (arguments_faults l.check (scope_of l.scope) l.names l.fn.before.items l.all (arguments_of l.fn.arguments)))
+    ≡ earliest start (arguments_faults l.check (scope_of l.scope) l.names l.before l.all (arguments_of l.fn.arguments)))

@@ -32,14 +32,14 @@ loop-d-preserved c =
     let ns = c.args.names.now in
     let k = c.args.check in
     let p = place_of c.args.place in
-    let es = c.loop-d.bound.items in
+    let es = c.loop-d.bound in
     let e = form_at p c.d-item.result in
     let rest = drop (c.loop-d.d-index + 1) c.args.extras.now in
     let later = extras_faults p k S ns (es ++ extra_names S ns e) rest in
     let so_far = option_map (λ d. d.now) c.loop-d.fault in
     let here : option_map (λ d. d.now) c.in_ok-next.next ≡ earliest start (extra_faults k S ns es e) =
-    c.in_ok-next.ensures ∙ (λ i. earliest start (extra_faults k S ns (c.deref.ensures.value i) (c.form_at-extra.ensures i))) in
-    let same : c.add_extra_names.new.out.items ≡ es ++ extra_names S ns e =
+    c.in_ok-next.ensures ∙ (λ i. earliest start (extra_faults k S ns es (c.form_at-extra.ensures i))) in
+    let same : c.add_extra_names.new.out ≡ es ++ extra_names S ns e =
     c.in_ok-add_extra_names.ensures ∙ ap (λ (f : ExtraForm). es ++ extra_names S ns f) c.form_at-extra.ensures in
     (λ i. lesser start ((c.earlier-fault.ensures ∙ ap (lesser start so_far) here) i) (earliest start (extras_faults p k S ns (same i) rest)))
     ∙ lesser_assoc start so_far (earliest start (extra_faults k S ns es e)) (earliest start later)

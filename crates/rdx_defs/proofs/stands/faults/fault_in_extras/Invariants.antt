@@ -8,5 +8,5 @@ use Rattle.rdx_defs.proofs.stands.faults.fault_in_extras.Given as goal
 
 abbrev pub invariant-loop-d : goal.invariant-loop-d
 invariant-loop-d l =
-    lesser start (option_map (λ d. d.now) l.fault) (earliest start (extras_faults (place_of l.place) l.check (scope_of l.scope) l.names l.bound.items (drop l.d-index l.extras)))
-    ≡ earliest start (extras_faults (place_of l.place) l.check (scope_of l.scope) l.names l.fn.bound.items l.extras)
+    lesser start (option_map (λ d. d.now) l.fault) (earliest start (extras_faults (place_of l.place) l.check (scope_of l.scope) l.names l.bound (drop l.d-index l.extras)))
+    ≡ earliest start (extras_faults (place_of l.place) l.check (scope_of l.scope) l.names l.fn.bound l.extras)

@@ -28,7 +28,7 @@ loop-flag-init c =
       (tt, tt),
       tt,
       subst (λ (ds : List Sexp). CanBind ns (each ds)) same c.requires,
-      ap (λ (ds : List Sexp). c.args.out.now.items ++ patterns_names ns ds) (sym same),
+      ap (λ (ds : List Sexp). c.args.out.now ++ patterns_names ns ds) (sym same),
     )
 
 pub add_argument_names-requires : goal.add_argument_names-requires
@@ -51,7 +51,7 @@ loop-flag-preserved c =
     let ds = iter_rest (zip_second c.next.new.self) in
     let z = Zip-more c.loop-flag.flag-iterator c.next.new.self c.next.result (c.in-Some-2.flag, c.in-Some-2.d) c.in-Some-2.is c.next.ensures.steps in
     let h = subst (λ (es : List Sexp). CanBind ns (each es)) (λ i. data_at (map f (z.0 i)) (z.1 i)) c.loop-flag.invariant.2 in
-    let out = c.loop-flag.out.items in
+    let out = c.loop-flag.out in
     let here = patterns_names ns (data_at (b ∷ []) (d ∷ [])) in
     let rest = patterns_names ns (data_at bs ds) in (
       (tt, tt),
@@ -69,7 +69,7 @@ returns c =
     let ns = c.args.names.now in
     let f = flag_at c.args.arguments.at_inputs in
     let s = c.loop-flag.flag-iterator in
-    let out = c.loop-flag.out.items in
+    let out = c.loop-flag.out in
     sym (append-nil out)
     ∙ ap (λ (ds : List Sexp). out ++ patterns_names ns ds)
     (sym (data-end f (iter_rest (zip_first s)) (iter_rest (zip_second s)) (either_empty_from_Zip s c.next.new.self c.next.result c.in-None.is c.next.ensures.steps)))

@@ -13,6 +13,6 @@ invariant-loop-flag l =
     (goal.iterator-loop-flag).can_next l.flag-iterator
     × (goal.iterator-loop-flag).is_finite l.flag-iterator
     × CanBind l.names (each (data_at (map (flag_at l.arguments.at_inputs) (iter_rest (zip_first l.flag-iterator))) (iter_rest (zip_second l.flag-iterator))))
-    × (l.out.items
+    × (l.out
     ++ patterns_names l.names (data_at (map (flag_at l.arguments.at_inputs) (iter_rest (zip_first l.flag-iterator))) (iter_rest (zip_second l.flag-iterator)))
-    ≡ l.fn.out.items ++ patterns_names l.names (patterns_in (arguments_of l.fn.arguments)))
+    ≡ l.fn.out ++ patterns_names l.names (patterns_in (arguments_of l.fn.arguments)))

@@ -6,4 +6,4 @@ use Rattle.rdx_defs.specs.Stands.{names_bound}
 use Rattle.rdx_defs.proofs.stands.names.add_bound.Given as goal
 
 abbrev pub invariant-loop-o : goal.invariant-loop-o
-invariant-loop-o l = l.out.items ++ names_bound (all_bound l.names Query (occurrences_of (drop l.o-index l.found))) ≡ l.fn.out.items ++ names_bound (all_bound l.names Query (occurrences_of l.found))
+invariant-loop-o l = l.out ++ names_bound (all_bound l.names Query (occurrences_of (drop l.o-index l.found))) ≡ l.fn.out ++ names_bound (all_bound l.names Query (occurrences_of l.found))

@@ -6,5 +6,5 @@ use Rattle.rdx_defs.proofs.stands.names.add_extras_names.Given as goal
 
 abbrev pub invariant-loop-d : goal.invariant-loop-d
 invariant-loop-d l =
-    l.out.items ++ extras_names (place_of l.place) (scope_of l.scope) l.names (drop l.d-index l.extras)
-    ≡ l.fn.out.items ++ extras_names (place_of l.place) (scope_of l.scope) l.names l.extras
+    l.out ++ extras_names (place_of l.place) (scope_of l.scope) l.names (drop l.d-index l.extras)
+    ≡ l.fn.out ++ extras_names (place_of l.place) (scope_of l.scope) l.names l.extras

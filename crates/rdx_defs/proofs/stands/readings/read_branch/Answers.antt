@@ -31,5 +31,5 @@ returns-clause-result c =
     let ns = c.args.names.now in
     let S = scope_of c.args.scope.now in
     let b = branch_of c.args.branch in
-    let all : c.deref.result.now ≡ names_bound (bound_by_branch S ns b) = c.deref.ensures.value ∙ c.in_ok-all.ensures ∙ branch-names S ns b in
+    let all : c.in_ok-all.all ≡ names_bound (bound_by_branch S ns b) = c.in_ok-all.ensures ∙ branch-names S ns b in
     c.in_ok-result.ensures ∙ ap (λ (es : Bound). template_reading S es b.result) all

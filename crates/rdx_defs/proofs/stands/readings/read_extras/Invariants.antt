@@ -7,5 +7,5 @@ use Rattle.rdx_defs.proofs.stands.readings.read_extras.Given as goal
 
 abbrev pub invariant-loop-d : goal.invariant-loop-d
 invariant-loop-d l =
-    extras_of l.read.items ++ extras_reading (place_of l.place) (scope_of l.scope) l.names l.bound.items (drop l.d-index l.extras)
-    ≡ extras_reading (place_of l.place) (scope_of l.scope) l.names l.fn.bound.items l.extras
+    extras_of l.read.items ++ extras_reading (place_of l.place) (scope_of l.scope) l.names l.bound (drop l.d-index l.extras)
+    ≡ extras_reading (place_of l.place) (scope_of l.scope) l.names l.fn.bound l.extras

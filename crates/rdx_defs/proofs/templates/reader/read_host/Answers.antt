@@ -1,19 +1,17 @@
-use Rattle.std.proofs.Common.{◌≡◌, ◌∙◌, None, true, ap, sym, subst}
-use Rattle.std.specs.Prelude.{option_map}
+use Rattle.std.proofs.Common.{subst}
+use Rattle.std.specs.Prelude.{IfOk, IsTrue}
 use Rattle.rdx_lang.specs.Fitting.{fits_in}
-use Rattle.rdx_lang.specs.Templates.{Host}
-use Rattle.rdx_grammar.specs.Refusal.{refusal_of}
-use Rattle.rdx_defs.specs.Bound.{is_bound}
+use Rattle.rdx_lang.specs.TemplateView.{host_of}
+use Rattle.rdx_defs.specs.Answers.{ReadsHost}
+use Rattle.rdx_defs.specs.Bound.{Bound, is_bound}
 use Rattle.rdx_defs.specs.Scope.{has_metafunction, scope_of}
-use Rattle.rdx_defs.specs.TemplateRefusal.{host_refusal}
-use Rattle.rdx_defs.proofs.Fitting.{passed_host-fits}
 use Rattle.rdx_defs.proofs.templates.reader.read_host.Goals as goal
+
+pub returns-clause-reads : goal.returns-clause-reads
+returns-clause-reads c =
+    subst (λ (es : Bound). ReadsHost (scope_of c.args.scope.now) es c.args.d.now c.host_over.result) c.in_ok-bound.ensures c.host_over.ensures.reads
 
 pub returns-clause-fits : goal.returns-clause-fits
 returns-clause-fits c =
     let S = scope_of c.args.scope.now in
-    let bs = c.args.bound.now in
-    let d = c.args.d.now in
-    let r : option_map refusal_of c.in_ok-refusal.field-0 ≡ host_refusal S bs d = c.in_ok-refusal.ensures in
-    let n : host_refusal S bs d ≡ None = sym r ∙ ap (option_map refusal_of) c.in_default.is in
-    subst (λ (h : Host). fits_in (has_metafunction S) (is_bound bs) 0 h ≡ true) (sym c.in_ok-read_host_datum.ensures) (passed_host-fits S bs d n)
+    subst (λ (es : Bound). IfOk c.host_over.result (λ h. IsTrue (fits_in (has_metafunction S) (is_bound es) 0 (host_of h)))) c.in_ok-bound.ensures c.host_over.ensures.fits

@@ -1,0 +1,6 @@
+use Rattle.std.proofs.Common.{drop}
+use Rattle.rdx_defs.specs.Model.Places.{FindsPlaces}
+use Rattle.rdx_defs.proofs.scope.places_of.Given as goal
+
+abbrev pub invariant-loop-place : goal.invariant-loop-place
+invariant-loop-place l = FindsPlaces (λ n. n) l.places l.place (drop l.place l.names)
