@@ -8,7 +8,7 @@ use Rattle.rdx_lang.proofs.NewCrosses.{in-plain_names, plain_names-among}
 use Rattle.rdx_lang.specs.Crosses.{with_crosses_to}
 use Rattle.rdx_lang.specs.Members.{In}
 use Rattle.rdx_lang.specs.Patterns.{Language}
-use Rattle.rdx_lang.specs.Programs.{Program, Relation, language_among}
+use Rattle.rdx_lang.specs.Programs.{Program, Metafunction, Judgement, Relation, language_among}
 use Rattle.rdx_lang.specs.References.{is_among}
 use Rattle.rdx_lang.specs.WellFormed.{defined}
 use Rattle.rdx_lang.specs.declared.pattern.Ref.TheVariants.{Nt}
@@ -18,7 +18,7 @@ use Rattle.rdx_grammar.specs.Nonterminals.{names_of}
 use Rattle.rdx_grammar.proofs.Among.{is_among-names}
 use Rattle.rdx_grammar.proofs.KnownReadings.{in-known_ends, cross-there}
 use Rattle.rdx_grammar.specs.Ends.{known_ends, crossed_for}
-use Rattle.rdx_query.specs.Definitions.{language, relation}
+use Rattle.rdx_query.specs.Definitions.{language, metafunction, judgement, relation}
 use Rattle.rdx_query.specs.Inside.Fitting.{IsCrossedTo, AreCrossed, IsRelationOf, IsFitting}
 use Rattle.rdx_query.specs.Known.{Known, nothing_in, with_definition}
 use Rattle.rdx_query.proofs.FoundByName.{language-stays}
@@ -67,7 +67,7 @@ same-relation P Q R e r =
     record { language = r.language; named = subst (λ (Ls : List Language). language_among Ls R.language ≡ Some r.language) (sym e) r.named; formed = r.formed }
 
 -- with one relation more that is one of its language
-fitting-relation : (K : Known) (S : Relation) → IsRelationOf K.program S → IsFitting K → IsFitting (with_definition K (relation S))
+pub fitting-relation : (K : Known) (S : Relation) → IsRelationOf K.program S → IsFitting K → IsFitting (with_definition K (relation S))
 fitting-relation K S s f = record { crossed = f.crossed; relations = relations }
   where
     Q : Program
@@ -79,8 +79,16 @@ fitting-relation K S s f = record { crossed = f.crossed; relations = relations }
       | inr j ↦ subst (λ (I : Relation). IsRelationOf Q I) (sym (only j)) (same-relation K.program Q S refl s)
     ]
 
--- so with its relations and that one
-pub fitting-pushed : (K : Known) (Rs : List Relation) (S : Relation) → Rs ≡ K.program.relations ++ S ∷ [] → IsRelationOf K.program S → IsFitting K
-    → IsFitting (record K { program = record K.program { relations = Rs } })
-fitting-pushed K Rs S e s f =
-    subst (λ (Qs : List Relation). IsFitting (record K { program = record K.program { relations = Qs } })) (sym e) (fitting-relation K S s f)
+-- with one metafunction more
+pub fitting-metafunction : (K : Known) (M : Metafunction) → IsFitting K → IsFitting (with_definition K (metafunction M))
+fitting-metafunction K M f = record {
+  crossed = f.crossed;
+  relations = λ R i. same-relation K.program (with_definition K (metafunction M)).program R refl (f.relations R i);
+}
+
+-- with one judgement more
+pub fitting-judgement : (K : Known) (J : Judgement) → IsFitting K → IsFitting (with_definition K (judgement J))
+fitting-judgement K J f = record {
+  crossed = f.crossed;
+  relations = λ R i. same-relation K.program (with_definition K (judgement J)).program R refl (f.relations R i);
+}

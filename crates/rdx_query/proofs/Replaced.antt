@@ -1,5 +1,5 @@
 -- Places of a list, and an element that is put in the place of another.
-use Rattle.std.proofs.Common.{◌≡◌, ℕ, zero, suc, ◌<◌, length, get_or, set, List, [], ◌∷◌, Option, Some, IfSome, map, ap, subst, arith}
+use Rattle.std.proofs.Common.{◌≡◌, ℕ, zero, suc, ◌<◌, length, get_or, set, List, [], ◌∷◌, Option, Some, IfSome, map, ap, sym, subst, arith}
 use Rattle.rdx_lang.specs.Checked.{language_in}
 use Rattle.rdx_lang.specs.Patterns.{Language}
 use Rattle.rdx_lang.specs.ProgramView.{program_of}
@@ -7,6 +7,7 @@ use Rattle.rdx_lang.specs.Programs.{Program}
 use Rattle.rdx_lang.specs.declared.checked.CheckedLang.{CheckedLang}
 use Rattle.rdx_defs.specs.Scope.{scope_of}
 use Rattle.rdx_query.specs.Inside.KnownView.{known_of}
+use Rattle.rdx_query.specs.Inside.Tabled.{AreTabled}
 use Rattle.rdx_query.specs.Known as model
 use Rattle.rdx_query.specs.declared.known.Known.{Known}
 
@@ -40,3 +41,8 @@ pub same-known : (k : Known) (i : ℕ) (x y : CheckedLang) → i < length k.prog
 same-known k i x y h e =
     ap (λ (Ls : List Language). let P : Program = record (program_of k.program) { languages = Ls } in let K : model.Known = record { scope = scope_of k.scope; languages = k.languages.items; ends = k.ends.items; program = P } in K)
     (map-set language_in k.program.languages.items i x y h e)
+
+-- what is defined is found in the tables as before
+pub tables-stay : (k : Known) (i : ℕ) (x y : CheckedLang) → i < length k.program.languages.items → language_in y ≡ language_in (get_or k.program.languages.items i x)
+    → AreTabled k.tables (over_languages k (set k.program.languages.items i y)).program
+tables-stay k i x y h e = subst (λ (K : model.Known). AreTabled k.tables K.program) (sym (same-known k i x y h e)) k.tabled

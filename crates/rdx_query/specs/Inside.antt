@@ -1,5 +1,7 @@
 -- What only clauses inside the crate cite.
 pub mod KindViews
+pub mod Firsts
+pub mod Tabled
 pub mod KnownView
 pub mod PartViews
 pub mod Earlier

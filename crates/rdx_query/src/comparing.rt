@@ -1,5 +1,6 @@
 // Terms that are found, compared with those that are wanted, marks forgotten.
 ghost use Rattle.std.specs.Prelude.{◌≡◌, ◌∷◌, ◌++◌, [], ◌↔◌, IfOk, IsTrue, OnOk, map};
+ghost use Rattle.rdx_term.specs.Bare.{bare};
 ghost use Rattle.rdx_term.specs.Order.{tree_cmp};
 ghost use Rattle.rdx_term.specs.Terms.{IsTerm};
 ghost use Rattle.rdx_term.specs.Text.{tree_text};
@@ -12,6 +13,7 @@ ghost use Rattle.rdx_query.specs.Inside.Appending.{Appends};
 ghost use Rattle.rdx_query.specs.Inside.Comparing.{AreTerms, AreTexts};
 ghost use Rattle.rdx_query.specs.Tests.{AreDistinct, Compares, SameTerms, failure_text, got_text, want_text};
 
+use crate::step_answers::terms_of;
 use crate::texts::write_verdict;
 use rdx_term::{NoMemory, Term, text_of};
 use std::alloc::Global;
@@ -50,14 +52,6 @@ fn are_same(alloc: Global, found: &[Term], wanted: &[Term]) -> Result<bool, NoMe
     Ok(texts_of(alloc, found)? == texts_of(alloc, wanted)?)
 }
 
-// The members of a set, ascending.
-fn members(alloc: Global, set: BTreeSet<Term>) -> Result<Vec<Term>, NoMemory>
-    ensures { IfOk result (λ keys. keys.items ≡ set.keys) }
-{
-    let keys = set.into_iter().collect(alloc)?;
-    Ok(keys)
-}
-
 // The terms, ascending and each once.
 fn ascending(alloc: Global, terms: &[Term]) -> Result<Vec<Term>, NoMemory>
     ensures { IfOk result (λ listed. IsListing tree_cmp (terms_in listed)
@@ -67,7 +61,7 @@ fn ascending(alloc: Global, terms: &[Term]) -> Result<Vec<Term>, NoMemory>
     for term in terms {
         set.insert(term.share()?)?;
     }
-    members(alloc, set)
+    terms_of(alloc, set)
 }
 
 // The terms, ascending; of those that are alike the least.
@@ -143,6 +137,13 @@ pub(crate) fn write_comparison(
     Ok(false)
 }
 
+// Whether two terms are the same, marks forgotten.
+fn are_alike(found: &Term, wanted: &Term) -> bool
+    ensures { IsTrue result ↔ (bare (tree_of found.now) ≡ bare (tree_of wanted.now)) }
+{
+    found.same_bare(wanted)
+}
+
 /// The same of one term and another.
 pub(crate) fn write_equality(
     found: &Term,
@@ -153,7 +154,7 @@ pub(crate) fn write_equality(
         (Compares (tree_of found.now ∷ []) (tree_of wanted.now ∷ [])) out.old.items out.new.items
         met) }
 {
-    if found.same_bare(wanted) {
+    if are_alike(found, wanted) {
         write_verdict(true, out)?;
         return Ok(true);
     }

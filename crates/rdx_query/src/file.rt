@@ -1,17 +1,19 @@
 // The forms of a file.
 ghost use Rattle.rdx_sexp.specs.Size.{IsOfFileSize};
-ghost use Rattle.std.specs.Prelude.{IfOk, IfErr};
-ghost use Rattle.rdx_query.specs.File.{IsFile};
+ghost use Rattle.std.specs.Prelude.{◌≡◌, IfOk, IfErr};
+ghost use Rattle.rdx_query.specs.File.{IsFile, known_before};
+ghost use Rattle.rdx_query.specs.Inside.KnownView.{known_of};
 ghost use Rattle.rdx_query.specs.Views.{AllNamesKnown, IsFileFault, program_in, queries_of};
 
 use crate::ends::file_ends;
 use crate::forms::read_form;
 use crate::known::Known;
+use crate::tables::Tables;
 use rdx_defs::{judgement_languages, scope_of};
 use rdx_grammar::DefFault;
 use rdx_lang::{CheckedPat, HostExpr, Premise, Program, Template};
 use rdx_sexp::Datum;
-use rdx_term::Name;
+use rdx_term::{Name, NoMemory};
 use std::alloc::Global;
 
 /// What a file asks.
@@ -56,6 +58,29 @@ pub struct CheckedFile {
     pub queries: Vec<Query>,
 }
 
+// What is known before the first of these forms.
+fn nothing_known(alloc: Global, forms: &[Datum]) -> Result<Known, NoMemory>
+    ensures { IfOk result (λ known. known_of known ≡ known_before forms.now) }
+{
+    let scope = scope_of(alloc, forms)?;
+    let languages = judgement_languages(alloc, forms)?;
+    let tables = Tables::new(alloc, &languages)?;
+    let ends = file_ends(alloc, forms)?;
+    let program = Program {
+        languages: Vec::new(alloc),
+        metafunctions: Vec::new(alloc),
+        judgements: Vec::new(alloc),
+        relations: Vec::new(alloc),
+    };
+    Ok(Known {
+        scope,
+        languages,
+        ends,
+        program,
+        tables,
+    })
+}
+
 /// What the forms of a file mean, or the refusal of the first form that is refused.
 pub fn check_file(alloc: Global, forms: &[Datum]) -> Result<CheckedFile, DefFault>
     requires { IsOfFileSize forms.now }
@@ -63,17 +88,7 @@ pub fn check_file(alloc: Global, forms: &[Datum]) -> Result<CheckedFile, DefFaul
     ensures refused { IfErr result (IsFileFault forms.now) }
     ensures named { IfOk result (λ f. AllNamesKnown (program_in f) (queries_of f)) }
 {
-    let mut known = Known {
-        scope: scope_of(alloc, forms)?,
-        languages: judgement_languages(alloc, forms)?,
-        ends: file_ends(alloc, forms)?,
-        program: Program {
-            languages: Vec::new(alloc),
-            metafunctions: Vec::new(alloc),
-            judgements: Vec::new(alloc),
-            relations: Vec::new(alloc),
-        },
-    };
+    let mut known = nothing_known(alloc, forms)?;
     let mut queries = Vec::new(alloc);
     for form in forms {
         read_form(alloc, &mut known, &mut queries, form)?;

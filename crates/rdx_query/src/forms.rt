@@ -1,6 +1,7 @@
 // One form of a file.
 ghost use Rattle.std.specs.Prelude.{◌≡◌, OnOk, map};
 ghost use Rattle.rdx_lang.specs.Checked.{language_in};
+ghost use Rattle.rdx_lang.specs.ProgramView.{judgement_of, metafunction_of, relation_of};
 ghost use Rattle.rdx_grammar.specs.Inside.Among.{AreAmong};
 ghost use Rattle.rdx_grammar.specs.Readable.{IsReadable};
 ghost use Rattle.rdx_query.specs.Definitions as defined;
@@ -25,11 +26,12 @@ use crate::match_forms::{Asked, read_query};
 use crate::metafunction_forms::define_metafunction;
 use crate::passed_forms::{check_offers, check_wants};
 use crate::step_forms::{Stepping, read_steps};
+use crate::tables::add_text;
 use crate::test_forms::{Leading, Same, check_results, read_equal, read_leading};
 use rdx_defs::ReadPremise;
 use rdx_grammar::refusal::unnamed;
 use rdx_grammar::{DefFault, DefKind, add_crosses_for};
-use rdx_lang::CheckedLang;
+use rdx_lang::{CheckedLang, Judgement, Metafunction, Relation};
 use rdx_sexp::Datum;
 use rdx_term::NoMemory;
 use std::alloc::Global;
@@ -40,7 +42,71 @@ fn add_language(alloc: Global, known: &mut Known, mut language: CheckedLang) -> 
         ≡ with_definition (known_of known.old) (defined.language (language_in language))) }
 {
     add_crosses_for(alloc, &mut language, &known.ends)?;
-    Ok(known.program.languages.push(language)?)
+    known.program.languages.reserve(1)?;
+    let place = known.program.languages.len();
+    add_text(
+        alloc,
+        &mut known.tables.languages,
+        language.language().name.text(),
+        place,
+    )?;
+    known.program.languages.push_reserved(language);
+    Ok(())
+}
+
+// Adds the metafunction.
+fn add_metafunction(
+    alloc: Global,
+    known: &mut Known,
+    metafunction: Metafunction,
+) -> Result<(), NoMemory>
+    ensures added { OnOk result (known_of known.new
+        ≡ with_definition (known_of known.old) (defined.metafunction (metafunction_of metafunction))) }
+{
+    known.program.metafunctions.reserve(1)?;
+    let place = known.program.metafunctions.len();
+    add_text(
+        alloc,
+        &mut known.tables.metafunctions,
+        metafunction.name.text(),
+        place,
+    )?;
+    known.program.metafunctions.push_reserved(metafunction);
+    Ok(())
+}
+
+// Adds the judgement.
+fn add_judgement(alloc: Global, known: &mut Known, judgement: Judgement) -> Result<(), NoMemory>
+    ensures added { OnOk result (known_of known.new
+        ≡ with_definition (known_of known.old) (defined.judgement (judgement_of judgement))) }
+{
+    known.program.judgements.reserve(1)?;
+    let place = known.program.judgements.len();
+    add_text(
+        alloc,
+        &mut known.tables.judgements,
+        judgement.name.text(),
+        place,
+    )?;
+    known.program.judgements.push_reserved(judgement);
+    Ok(())
+}
+
+// Adds the relation.
+fn add_relation(alloc: Global, known: &mut Known, relation: Relation) -> Result<(), NoMemory>
+    ensures added { OnOk result (known_of known.new
+        ≡ with_definition (known_of known.old) (defined.relation (relation_of relation))) }
+{
+    known.program.relations.reserve(1)?;
+    let place = known.program.relations.len();
+    add_text(
+        alloc,
+        &mut known.tables.relations,
+        relation.name.text(),
+        place,
+    )?;
+    known.program.relations.push_reserved(relation);
+    Ok(())
 }
 
 // Adds what a form of this kind defines.
@@ -68,15 +134,15 @@ fn define(
         }
         DefinitionKind::Metafunction => {
             let metafunction = define_metafunction(alloc, known, form)?;
-            Ok(known.program.metafunctions.push(metafunction)?)
+            Ok(add_metafunction(alloc, known, metafunction)?)
         }
         DefinitionKind::Judgement => {
             let judgement = define_judgement(alloc, known, form)?;
-            Ok(known.program.judgements.push(judgement)?)
+            Ok(add_judgement(alloc, known, judgement)?)
         }
         DefinitionKind::Relation => {
             let relation = define_relation(alloc, known, form)?;
-            Ok(known.program.relations.push(relation)?)
+            Ok(add_relation(alloc, known, relation)?)
         }
     }
 }

@@ -1,12 +1,12 @@
 // The answers to queries over a premise by itself.
-ghost use Rattle.std.specs.Prelude.{◌≡◌, Some, IsSome, map, option_map};
+ghost use Rattle.std.specs.Prelude.{◌≡◌, Some, IsSome, IfOk, option_map};
 ghost use Rattle.rdx_eval.specs.Answers.{Then};
 ghost use Rattle.rdx_eval.specs.Heights.{calls_at, height};
 ghost use Rattle.rdx_eval.specs.Judgements as judging;
 ghost use Rattle.rdx_eval.specs.Views as engines;
 ghost use Rattle.rdx_eval.specs.Views.{Says, bindings_in, terms_in};
 ghost use Rattle.rdx_lang.specs.ProgramView.{judgement_of, premise_of, program_of};
-ghost use Rattle.rdx_lang.specs.Programs.{judgement_among as among, judgement_named as named};
+ghost use Rattle.rdx_lang.specs.Programs.{judgement_named as named};
 ghost use Rattle.rdx_lang.specs.Shown.{bindings_of};
 ghost use Rattle.rdx_lang.specs.TemplateView.{template_of};
 ghost use Rattle.rdx_query.specs.HoldsAnswers.{FindsMet, IsHoldsAnswer, IsPremiseAnswer, IsValuesAnswer, Values};
@@ -17,32 +17,21 @@ ghost use Rattle.rdx_query.specs.TestAnswers.{IsHoldsTestAnswer};
 use crate::step_answers::terms_of;
 use crate::texts::{write_answers, write_holds, write_verdict};
 use rdx_eval::{Engine, EvalFault};
-use rdx_lang::{Binding, Judgement, Premise, Program, Template};
+use rdx_lang::{Binding, Judgement, Premise, Template};
 use rdx_table::Table;
-use rdx_term::{Name, Term};
+use rdx_term::{Name, NoMemory, Term};
 use std::alloc::Global;
 use std::collections::BTreeSet;
 
-// The judgement among these of this name.
-fn judgement_among<'a>(judgements: &'a [Judgement], name: &Name) -> Option<&'a Judgement>
-    ensures { option_map (λ j. judgement_of j.now) result
-        ≡ among (map judgement_of judgements.now) name.now }
-{
-    for judgement in judgements {
-        if judgement.name.text() == name.text() {
-            return Some(judgement);
-        }
-    }
-    None
-}
-
 // The judgement of this name.
-fn judgement<'a>(program: &'a Program, name: &Name) -> &'a Judgement
-    requires { IsSome (named (program_of program.now) name.now) }
-    ensures { named (program_of program.now) name.now ≡ Some (judgement_of result.now) }
+fn judgement<'a>(engine: &mut Engine<'a, Table>, name: &Name) -> Result<&'a Judgement, NoMemory>
+    requires { IsSome (named (program_of (engines.program_in engine.old).now) name.now) }
+    ensures found { IfOk result (λ j. named (program_of (engines.program_in engine.old).now) name.now
+        ≡ Some (judgement_of j.now)) }
+    ensures same { engines.program_in engine.new ≡ engines.program_in engine.old }
 {
-    match judgement_among(&program.judgements, name) {
-        Some(judgement) => judgement,
+    match engine.judgement(name)? {
+        Some(judgement) => Ok(judgement),
         None => unreachable!(),
     }
 }
@@ -56,7 +45,7 @@ fn meeting(engine: &mut Engine<Table>, premise: &Premise) -> Result<Vec<Binding>
         result }
     ensures same { engines.program_in engine.new ≡ engines.program_in engine.old }
 {
-    let judgement = judgement(engine.program(), &premise.judgement);
+    let judgement = judgement(engine, &premise.judgement)?;
     engine.meet(&judgement.language, premise)
 }
 

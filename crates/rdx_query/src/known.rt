@@ -1,10 +1,16 @@
 // What is known where a form stands.
+ghost use Rattle.std.specs.Prelude.{map};
+ghost use Rattle.rdx_lang.specs.ProgramView.{program_of};
+ghost use Rattle.rdx_query.specs.Inside.Firsts.{FindsFirsts};
+ghost use Rattle.rdx_query.specs.Inside.Tabled.{AreTabled};
 
+use crate::tables::Tables;
 use rdx_defs::Scope;
 use rdx_lang::Program;
 use rdx_term::Name;
 
-/// What the whole file defines, and what the forms before a form define.
+/// What the whole file defines, and what the forms before a form define, with tables by which it is
+/// found by name.
 #[derive(Drop)]
 pub(crate) struct Known {
     pub(crate) scope: Scope,
@@ -14,4 +20,7 @@ pub(crate) struct Known {
     /// The nonterminals to which the file asks for cross nonterminals.
     pub(crate) ends: Vec<Name>,
     pub(crate) program: Program,
+    pub(crate) tables: Tables,
+    ghost tabled: { AreTabled tables (program_of program) },
+    ghost asked: { FindsFirsts tables.asked (map (λ p. p.0) languages.items) },
 }

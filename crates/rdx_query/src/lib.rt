@@ -34,6 +34,7 @@ mod relation_forms;
 mod step_answers;
 mod step_forms;
 mod stepper_answers;
+mod tables;
 mod test_answers;
 mod test_forms;
 #[cfg(test)]

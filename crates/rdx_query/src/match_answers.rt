@@ -12,21 +12,23 @@ ghost use Rattle.rdx_query.specs.TestAnswers.{IsMatchTestAnswer};
 ghost use Rattle.rdx_term.specs.View.{tree_of};
 
 use crate::holds_answers::are_some;
-use crate::lookup::place_among;
 use crate::texts::{write_matches, write_splits, write_verdict, write_whether};
 use rdx_eval::Engine;
-use rdx_lang::{CheckedLang, CheckedPat, Pat, Program};
+use rdx_lang::{CheckedLang, CheckedPat, Pat};
 use rdx_table::Table;
 use rdx_term::{Name, NoMemory, Term};
 use std::alloc::Global;
 
 // The language of this name.
-fn language<'a>(program: &'a Program, name: &Name) -> &'a CheckedLang
-    requires { IsSome (language_named (program_of program.now) name.now) }
-    ensures { language_named (program_of program.now) name.now ≡ Some (language_in result.now) }
+fn language<'a>(engine: &mut Engine<'a, Table>, name: &Name) -> Result<&'a CheckedLang, NoMemory>
+    requires { IsSome (language_named (program_of (engines.program_in engine.old).now) name.now) }
+    ensures found { IfOk result (λ l.
+        language_named (program_of (engines.program_in engine.old).now) name.now
+        ≡ Some (language_in l.now)) }
+    ensures same { engines.program_in engine.new ≡ engines.program_in engine.old }
 {
-    match place_among(&program.languages, name.text()) {
-        Some(place) => &program.languages[place],
+    match engine.language(name)? {
+        Some(language) => Ok(language),
         None => unreachable!(),
     }
 }
@@ -61,7 +63,7 @@ fn is_match(
 {
     rdx_lang::laws::some_listing();
     rdx_lang::laws::ranks_fall();
-    let language = language(engine.program(), name);
+    let language = language(engine, name)?;
     let closed = closed_of(alloc, language, pat)?;
     let found = match &closed {
         Some(closed) => engine.matches(language, closed, t)?,
@@ -85,7 +87,7 @@ pub(crate) fn answer_matches(
         (pattern_in pat.now) (tree_of t.now)) out.old.items out.new.items met) }
     ensures same { engines.program_in engine.new ≡ engines.program_in engine.old }
 {
-    let language = language(engine.program(), name);
+    let language = language(engine, name)?;
     let found = engine.matches(language, pat, t)?;
     write_matches(alloc, &found, out)?;
     Ok(true)
@@ -148,7 +150,7 @@ pub(crate) fn answer_splits(
         (pattern_in pat.now) (tree_of t.now)) out.old.items out.new.items met) }
     ensures same { engines.program_in engine.new ≡ engines.program_in engine.old }
 {
-    let language = language(engine.program(), name);
+    let language = language(engine, name)?;
     let found = engine.splits(language, pat, t)?;
     write_splits(alloc, &found, out)?;
     Ok(true)

@@ -10,10 +10,9 @@ ghost use Rattle.rdx_query.specs.StepAnswers.{AreReducts, IsReductsAnswer, IsTag
 ghost use Rattle.rdx_reduce.specs.StepView.{steps_in};
 ghost use Rattle.rdx_term.specs.View.{tree_of};
 
-use crate::lookup::relation_among;
 use crate::texts::{write_reducts, write_steps};
 use rdx_eval::{Engine, EvalFault};
-use rdx_lang::{Program, Relation};
+use rdx_lang::Relation;
 use rdx_reduce::{Step, steps};
 use rdx_table::Table;
 use rdx_term::{Name, NoMemory, Term};
@@ -21,12 +20,17 @@ use std::alloc::Global;
 use std::collections::BTreeSet;
 
 /// The relation of this name.
-pub(crate) fn relation<'a>(program: &'a Program, name: &Name) -> &'a Relation
-    requires { IsSome (named (program_of program.now) name.now) }
-    ensures { named (program_of program.now) name.now ≡ Some (relation_of result.now) }
+pub(crate) fn relation<'a>(
+    engine: &mut Engine<'a, Table>,
+    name: &Name,
+) -> Result<&'a Relation, NoMemory>
+    requires { IsSome (named (program_of (engines.program_in engine.old).now) name.now) }
+    ensures found { IfOk result (λ r. named (program_of (engines.program_in engine.old).now) name.now
+        ≡ Some (relation_of r.now)) }
+    ensures same { engines.program_in engine.new ≡ engines.program_in engine.old }
 {
-    match relation_among(&program.relations, name.text()) {
-        Some(relation) => relation,
+    match engine.relation(name)? {
+        Some(relation) => Ok(relation),
         None => unreachable!(),
     }
 }
@@ -66,7 +70,7 @@ pub(crate) fn answer_reducts(
         out.old.items out.new.items result }
     ensures same { engines.program_in engine.new ≡ engines.program_in engine.old }
 {
-    let relation = relation(engine.program(), name);
+    let relation = relation(engine, name)?;
     let found = steps(alloc, engine, relation, t)?;
     let reducts = reducts_of(alloc, found)?;
     write_reducts(&reducts, out)?;
@@ -88,7 +92,7 @@ pub(crate) fn answer_steps(
         out.old.items out.new.items result }
     ensures same { engines.program_in engine.new ≡ engines.program_in engine.old }
 {
-    let relation = relation(engine.program(), name);
+    let relation = relation(engine, name)?;
     let found = steps(alloc, engine, relation, t)?;
     write_steps(&relation.rules, &found, out)?;
     Ok(true)

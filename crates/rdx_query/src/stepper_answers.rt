@@ -31,7 +31,7 @@ pub(crate) fn answer_stepper(
         (tree_of t.now)) out.old.items out.new.items result }
     ensures same { engines.program_in engine.new ≡ engines.program_in engine.old }
 {
-    let relation = relation(engine.program(), name);
+    let relation = relation(engine, name)?;
     let walk = follow(alloc, engine, relation, t, choices)?;
     Ok(write_walk(&relation.rules, &walk, out)?)
 }

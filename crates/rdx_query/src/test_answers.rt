@@ -72,7 +72,7 @@ fn compare_steps(
         (tree_of t.now) (map tree_of wanted.now)) out.old.items out.new.items result }
     ensures same { engines.program_in engine.new ≡ engines.program_in engine.old }
 {
-    let relation = relation(engine.program(), name);
+    let relation = relation(engine, name)?;
     let found = steps(alloc, engine, relation, t)?;
     let reducts = reducts(alloc, &found)?;
     Ok(write_comparison(alloc, &reducts, wanted, out)?)
@@ -94,7 +94,7 @@ fn compare_end(
         (tree_of t.now) (map tree_of wanted.now)) out.old.items out.new.items result }
     ensures same { engines.program_in engine.new ≡ engines.program_in engine.old }
 {
-    let relation = relation(engine.program(), name);
+    let relation = relation(engine, name)?;
     match run_down(alloc, engine, relation, t) {
         Ok(rest) => {
             let found = Vec::from_array(alloc, [rest])?;

@@ -1,6 +1,5 @@
 // The file without forms, both matchers side by side, and calls of the crates below that no file
 // makes so far.
-use crate::lookup::place_among;
 use crate::{Mode, Query, answer, check_file};
 use rdx_delta::{
     HostEntry, HostTable, host_add, host_add1, host_eq, host_equal, host_ge, host_gt, host_is_zero,
@@ -112,11 +111,9 @@ fn agree(
     pat: &CheckedPat,
     host: &HostExpr,
 ) -> Result<bool, NoMemory> {
-    let program = plain.program();
-    let Some(place) = place_among(&program.languages, name.text()) else {
+    let Some(language) = plain.language(name)? else {
         return Ok(false);
     };
-    let language = &program.languages[place];
     let Ok(t) = table.host(host, &Binding::new(Vec::new(alloc))) else {
         return Ok(false);
     };

@@ -7,7 +7,7 @@ use Rattle.rdx_lang.specs.WellFormed.{is_well_formed_in}
 use Rattle.rdx_grammar.specs.Ends.{ends_in}
 use Rattle.rdx_query.specs.Inside.KnownView.{known_of}
 use Rattle.rdx_query.proofs.GainingNothing.{gained-at, gained-by}
-use Rattle.rdx_query.proofs.Replaced.{same-known}
+use Rattle.rdx_query.proofs.Replaced.{same-known, tables-stay}
 use Rattle.rdx_query.proofs.closure_forms.read_over.Goals as goal
 
 pub returns-in-Some-clause-same : goal.returns-in-Some-clause-same
@@ -19,6 +19,19 @@ returns-in-Some-clause-same c =
     same-known c.args.known.now c.in-Some.place l m c.in-Some.ensures.within
     (gained-at c.args.known.now.program.languages.items c.in-Some.place l m ys c.args.known.now.ends.items c.read_pattern.result c.in-Some.ensures.within
     c.index_mut.ensures.value c.requires.crossed c.requires.ends g)
+
+pub invariant_of-known : goal.invariant_of-known
+invariant_of-known c =
+    let l = c.index_mut.result.now in
+    let m = c.read_pattern.new.language in
+    let ys = ends_in c.args.d.now in
+    let g = gained-by (language_in l) (language_in m) ys c.read_pattern.result c.read_pattern.ensures.gains c.read_pattern.ensures.same in
+    record {
+      tabled = tables-stay c.args.known.now c.in-Some.place l m c.in-Some.ensures.within
+          (gained-at c.args.known.now.program.languages.items c.in-Some.place l m ys c.args.known.now.ends.items c.read_pattern.result c.in-Some.ensures.within
+          c.index_mut.ensures.value c.requires.crossed c.requires.ends g);
+      asked = c.args.known.now.asked;
+    }
 
 pub returns-in-Some-clause-well_formed : goal.returns-in-Some-clause-well_formed
 returns-in-Some-clause-well_formed c =

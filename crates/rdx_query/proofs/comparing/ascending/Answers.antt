@@ -23,5 +23,5 @@ returns c =
     let terms = c.args.terms.now in
     let r : map tree_of (drop c.loop-term.term-index terms) ≡ [] = rest_none tree_of terms c.loop-term.term-index (omega arith) in
     let e : keys ≡ all_inserted tree_cmp [] (map tree_of terms) = sym (ap (all_inserted tree_cmp keys) r) ∙ c.loop-term.invariant in
-    IfOk-weaker c.members.result _ _
-    (λ v h. listed-inserted tree_cmp tree_cmp-total tree_cmp-equal (map tree_of terms) (map tree_of v.items) (ap (map tree_of) h ∙ e)) c.members.ensures
+    IfOk-weaker c.terms_of.result _ _
+    (λ v h. listed-inserted tree_cmp tree_cmp-total tree_cmp-equal (map tree_of terms) (map tree_of v.items) (ap (map tree_of) h ∙ e)) c.terms_of.ensures

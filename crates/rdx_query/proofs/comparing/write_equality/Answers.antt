@@ -6,18 +6,18 @@ use Rattle.rdx_query.proofs.Compared.{same-one, one-same, distinct-one}
 use Rattle.rdx_query.specs.Tests.{SameTerms, AreDistinct}
 use Rattle.rdx_query.proofs.comparing.write_equality.Goals as goal
 
-pub returns-then-same_bare : goal.returns-then-same_bare
-returns-then-same_bare c =
+pub returns-then-are_alike : goal.returns-then-are_alike
+returns-then-are_alike c =
     let t : Tree = tree_of c.args.found.now in
     let u : Tree = tree_of c.args.wanted.now in
-    passes (t ∷ []) (u ∷ []) c.args.out.now.items c.write_verdict.new.out.items (same-one t u (c.same_bare.ensures.0 c.if-same_bare.true))
+    passes (t ∷ []) (u ∷ []) c.args.out.now.items c.write_verdict.new.out.items (same-one t u (c.are_alike.ensures.0 c.if-are_alike.true))
     c.in_ok-write_verdict.ensures
 
 pub returns : goal.returns
 returns c =
     let t : Tree = tree_of c.args.found.now in
     let u : Tree = tree_of c.args.wanted.now in
-    let n : SameTerms (t ∷ []) (u ∷ []) → ⊥ = λ s. let h = c.same_bare.ensures.1 (one-same t u s) in cc in
+    let n : SameTerms (t ∷ []) (u ∷ []) → ⊥ = λ s. let h = c.are_alike.ensures.1 (one-same t u s) in cc in
     let got : List Tree = map tree_of c.from_ref.result.now in
     let want : List Tree = map tree_of c.from_ref-2.result.now in
     let g : AreDistinct (t ∷ []) got = subst (λ ts. AreDistinct (t ∷ []) (map tree_of ts)) (sym c.from_ref.ensures.value) (distinct-one t) in

@@ -1,8 +1,14 @@
-use Rattle.std.proofs.Common.{map, arith}
+use Rattle.std.proofs.Common.{[], map, refl, sym, subst, arith}
 use Rattle.std.proofs.lemmas.Result.{err_from_is_err_and}
+use Rattle.rdx_defs.specs.Scopes.{languages_in, scope_in}
+use Rattle.rdx_query.specs.Ends.{file_ends}
+use Rattle.rdx_query.specs.File.{known_before}
+use Rattle.rdx_query.specs.Inside.Fitting.{IsFitting}
 use Rattle.rdx_query.specs.Inside.KnownView.{known_of}
+use Rattle.rdx_query.specs.Known.{Known}
 use Rattle.rdx_query.specs.Views.{query_of}
-use Rattle.rdx_query.proofs.FileRead.{so_far-next, so_far-fault, so_far-end, file-named, form-readable, form-ends-among}
+use Rattle.rdx_query.proofs.FileRead.{SoFar, so_far-start, so_far-next, so_far-fault, so_far-end, file-named, form-readable, form-ends-among}
+use Rattle.rdx_query.proofs.FittingKnown.{fitting-nothing}
 use Rattle.rdx_query.proofs.file.check_file.Goals as goal
 
 pub read_form-requires-clause-readable : goal.read_form-requires-clause-readable
@@ -37,3 +43,12 @@ pub returns-clause-named : goal.returns-clause-named
 returns-clause-named c =
     file-named c.args.forms.now _ (map query_of c.loop-form.queries.items)
     (so_far-end c.args.forms.now c.loop-form.form-index (known_of c.loop-form.known) (map query_of c.loop-form.queries.items) (omega arith) c.loop-form.invariant.0)
+
+pub loop-form-init : goal.loop-form-init
+loop-form-init c =
+    let ds = c.args.forms.now in
+    let start : SoFar ds ds (known_before ds) [] = so_far-start ds (scope_in ds) (languages_in ds) (file_ends ds) refl refl refl in
+    let known : SoFar ds ds (known_of c.in_ok-known.known) [] = subst (λ (K : Known). SoFar ds ds K []) (sym c.in_ok-known.ensures) start in (
+      subst (λ qs. SoFar ds ds (known_of c.in_ok-known.known) (map query_of qs)) (sym c.new-queries.ensures.items) known,
+      subst IsFitting (sym c.in_ok-known.ensures) (fitting-nothing (scope_in ds) (languages_in ds) (file_ends ds)),
+    )

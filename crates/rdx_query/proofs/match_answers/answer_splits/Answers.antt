@@ -10,5 +10,5 @@ pub write_splits-requires : goal.write_splits-requires
 write_splits-requires g c =
     let found = c.in_ok-found.found.items in
     subst (λ ss. HaveContexts (decompositions_of ss)) (sym c.deref.ensures.value)
-    (listed-contexts (language_in c.language-language.result.now) (pattern_in c.args.pat.now) (tree_of c.args.t.now) (decompositions_of found)
+    (listed-contexts (language_in c.in_ok-language.language.now) (pattern_in c.args.pat.now) (tree_of c.args.t.now) (decompositions_of found)
     c.in_ok-found.ensures.listing)

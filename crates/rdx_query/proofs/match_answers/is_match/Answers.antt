@@ -13,7 +13,6 @@ use Rattle.rdx_lang.specs.Programs as programs
 use Rattle.rdx_lang.specs.Programs.{language_named}
 use Rattle.rdx_lang.specs.Shown.{bindings_of}
 use Rattle.rdx_lang.specs.declared.binding.Binding as code
-use Rattle.rdx_lang.specs.declared.program.Program.{Program}
 use Rattle.rdx_eval.specs.Judgements.{are_some}
 use Rattle.rdx_eval.specs.Views.{program_in}
 use Rattle.rdx_query.proofs.Whether.{whether_closed}
@@ -24,14 +23,13 @@ use Rattle.rdx_query.proofs.match_answers.is_match.Goals as goal
 pub returns-clause-told : goal.returns-clause-told
 returns-clause-told g c =
     let P : programs.Program = program_of (program_in c.args.engine.now).now in
-    let L : Language = language_in c.language-language.result.now in
+    let L : Language = language_in c.in_ok-language.language.now in
     let p : Pattern = pattern_in c.args.pat.now in
     let t : Tree = tree_of c.args.t.now in
     let bs : List Binding = bindings_of c.match-closed.found.items in
-    let known : language_named P c.args.name.now ≡ Some L =
-    subst (λ (q : Program). language_named (program_of q) c.args.name.now ≡ Some L) c.program.ensures c.language-language.ensures in
+    let known : language_named P c.args.name.now ≡ Some L = c.in_ok-language.ensures.found in
     let free : IsFree L =
-    c.ranks_fall.ensures.free L (ranks_in c.language-language.result.now) c.language-language.result.now.well_formed c.language-language.result.now.ranked in
+    c.ranks_fall.ensures.free L (ranks_in c.in_ok-language.language.now) c.in_ok-language.language.now.well_formed c.in_ok-language.language.now.ranked in
     let told : TellsWhether L p t (are_some bs) =
     elim c.match-closed.branch [
       | in-Some+in_ok-found-in-Some w ↦

@@ -8,7 +8,7 @@ use Rattle.rdx_defs.specs.RelationEnds.{relation_ends}
 use Rattle.rdx_defs.specs.Scope.{scope_of, callable}
 use Rattle.rdx_query.proofs.GainingNothing.{gained-at}
 use Rattle.rdx_query.proofs.RelationChecks.{valid-formed}
-use Rattle.rdx_query.proofs.Replaced.{same-known}
+use Rattle.rdx_query.proofs.Replaced.{same-known, tables-stay}
 use Rattle.rdx_query.proofs.relation_forms.read_over.Goals as goal
 
 pub returns-in-Some-clause-same : goal.returns-in-Some-clause-same
@@ -18,6 +18,17 @@ returns-in-Some-clause-same c =
     same-known c.args.known.now c.in-Some.place l m c.in-Some.ensures.within
     (gained-at c.args.known.now.program.languages.items c.in-Some.place l m (relation_ends c.args.body.now) c.args.known.now.ends.items c.read_relation.result
     c.in-Some.ensures.within c.index_mut-language.ensures.value c.requires.crossed c.requires.ends c.read_relation.ensures.gains)
+
+pub invariant_of-known : goal.invariant_of-known
+invariant_of-known c =
+    let l = c.index_mut-language.result.now in
+    let m = c.read_relation.new.language in
+    record {
+      tabled = tables-stay c.args.known.now c.in-Some.place l m c.in-Some.ensures.within
+          (gained-at c.args.known.now.program.languages.items c.in-Some.place l m (relation_ends c.args.body.now) c.args.known.now.ends.items c.read_relation.result
+          c.in-Some.ensures.within c.index_mut-language.ensures.value c.requires.crossed c.requires.ends c.read_relation.ensures.gains);
+      asked = c.args.known.now.asked;
+    }
 
 pub returns-in-Some-clause-fits : goal.returns-in-Some-clause-fits
 returns-in-Some-clause-fits c =
