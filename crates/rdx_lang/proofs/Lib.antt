@@ -11,6 +11,8 @@ pub mod CollectionLaws
 pub mod NameLaws
 pub mod Values
 pub mod Joins
+pub mod NamePlaces
+pub mod FirstPlaces
 pub mod Emptiness
 pub mod SplitLaws
 pub mod RankLaws

@@ -4,3 +4,4 @@ pub mod Collecting
 pub mod Alternatives
 pub mod Singles
 pub mod Texts
+pub mod Places

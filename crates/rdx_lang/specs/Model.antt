@@ -2,3 +2,4 @@ pub mod AscendingProps
 pub mod RankProps
 pub mod ValueOrder
 pub mod TotalOrders
+pub mod Places

@@ -1,10 +1,11 @@
 // What names stand for.
-ghost use Rattle.std.specs.Prelude.{◌≡◌, IfOk, map};
+ghost use Rattle.std.specs.Prelude.{◌≡◌, IfErr, IfNone, IfOk, IfSome, map};
 ghost use Rattle.rdx_lang.specs.Bindings.{HasAscendingNames};
 ghost use Rattle.rdx_lang.specs.Model.AscendingProps.{HasAscendingNames-prop};
 ghost use Rattle.rdx_lang.specs.BindingView.{value_of, pairs_of};
 
 use rdx_term::{Name, NoMemory, Term};
+use std::cmp::Ordering;
 
 /// What a name stands for.
 #[cycle(value)]
@@ -52,8 +53,10 @@ pub struct Binding {
 }
 
 impl Binding {
-    ghost use Rattle.rdx_lang.specs.Bindings.{value_at, IsValueAt};
+    ghost use Rattle.rdx_lang.specs.Bindings.{name_cmp, one_name, value_at, IsValueAt};
     ghost use Rattle.rdx_lang.specs.BindingView.{found_value};
+    ghost use Rattle.rdx_lang.specs.Inside.Places.{IsGapFor, IsNameAt};
+    ghost use Rattle.rdx_lang.specs.Join.{IsJoin};
     ghost use Rattle.rdx_lang.specs.Shown.{binding_of};
 
     /// The binding of these pairs.
@@ -72,24 +75,48 @@ impl Binding {
         &self.pairs
     }
 
+    // The place of the pair with this name; where there is none, the one that it would have.
+    fn place(&self, name: &Name) -> Result<usize, usize>
+        ensures there { IfOk result (IsNameAt self.now.pairs.items name.now) }
+        ensures gap { IfErr result (IsGapFor self.now.pairs.items name.now) }
+    {
+        self.pairs.binary_search_by(
+            |pair: &(Name, Value)| -> Ordering
+                ensures { result ≡ name_cmp pair.now.0 name.entry.now }
+            { pair.0.text().cmp(name.text()) },
+        )
+    }
+
     /// What the name stands for; `None` exactly where it isn't bound.
     pub fn get(&self, name: &Name) -> Option<&Value>
         ensures value { found_value result ≡ value_at (binding_of self.now) name.now }
         ensures bound { IsValueAt (binding_of self.now) name.now (found_value result) }
     {
-        self.find(name)
+        match self.place(name) {
+            Ok(place) => Some(&self.pairs[place].1),
+            Err(_) => None,
+        }
     }
 
-    // The value of the first pair with this name.
-    fn find(&self, name: &Name) -> Option<&Value>
-        ensures { found_value result ≡ value_at (binding_of self.now) name.now }
+    /// The join of the binding with that of the name alone, bound to the value; `None` exactly where
+    /// the name has another value, marks included.
+    pub fn joined_with(self, name: &Name, value: &Value) -> Result<Option<Binding>, NoMemory>
+        ensures some { IfOk result (λ r. IfSome r (λ joined. IsJoin (binding_of self)
+            (one_name name.now (value_of value.now)) (binding_of joined))) }
+        ensures none { IfOk result (λ r. IfNone r ((c : _) → ¬ IsJoin (binding_of self)
+            (one_name name.now (value_of value.now)) c)) }
     {
-        for (other, value) in &self.pairs {
-            if other.text() == name.text() {
-                return Some(value);
+        match self.place(name) {
+            Ok(place) => match self.pairs[place].1.compare(value) {
+                Ordering::Equal => Ok(Some(self)),
+                Ordering::Less | Ordering::Greater => Ok(None),
+            },
+            Err(place) => {
+                let mut pairs = self.pairs;
+                pairs.insert(place, (name.share()?, value.share()?))?;
+                Ok(Some(Binding { pairs }))
             }
         }
-        None
     }
 
     /// The same binding.
