@@ -1,28 +1,27 @@
 -- Nodes that are added behind others: what was there stays, and stays right.
 use Rattle.std.proofs.Common.{◌≡◌, ℕ, ◌+◌, ◌<◌, ◌≤◌, List, [], ◌∷◌, ◌++◌, length, Vec, Global, refl, sym, ◌∙◌, ap, subst, arith, append_assoc, append-nil}
 use Rattle.std.proofs.lemmas.List.{length-append}
-use Rattle.rdx_lang.specs.Patterns.{Pattern, Definition}
-use Rattle.rdx_table.specs.Inside.Index.{Numbers}
+use Rattle.rdx_lang.specs.Patterns.{Pattern}
+use Rattle.rdx_table.specs.Inside.Index.{IsIndex}
 use Rattle.rdx_table.specs.Inside.Nodes.{pattern_at, patterns_at, slots_at, pattern_by, patterns_in, AreBelow, AreEntries, IsForm, AreNodes}
 use Rattle.rdx_table.specs.Inside.Numbering.{Adds}
-use Rattle.rdx_table.specs.Inside.Settings.{language_at, patterns_at_hand, doors_of, doors_in, closed_doors, IsReady, Grows}
+use Rattle.rdx_table.specs.Inside.Settings.{language_at, patterns_at_hand, IsReady, Grows}
 use Rattle.rdx_table.specs.declared.index.Index.{Index}
 use Rattle.rdx_table.specs.declared.node.Entry.{Entry}
 use Rattle.rdx_table.specs.declared.node.Node.{Node}
 use Rattle.rdx_table.specs.declared.setting.Setting.{Setting}
-use Rattle.rdx_table.proofs.NodePatterns.{pattern_at-append, patterns_at-append, slots_at-append, entries-append, patterns_from-append, patterns_from-more, patterns_in-push, patterns_in-length, nodes-push, doors_in-append}
+use Rattle.rdx_table.proofs.NodePatterns.{pattern_at-append, patterns_at-append, slots_at-append, entries-append, patterns_from-append, patterns_from-more, patterns_in-push, patterns_in-length, nodes-push}
 
 -- numbers stay those of nonterminals where patterns are added
-pub numbers-append : (ds : List Definition) (ps qs : List Pattern) (x : Index) → Numbers ds ps x → Numbers ds (ps ++ qs) x
-numbers-append ds ps qs x a = record {
+index-append : (ps qs : List Pattern) (x : Index) → IsIndex ps x → IsIndex (ps ++ qs) x
+index-append ps qs x a = record {
   below = λ y n e. let h = a.below y n e in let l = length-append ps qs in omega (arith, h, l);
   pattern = λ y n e. pattern_at-append ps qs n (a.below y n e) ∙ a.pattern y n e;
-  complete = a.complete;
 }
 
 -- where nothing is added
 pub adds-none : (s : Setting) → IsReady s → Adds s s
-adds-none s r = record { language = refl; terms = refl; more = []; nodes = sym (append-nil s.nodes.items); doors = refl; ready = r }
+adds-none s r = record { language = refl; terms = refl; more = []; nodes = sym (append-nil s.nodes.items); ready = r }
 
 -- nodes and then others
 pub adds-then : (s t u : Setting) → Adds s t → Adds t u → Adds s u
@@ -31,15 +30,14 @@ adds-then s t u a b = record {
   terms = b.terms ∙ a.terms;
   more = a.more ++ b.more;
   nodes = b.nodes ∙ ap (λ ns. ns ++ b.more) a.nodes ∙ append_assoc s.nodes.items a.more b.more;
-  doors = let k = a.doors in let l = b.doors in let e = doors_in-append a.more b.more in omega (arith, k, l, e);
   ready = b.ready;
 }
 
 -- one node whose parts are there
 pub adds-push : (s : Setting) (v : Vec Node Global) (x : Node) → IsReady s
-    → IsForm (language_at s) (patterns_at_hand s) (length s.nodes.items) (length s.nodes.items) x.form → doors_of x.form ≡ 0
-    → v.items ≡ s.nodes.items ++ x ∷ [] → Adds s (record { alloc = s.alloc; language = s.language; nodes = v; index = s.index; store = s.store })
-adds-push s v x r f d e =
+    → IsForm (language_at s) (patterns_at_hand s) (length s.nodes.items) (length s.nodes.items) x.form → v.items ≡ s.nodes.items ++ x ∷ []
+    → Adds s (record { alloc = s.alloc; language = s.language; places = s.places; nodes = v; index = s.index; store = s.store })
+adds-push s v x r f e =
     let L = language_at s in
     let ns = s.nodes.items in
     record {
@@ -47,11 +45,10 @@ adds-push s v x r f d e =
       terms = refl;
       more = x ∷ [];
       nodes = e;
-      doors = omega (arith, d);
       ready = record {
         nodes = subst (λ (ms : List Node). AreNodes L ms) (sym e) (nodes-push L ns x r.nodes f);
-        index = subst (λ (ps : List Pattern). Numbers L.nonterminals ps s.index) (sym (ap patterns_in e ∙ patterns_in-push ns x))
-            (numbers-append L.nonterminals (patterns_in ns) (pattern_by (patterns_in ns) x.form ∷ []) s.index r.index);
+        index = subst (λ (ps : List Pattern). IsIndex ps s.index) (sym (ap patterns_in e ∙ patterns_in-push ns x))
+            (index-append (patterns_in ns) (pattern_by (patterns_in ns) x.form ∷ []) s.index r.index);
       };
     }
 
@@ -70,12 +67,6 @@ module _ (s t : Setting) (a : Adds s t) where
   -- so the setting grows
   pub adds-grows : Grows s t
   adds-grows = record { language = a.language; terms = a.terms; more = adds-patterns.0; patterns = adds-patterns.1 }
-
-  -- no door is added
-  pub adds-doors : closed_doors t ≡ closed_doors s
-  adds-doors =
-      let e : closed_doors t ≡ closed_doors s + doors_in a.more = ap doors_in a.nodes ∙ doors_in-append s.nodes.items a.more in
-      let d = a.doors in omega (arith, e, d)
 
   -- the numbers of nodes are those of patterns
   number-pattern : (n : ℕ) → n < length s.nodes.items → n < length (patterns_at_hand s)

@@ -26,4 +26,5 @@ pub mod OnceTold
 pub mod IndexNumbers
 pub mod Adding
 pub mod Numbered
+pub mod DoorsLeft
 pub mod NonterminalNodes

@@ -1,29 +1,27 @@
--- The nodes of nonterminals: the first ones, and the numbers that stand for their alternatives.
-use Rattle.std.proofs.Common.{◌≡◌, ◌⊎◌, inl, inr, ℕ, ◌+◌, ◌<◌, Bool, true, false, cond, not, List, [], ◌∷◌, ◌++◌, length, get_or, set, map, Some, None, Vec, Global, refl, sym, ◌∙◌, ap, subst, arith}
-use Rattle.std.proofs.lemmas.List.{length_push, get_or_append_left, get_or_at, get_or_default}
+-- The nodes of nonterminals: their alternatives, their numbers, and the nodes that are made for alternatives.
+use Rattle.std.proofs.Common.{◌≡◌, ◌⊎◌, inl, inr, ℕ, ◌+◌, ◌<◌, Bool, true, false, cond, not, List, [], ◌∷◌, length, get_or, set, map, Some, Vec, Global, refl, sym, ◌∙◌, ap, subst, arith, length-set}
+use Rattle.std.proofs.lemmas.List.{get_or_append_left, get_or_default}
 use Rattle.std.specs.Cmp.{first_so, second_so}
 use Rattle.rdx_lang.specs.Members.{In, here, there}
-use Rattle.rdx_lang.specs.Patterns.{Pattern, wild, nt, Definition, Language}
-use Rattle.rdx_lang.specs.PatternView.{patterns_of}
+use Rattle.rdx_lang.specs.Patterns.{Pattern, nt, Definition, Language}
 use Rattle.rdx_lang.specs.References.{is_same, is_among, are_distinct}
 use Rattle.rdx_lang.specs.Rules.{AreAlternatives, IsAlternative}
 use Rattle.rdx_lang.specs.WellFormed.{defined}
 use Rattle.rdx_lang.specs.declared.pattern.Ref.{Ref}
-use Rattle.rdx_lang.proofs.Collecting.{only}
-use Rattle.rdx_lang.proofs.LookupLaws.{is_same-equal, equal-is_same, not_true, is_among-defined}
-use Rattle.rdx_lang.proofs.MemberLaws.{in-append, append-right}
-use Rattle.rdx_table.specs.Inside.Index.{number_of, Numbers}
-use Rattle.rdx_table.specs.Inside.Nodes.{pattern_at, patterns_at, pattern_by, patterns_in, made, AreBelow, AreOpened, IsForm, AreNodes, DoAsWell}
+use Rattle.rdx_lang.proofs.LookupLaws.{is_same-equal, not_true, is_among-defined}
+use Rattle.rdx_table.specs.Inside.Index.{number_of, IsIndex}
+use Rattle.rdx_table.specs.Inside.Nodes.{pattern_at, patterns_at, pattern_by, patterns_in, AreBelow, IsForm, AreNodes, DoAsWell}
 use Rattle.rdx_table.specs.Inside.Numbering.{alternatives_by, opened_by, Adds}
+use Rattle.rdx_table.specs.Inside.Remaining.{doors_left}
 use Rattle.rdx_table.specs.Inside.Settings.{language_at, patterns_at_hand, trees_at_hand, doors_of, doors_in, closed_doors, IsReady, Grows}
 use Rattle.rdx_table.specs.declared.index.Index.{Index}
 use Rattle.rdx_table.specs.declared.node.Form.{Form}
 use Rattle.rdx_table.specs.declared.node.Form.TheVariants as form
 use Rattle.rdx_table.specs.declared.node.Node.{Node}
-use Rattle.rdx_table.specs.declared.node.Nonterminal.{Nonterminal}
 use Rattle.rdx_table.specs.declared.setting.Setting.{Setting}
-use Rattle.rdx_table.proofs.Adding.{adds-doors, adds-length, adds-patterns}
-use Rattle.rdx_table.proofs.NodePatterns.{pattern_at-append, patterns_in-push, patterns_in-length, nodes-push, form-at, patterns_in-set, nodes-set, doors_in-set}
+use Rattle.rdx_table.proofs.Adding.{adds-length, adds-patterns}
+use Rattle.rdx_table.proofs.DoorsLeft.{doors_left-adds, one_fewer}
+use Rattle.rdx_table.proofs.NodePatterns.{form-at, patterns_in-set, nodes-set, doors_in-set}
 
 -- ---- definitions
 
@@ -49,7 +47,7 @@ distinct-same (d ∷ ds) x ps qs h i j =
     by_places (there k) (there l) g = g k l
 
 -- these are all its alternatives
-alternatives-defined : (L : Language) (x : Ref) (ps : List Pattern) → are_distinct (defined L) ≡ true → In (x, ps) L.nonterminals
+pub alternatives-defined : (L : Language) (x : Ref) (ps : List Pattern) → are_distinct (defined L) ≡ true → In (x, ps) L.nonterminals
     → AreAlternatives L x ps
 alternatives-defined L x ps h i p = (
   λ k. record { all = ps; defined = i; among = k },
@@ -58,73 +56,44 @@ alternatives-defined L x ps h i p = (
 
 -- ---- the numbers of nonterminals
 
--- no numbers
-pub numbers-none : (ps : List Pattern) (i : Index) → ((x : Ref) → number_of i x ≡ None) → Numbers [] ps i
-numbers-none ps i h = record {
-  below = λ x n e. let k : number_of i x ≡ None = h x in absurd cc;
-  pattern = λ x n e. let k : number_of i x ≡ None = h x in absurd cc;
-  complete = λ x all e m. elim m [ ];
-}
-
-module _ (ds : List Definition) (d : Definition) (ps : List Pattern) (i j : Index) (n : ℕ) (a : Numbers ds ps i)
-    (u : (x : Ref) → number_of j x ≡ cond (is_same d.0 x) (Some n) (number_of i x)) (e : n ≡ length ps) where
-  -- a number is the last one, or one of those before
-  number-either : (x : Ref) (k : ℕ) → number_of j x ≡ Some k → ((x ≡ d.0) × (k ≡ n)) ⊎ (number_of i x ≡ Some k)
-  number-either x k f = by_test (is_same d.0 x) refl
+module _ (ps : List Pattern) (i j : Index) (y : Ref) (n : ℕ) (u : (x : Ref) → number_of j x ≡ cond (is_same y x) (Some n) (number_of i x)) where
+  -- a number is the new one, or one of those before
+  number-either : (x : Ref) (k : ℕ) → number_of j x ≡ Some k → ((y ≡ x) × (n ≡ k)) ⊎ (number_of i x ≡ Some k)
+  number-either x k f = by_test (is_same y x) refl
     where
-      by_test : (b : Bool) → is_same d.0 x ≡ b → ((x ≡ d.0) × (k ≡ n)) ⊎ (number_of i x ≡ Some k)
+      by_test : (b : Bool) → is_same y x ≡ b → ((y ≡ x) × (n ≡ k)) ⊎ (number_of i x ≡ Some k)
       by_test true g = let h : Some n ≡ Some k = ap (λ b. cond b (Some n) (number_of i x)) (sym g) ∙ sym (u x)
-          ∙ f in inl (sym (is_same-equal d.0 x g), cc)
+          ∙ f in inl (is_same-equal y x g, cc)
       by_test false g = inr (ap (λ b. cond b (Some n) (number_of i x)) (sym g) ∙ sym (u x) ∙ f)
 
-  below_last : (x : Ref) (k : ℕ) → number_of j x ≡ Some k → k < length (ps ++ nt d.0 ∷ [])
-  below_last x k f = by_side (number-either x k f)
+  -- the new number is one of a node of its nonterminal
+  pub index-insert : IsIndex ps i → n < length ps → pattern_at ps n ≡ nt y → IsIndex ps j
+  index-insert a h e = record { below = below_all; pattern = pattern_all }
     where
-      by_side : ((x ≡ d.0) × (k ≡ n)) ⊎ (number_of i x ≡ Some k) → k < length (ps ++ nt d.0 ∷ [])
-      by_side (inl h) = let l = length_push ps (nt d.0) in let g = h.1 in omega (arith, l, g, e)
-      by_side (inr h) = let l = length_push ps (nt d.0) in let g = a.below x k h in omega (arith, l, g)
+      below_all : (x : Ref) (k : ℕ) → number_of j x ≡ Some k → k < length ps
+      below_all x k f = by_side (number-either x k f)
+        where
+          by_side : ((y ≡ x) × (n ≡ k)) ⊎ (number_of i x ≡ Some k) → k < length ps
+          by_side (inl g) = subst (λ m. m < length ps) g.1 h
+          by_side (inr g) = a.below x k g
 
-  pattern_last : (x : Ref) (k : ℕ) → number_of j x ≡ Some k → pattern_at (ps ++ nt d.0 ∷ []) k ≡ nt x
-  pattern_last x k f = by_side (number-either x k f)
-    where
-      by_side : ((x ≡ d.0) × (k ≡ n)) ⊎ (number_of i x ≡ Some k) → pattern_at (ps ++ nt d.0 ∷ []) k ≡ nt x
-      by_side (inl h) = get_or_at ps (nt d.0) [] wild k (sym (h.1 ∙ e)) ∙ ap nt (sym h.0)
-      by_side (inr h) = pattern_at-append ps (nt d.0 ∷ []) k (a.below x k h) ∙ a.pattern x k h
+      pattern_all : (x : Ref) (k : ℕ) → number_of j x ≡ Some k → pattern_at ps k ≡ nt x
+      pattern_all x k f = by_side (number-either x k f)
+        where
+          by_side : ((y ≡ x) × (n ≡ k)) ⊎ (number_of i x ≡ Some k) → pattern_at ps k ≡ nt x
+          by_side (inl g) = ap (pattern_at ps) (sym g.1) ∙ e ∙ ap nt g.0
+          by_side (inr g) = a.pattern x k g
 
-  complete_last : (x : Ref) (all : List Pattern) → number_of j x ≡ None → In (x, all) (ds ++ d ∷ []) → ⊥
-  complete_last x all f m = by_test (is_same d.0 x) refl (in-append ds (d ∷ []) (x, all) m)
-    where
-      by_test : (b : Bool) → is_same d.0 x ≡ b → In (x, all) ds ⊎ In (x, all) (d ∷ []) → ⊥
-      by_test true g s = let h : Some n ≡ None = ap (λ b. cond b (Some n) (number_of i x)) (sym g) ∙ sym (u x) ∙ f in absurd cc
-      by_test false g (inl s) = a.complete x all (ap (λ b. cond b (Some n) (number_of i x)) (sym g) ∙ sym (u x) ∙ f) s
-      by_test false g (inr s) = let h : is_same d.0 x ≡ true = equal-is_same d.0 x (sym (ap (λ (c : Definition). c.0) (only s))) in absurd cc
-
-  -- one definition more, whose nonterminal gets the next number
-  numbers-push : Numbers (ds ++ d ∷ []) (ps ++ nt d.0 ∷ []) j
-  numbers-push = record { below = below_last; pattern = pattern_last; complete = complete_last }
-
--- the node of one nonterminal more
-pub first_nodes-next : (L : Language) (ns new : List Node) (x : Nonterminal) (kept : Bool) (ds : List Definition) (d : Definition)
-    (rest : List Definition)
-    (i j : Index) (n : ℕ) → are_distinct (defined L) ≡ true → L.nonterminals ≡ ds ++ d ∷ rest → x.name.now ≡ d.0
-    → patterns_of x.alternatives.now ≡ d.1
-    → x.opened ≡ None → new ≡ ns ++ record { form = form.Nt x; kept = kept } ∷ [] → AreNodes L ns → Numbers ds (patterns_in ns) i
-    → ((y : Ref) → number_of j y ≡ cond (is_same d.0 y) (Some n) (number_of i y)) → n ≡ length ns
-    → AreNodes L new × Numbers (ds ++ d ∷ []) (patterns_in new) j
-first_nodes-next L ns new x kept ds d rest i j n h defs e f o g a b u l =
-    let m = length ns in
-    let ps = patterns_in ns in
-    let node : Node = record { form = form.Nt x; kept = kept } in
-    let member : In d L.nonterminals = subst (λ (cs : List Definition). In d cs) (sym defs) (append-right ds (d ∷ rest) d (here refl)) in
-    let all : AreAlternatives L x.name.now (patterns_of x.alternatives.now) =
-    subst (λ (y : Ref). AreAlternatives L y (patterns_of x.alternatives.now)) (sym e)
-    (subst (λ (qs : List Pattern). AreAlternatives L d.0 qs) (sym f) (alternatives-defined L d.0 d.1 h member)) in
-    let right : IsForm L ps m m (form.Nt x) = (all, subst (λ v. AreOpened L ps m (patterns_of x.alternatives.now) (made v)) (sym o) tt) in
-    let k = patterns_in-length ns in
-    let p : patterns_in new ≡ ps ++ nt d.0 ∷ [] = ap patterns_in g ∙ patterns_in-push ns node ∙ ap (λ y. ps ++ nt y ∷ []) e in (
-      subst (λ (ms : List Node). AreNodes L ms) (sym g) (nodes-push L ns node a right),
-      subst (λ (qs : List Pattern). Numbers (ds ++ d ∷ []) qs j) (sym p) (numbers-push ds d ps i j n b u (l ∙ sym k)),
-    )
+-- the same nodes with another index
+pub adds-index : (s t : Setting) → Adds s t → (j : Index) → IsIndex (patterns_at_hand t) j
+    → Adds s (record { alloc = t.alloc; language = t.language; places = t.places; nodes = t.nodes; index = j; store = t.store })
+adds-index s t a j h = record {
+  language = a.language;
+  terms = a.terms;
+  more = a.more;
+  nodes = a.nodes;
+  ready = record { nodes = a.ready.nodes; index = h };
+}
 
 -- ---- alternatives that get nodes
 
@@ -213,9 +182,8 @@ module _ (s t u : Setting) (k : ℕ) (x y : Node) (v : Vec ℕ Global) (a : Adds
       record {
         nodes = subst (λ (M : Language). AreNodes M u.nodes.items) (sym l)
             (subst (λ (ms : List Node). AreNodes L ms) (sym n) (nodes-set L ns k y same_pattern a.ready.nodes new));
-        index = subst (λ (M : Language). Numbers M.nonterminals (patterns_at_hand u) u.index) (sym l)
-            (subst (λ (j : Index). Numbers L.nonterminals (patterns_at_hand u) j) (sym i)
-            (subst (λ (ps : List Pattern). Numbers L.nonterminals ps t.index) (sym same_patterns) a.ready.index));
+        index = subst (λ (j : Index). IsIndex (patterns_at_hand u) j) (sym i)
+            (subst (λ (ps : List Pattern). IsIndex ps t.index) (sym same_patterns) a.ready.index);
       }
 
   -- it has grown
@@ -228,11 +196,14 @@ module _ (s t u : Setting) (k : ℕ) (x y : Node) (v : Vec ℕ Global) (a : Adds
         ∙ (adds-patterns s t a).1;
   }
 
-  -- and has one door less
-  pub opened-fewer : doors_of x.form ≡ 1 → closed_doors u + 1 ≡ closed_doors s
+  -- and there is less to open
+  pub opened-fewer : doors_of x.form ≡ 1 → doors_left u < doors_left s
   opened-fewer d =
-      let l = adds-doors s t a in
-      let c : closed_doors u ≡ doors_in (set t.nodes.items k y) = ap doors_in n in
       let f = doors_in-set t.nodes.items k x y still (node-kept s t a k x h e) in
       let o : doors_of y.form ≡ 0 = ap doors_of g ∙ opened-doors v x.form in
-      omega (arith, d, l, c, f, o)
+      let c : closed_doors u ≡ doors_in (set t.nodes.items k y) = ap doors_in n in
+      let m : length u.nodes.items ≡ length t.nodes.items = ap length n ∙ length-set t.nodes.items k y in
+      let b : closed_doors u + 1 ≡ closed_doors t = omega (arith, d, f, o, c) in
+      let l : doors_left u + 1 ≡ doors_left t = one_fewer (closed_doors u) (closed_doors t) (length u.nodes.items) (length t.nodes.items) b m in
+      let r = doors_left-adds s t a in
+      omega (arith, l, r)

@@ -2,7 +2,7 @@
 use Rattle.std.proofs.Common.{◌≡◌, ℕ, ◌+◌, ◌≤◌, List, [], ◌∷◌, ◌++◌, length, take, drop, get_or, refl, ◌∙◌, ap, subst, arith}
 use Rattle.std.proofs.Math.Seq.{take-append_seam, drop-append_seam}
 use Rattle.std.proofs.lemmas.List.{length-append}
-use Rattle.rdx_term.specs.Tree.{Tree, list, trees}
+use Rattle.rdx_term.specs.Tree.{Tree, trees}
 use Rattle.rdx_lang.specs.Patterns.{seq}
 use Rattle.rdx_lang.specs.PatternView.{Slot, just, repeated, items_of}
 use Rattle.rdx_lang.specs.Rules.{MatchItems}

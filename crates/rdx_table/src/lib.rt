@@ -16,6 +16,7 @@ mod memo;
 mod node;
 mod numbering;
 mod once;
+mod places;
 mod setting;
 mod solve;
 mod splitting;

@@ -17,10 +17,11 @@ ghost use Rattle.rdx_table.specs.Inside.Nodes.{
 };
 ghost use Rattle.rdx_table.specs.Inside.Numbering.{Adds, ForgetsSlot};
 ghost use Rattle.rdx_table.specs.Inside.Once.{AreSomeTold, AreTold};
-ghost use Rattle.rdx_table.specs.Inside.Settings.{doors_of, language_at, patterns_at_hand, IsReady};
+ghost use Rattle.rdx_table.specs.Inside.Settings.{language_at, patterns_at_hand, IsReady};
 
 use crate::node::{Entry, Form, Node, Nonterminal, Turns};
 use crate::once::{Once, places_of};
+use crate::places::alternatives_at;
 use crate::setting::Setting;
 use rdx_lang::{Item, Pat, Ref};
 use rdx_term::NoMemory;
@@ -31,7 +32,6 @@ impl<'a> Setting<'a> {
         requires ready { IsReady self.old }
         requires form { IsForm (language_at self.old) (patterns_at_hand self.old)
             (length self.old.nodes.items) (length self.old.nodes.items) form }
-        requires doors { doors_of form ≡ 0 }
         ensures adds { OnOk result (Adds self.old self.new) }
         ensures number { IfOk result (λ n. n < length self.new.nodes.items) }
         ensures pattern { IfOk result (λ n. pattern_at (patterns_at_hand self.new) n
@@ -42,8 +42,7 @@ impl<'a> Setting<'a> {
         Ok(number)
     }
 
-    // The number of a nonterminal's node. One that the language lacks gets a node without
-    // alternatives.
+    // The number of a nonterminal's node, which is made where it has none yet.
     fn nonterminal(&mut self, name: &'a Ref) -> Result<usize, NoMemory>
         requires { IsReady self.old }
         ensures adds { OnOk result (Adds self.old self.new) }
@@ -51,17 +50,17 @@ impl<'a> Setting<'a> {
         ensures pattern { IfOk result (λ n.
             pattern_at (patterns_at_hand self.new) n ≡ nt name.now) }
     {
-        match self.index.get(name) {
-            Some(number) => Ok(number),
-            None => {
-                let form = Form::Nt(Nonterminal {
-                    name,
-                    alternatives: &[],
-                    opened: Some(Vec::new(self.alloc)),
-                });
-                self.push(form, true)
-            }
+        if let Some(number) = self.index.get(name) {
+            return Ok(number);
         }
+        let form = Form::Nt(Nonterminal {
+            name,
+            alternatives: alternatives_at(self.language, self.places, name),
+            opened: None,
+        });
+        let number = self.push(form, true)?;
+        self.index.insert(name, number)?;
+        Ok(number)
     }
 
     /// Adds the nodes of a pattern, each behind those of its parts, and gives the number of its own.

@@ -4,8 +4,8 @@ ghost use Rattle.rdx_lang.specs.Checked.{language_in};
 ghost use Rattle.rdx_lang.specs.PatternView.{pattern_of, patterns_of};
 ghost use Rattle.rdx_table.specs.Inside.Nodes.{pattern_at};
 ghost use Rattle.rdx_table.specs.Inside.Numbering.{alternatives_by, opened_by};
+ghost use Rattle.rdx_table.specs.Inside.Remaining.{doors_left};
 ghost use Rattle.rdx_table.specs.Inside.Settings.{
-  closed_doors,
   language_at,
   patterns_at_hand,
   trees_at_hand,
@@ -16,7 +16,7 @@ ghost use Rattle.rdx_table.specs.Inside.Settings.{
 };
 
 use crate::index::Index;
-use crate::node::{Form, Node, Nonterminal};
+use crate::node::{Form, Node};
 use crate::once::Once;
 use rdx_lang::{CheckedLang, Pat};
 use rdx_store::Store;
@@ -28,10 +28,11 @@ use std::alloc::Global;
 pub(crate) struct Setting<'a> {
     pub(crate) alloc: Global,
     pub(crate) language: &'a CheckedLang,
-    /// The nodes, each behind those of its parts. The first ones are those of the nonterminals that
-    /// the language defines.
+    /// The places of the language's nonterminals in the order of their names: a hint.
+    pub(crate) places: &'a [usize],
+    /// The nodes, each behind those of its parts.
     pub(crate) nodes: Vec<Node<'a>>,
-    /// The numbers of these.
+    /// The numbers of those of nonterminals.
     pub(crate) index: Index<'a>,
     /// The terms.
     pub(crate) store: &'a Store,
@@ -67,37 +68,25 @@ fn give_numbers(form: &mut Form<'_>, numbers: Vec<usize>)
 }
 
 impl<'a> Setting<'a> {
-    /// The nodes of the language's nonterminals.
+    /// No nodes yet. The places are those of the language's nonterminals, for all that is known.
     pub(crate) fn new(
         alloc: Global,
         language: &'a CheckedLang,
+        places: &'a [usize],
         store: &'a Store,
-    ) -> Result<Setting<'a>, NoMemory>
-        ensures ready { IfOk result (λ s. IsReady s) }
-        ensures language { IfOk result (λ s. language_at s ≡ language_in language.now) }
-        ensures terms { IfOk result (λ s. trees_at_hand s ≡ store.now) }
+    ) -> Setting<'a>
+        ensures ready { IsReady result }
+        ensures language { language_at result ≡ language_in language.now }
+        ensures terms { trees_at_hand result ≡ store.now }
     {
-        let mut nodes = Vec::new(alloc);
-        let mut index = Index::new(alloc);
-        for definition in &language.language().nts {
-            let number = nodes.len();
-            nodes.push(Node {
-                form: Form::Nt(Nonterminal {
-                    name: &definition.0,
-                    alternatives: &definition.1,
-                    opened: None,
-                }),
-                kept: true,
-            })?;
-            index.insert(&definition.0, number)?;
-        }
-        Ok(Setting {
+        Setting {
             alloc,
             language,
-            nodes,
-            index,
+            places,
+            nodes: Vec::new(alloc),
+            index: Index::new(alloc),
             store,
-        })
+        }
     }
 
     /// Adds the nodes of a pattern, and gives the number of its own.
@@ -119,7 +108,7 @@ impl<'a> Setting<'a> {
         requires door { IsClosedDoor self.old number }
         ensures ready { OnOk result (IsReady self.new) }
         ensures grows { OnOk result (Grows self.old self.new) }
-        ensures fewer { OnOk result (closed_doors self.new + 1 ≡ closed_doors self.old) }
+        ensures fewer { OnOk result (doors_left self.new < doors_left self.old) }
     {
         let alternatives = alternatives_in(&self.nodes[number].form);
         let numbers = self.number_all(alternatives)?;

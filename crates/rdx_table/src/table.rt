@@ -10,6 +10,7 @@ ghost use Rattle.rdx_table.specs.Inside.Interned.{tree_in};
 ghost use Rattle.rdx_table.specs.Inside.Tasks.{asked_where};
 
 use crate::interned::Interned;
+use crate::places::Places;
 use crate::setting::Setting;
 use crate::solve::solve;
 use crate::splitting::sorted_splits;
@@ -21,18 +22,25 @@ use rdx_term::{NoMemory, Term};
 use std::alloc::Global;
 
 /// A matcher that works out each pattern at each term once, and keeps what is pending on a stack
-/// in memory. It holds the ids of the last term's parts, for a call with the same term.
+/// in memory. It holds the ids of the last term's parts, for a call with the same term, and where
+/// the nonterminals of the languages stand that it was called with.
 #[derive(Drop)]
 pub struct Table {
     alloc: Global,
     // The term of the last call, if memory sufficed for its row.
     last: Option<Interned>,
+    // Where the nonterminals of the languages stand that were seen so far.
+    places: Places,
 }
 
 impl Table {
     /// A matcher that takes its memory from here.
     pub fn new(alloc: Global) -> Result<Table, NoMemory> {
-        Ok(Table { alloc, last: None })
+        Ok(Table {
+            alloc,
+            last: None,
+            places: Places::new(alloc),
+        })
     }
 
     // What the pattern binds where it matches the term, and where it splits it if this is asked for
@@ -50,7 +58,9 @@ impl Table {
             (asked_where splits) (split_row_of row)) }
     {
         let whole = Interned::of(self.alloc, self.last.take(), t)?;
-        let row = row_of(self.alloc, language, pat, &whole, splits)?;
+        self.places.see(self.alloc, language.language())?;
+        let places = self.places.of(language.language());
+        let row = row_of(self.alloc, language, places, pat, &whole, splits)?;
         self.last = Some(whole);
         Ok(row)
     }
@@ -61,6 +71,7 @@ impl Table {
 fn row_of(
     alloc: Global,
     language: &CheckedLang,
+    places: &[usize],
     pat: &CheckedPat,
     whole: &Interned,
     splits: bool,
@@ -70,7 +81,7 @@ fn row_of(
         (SplitsAt (language_in language.now) (pattern_in pat.now) (tree_in whole.now))
         (asked_where splits) (split_row_of row)) }
 {
-    let mut setting = Setting::new(alloc, language, &whole.store)?;
+    let mut setting = Setting::new(alloc, language, places, &whole.store);
     let number = setting.add(pat.pat())?;
     let id = whole.id;
     solve(setting, Goal { number, id, splits })

@@ -15,7 +15,6 @@ use Rattle.rdx_table.specs.declared.node.Form.{Form}
 use Rattle.rdx_table.specs.declared.node.Form.TheVariants as form
 use Rattle.rdx_table.specs.declared.node.Node.{Node}
 use Rattle.rdx_table.specs.declared.node.Nonterminal.{Nonterminal}
-use Rattle.rdx_table.specs.declared.node.Turns.{Turns}
 
 -- the pattern with this number; `_` for a number that is not given
 abbrev pub pattern_at : List Pattern → ℕ → Pattern

@@ -4,19 +4,18 @@ use Rattle.std.specs.declared.alloc.Global.{Global}
 use Rattle.rdx_lang.specs.Patterns.{Pattern}
 use Rattle.rdx_lang.specs.PatternView.{Slot, just, repeated, patterns_of}
 use Rattle.rdx_table.specs.Inside.Forgetting.{Forgets, ForgetsLength}
-use Rattle.rdx_table.specs.Inside.Settings.{language_at, trees_at_hand, doors_in, IsReady}
+use Rattle.rdx_table.specs.Inside.Settings.{language_at, trees_at_hand, IsReady}
 use Rattle.rdx_table.specs.declared.node.Form.{Form}
 use Rattle.rdx_table.specs.declared.node.Form.TheVariants as form
 use Rattle.rdx_table.specs.declared.node.Node.{Node}
 use Rattle.rdx_table.specs.declared.setting.Setting.{Setting}
 
--- new has the nodes of old and maybe more behind them, all right; of these none is a nonterminal whose alternatives have no nodes
+-- new has the nodes of old and maybe more behind them, all right
 pub record Adds (old new : Setting) : Type 0 where
   pub language : language_at new ≡ language_at old
   pub terms : trees_at_hand new ≡ trees_at_hand old
   pub more : List Node
   pub nodes : new.nodes.items ≡ old.nodes.items ++ more
-  pub doors : doors_in more ≡ 0
   pub ready : IsReady new
 
 -- the item s is r without the names xs

@@ -26,10 +26,10 @@ patterns_at_hand s = patterns_in s.nodes.items
 abbrev pub trees_at_hand : Setting → List Tree
 trees_at_hand s = s.store.now
 
--- the nodes are right, and the index has the numbers of nonterminals
+-- the nodes are right, and so are the numbers in the index
 pub record IsReady (s : Setting) : Type 0 where
   pub nodes : AreNodes (language_at s) s.nodes.items
-  pub index : IsIndex (language_at s) (patterns_at_hand s) s.index
+  pub index : IsIndex (patterns_at_hand s) s.index
 
 -- new works on the language and the terms of old, and has its patterns at their numbers, and maybe more
 pub record Grows (old new : Setting) : Type 0 where

@@ -1,5 +1,5 @@
 -- What is to be found, and what was found.
-use Rattle.std.specs.Prelude.{◌≡◌, ℕ, ◌+◌, ◌-◌, ◌<◌, ◌≤◌, Bool, true, false, List, [], ◌∷◌, length, take, drop}
+use Rattle.std.specs.Prelude.{◌≡◌, ◌+◌, ◌-◌, ◌<◌, ◌≤◌, Bool, true, false, List, [], ◌∷◌, length, take, drop}
 use Rattle.rdx_term.specs.Items.{tree_items}
 use Rattle.rdx_term.specs.Tree.{Tree, Trees, cons, trees}
 use Rattle.rdx_term.specs.Tree.{nil as no_trees}

@@ -5,7 +5,8 @@ use Rattle.rdx_term.specs.Tree.{Tree}
 use Rattle.rdx_lang.specs.Patterns.{Pattern, Language}
 use Rattle.rdx_table.specs.Inside.Frames.{lowest, IsFrame, AreFrames}
 use Rattle.rdx_table.specs.Inside.Looks.{AreAsked, IsStop}
-use Rattle.rdx_table.specs.Inside.Settings.{language_at, patterns_at_hand, trees_at_hand, closed_doors, Grows}
+use Rattle.rdx_table.specs.Inside.Remaining.{doors_left}
+use Rattle.rdx_table.specs.Inside.Settings.{language_at, patterns_at_hand, trees_at_hand, Grows}
 use Rattle.rdx_table.specs.Inside.Tasks.{IsTask, AreTasks, IsFound}
 use Rattle.rdx_table.proofs.FactsStay.{grows-then, frame-grows, frames-grow, memo-grows, row-before}
 use Rattle.rdx_table.proofs.FrameLaws.{frame-takes, row_alone, frame-answered, frame-new, frames-push, frames-pop, lowest-push}
@@ -18,7 +19,7 @@ use Rattle.rdx_table.specs.declared.task.Task.{Task}
 use Rattle.rdx_table.specs.declared.task.Task.TheVariants as task
 use Rattle.rdx_table.proofs.solve.solve.Goals as goal
 
--- less is left, and as many doors are closed
+-- less is left, and as many doors
 with_doors : (m n d : ℕ) → m < n → m + d < n + d
 with_doors m n d h = omega arith
 
@@ -36,7 +37,7 @@ pub loop-task-smaller-in-Continue-branch-3 : goal.loop-task-smaller-in-Continue-
 loop-task-smaller-in-Continue-branch-3 c =
     let f : Frame = c.loop-task.top in
     let x : Answer = record { task = c.in-Some.task; rows = c.in-Some-2.rows } in
-    with_doors _ _ (closed_doors c.loop-task.setting)
+    with_doors _ _ (doors_left c.loop-task.setting)
     (left-answered c.loop-task.below.items f (record { task = f.task; answers = c.push.new.self; wanted = c.pop.new.self }) x c.pop.new.self.items
     c.in-Some.task c.in-Some.ensures.items c.in_ok-push-in-Some-2.ensures.items)
 
@@ -68,7 +69,7 @@ loop-task-preserved-in-Continue-branch-3 c =
 pub loop-task-smaller-in-None : goal.loop-task-smaller-in-None
 loop-task-smaller-in-None c =
     let f : Frame = c.loop-task.top in
-    with_doors _ _ (closed_doors c.loop-task.setting)
+    with_doors _ _ (doors_left c.loop-task.setting)
     (left-pushed c.loop-task.below.items c.push-in-None.new.self.items f (record { task = f.task; answers = f.answers; wanted = c.pop.new.self })
     c.new-top-in-None.result
     (fewer c.loop-task.below) c.in_ok-push-in-None.ensures.items refl c.new-top-in-None.ensures.answers c.new-top-in-None.ensures.wanted)
@@ -101,7 +102,7 @@ pub loop-task-smaller-in-Continue-branch-6 : goal.loop-task-smaller-in-Continue-
 loop-task-smaller-in-Continue-branch-6 c =
     let f : Frame = c.in-Some-pop.frame in
     let x : Answer = record { task = c.loop-task.top.task; rows = c.in-Ok.rows } in
-    with_doors _ _ (closed_doors c.loop-task.setting)
+    with_doors _ _ (doors_left c.loop-task.setting)
     (left-popped c.loop-task.below.items c.pop-in-Ok.new.self.items c.loop-task.top f
     (record { task = f.task; answers = c.push-in-Ok.new.self; wanted = f.wanted }) x
     c.in-Some-pop.ensures.items (grind (arith, common_steps)) c.in_ok-push-in-Ok.ensures.items)
@@ -135,7 +136,7 @@ loop-task-smaller-in-Err-Asks c =
     let s : Setting = c.loop-task.setting in
     let f : Frame = c.loop-task.top in
     let a : AreAsked s c.in-Err-Asks.tasks.items = subst (IsStop s) c.in-Err-Asks.field-0-is c.in-Err-Asks.ensures.stop in
-    with_doors _ _ (closed_doors s)
+    with_doors _ _ (doors_left s)
     (left-asked c.loop-task.below.items f (record { task = f.task; answers = f.answers; wanted = c.in-Err-Asks.tasks })
     (grind (arith, common_steps)) a.some refl)
 

@@ -1,8 +1,8 @@
 use Rattle.std.proofs.Common.{◌≡◌, ◌+◌}
 use Rattle.rdx_table.specs.Inside.Frames.{lowest, IsFrame, AreFrames}
 use Rattle.rdx_table.specs.Inside.Memos.{IsMemo}
-use Rattle.rdx_table.specs.Inside.Remaining.{all_left}
-use Rattle.rdx_table.specs.Inside.Settings.{language_at, patterns_at_hand, trees_at_hand, closed_doors, Grows, IsReady}
+use Rattle.rdx_table.specs.Inside.Remaining.{all_left, doors_left}
+use Rattle.rdx_table.specs.Inside.Settings.{language_at, patterns_at_hand, trees_at_hand, Grows, IsReady}
 use Rattle.rdx_table.specs.declared.task.Task.TheVariants as task
 use Rattle.rdx_table.proofs.solve.solve.Given as goal
 
@@ -17,4 +17,4 @@ invariant-loop-task l = record {
 }
 
 abbrev pub decreases-loop-task : goal.decreases-loop-task
-decreases-loop-task l = all_left l.below.items l.top + closed_doors l.setting
+decreases-loop-task l = all_left l.below.items l.top + doors_left l.setting

@@ -20,8 +20,8 @@ pub returns : goal.returns
 returns c =
     let L : Language = language_in c.args.language.now in
     let new = c.add.new.self in
-    let grows : Grows c.in_ok-setting.setting new = c.in_ok-number.ensures.grows in
-    let l : language_at new ≡ L = grows.language ∙ c.in_ok-setting.ensures.language in
+    let grows : Grows c.new-setting.result new = c.in_ok-number.ensures.grows in
+    let l : language_at new ≡ L = grows.language ∙ c.new-setting.ensures.language in
     let p : Pattern = pattern_at (patterns_at_hand new) c.in_ok-number.number in
     let q : Pattern = pattern_in c.args.pat.now in
     let id = c.args.whole.now.id in
@@ -29,7 +29,7 @@ returns c =
     let well : DoesAsWell (language_at new) p (pattern_of c.pat.result.now) = c.in_ok-number.ensures.pattern in
     let w : DoesAsWell L p q = subst (λ (k : Language). DoesAsWell k p q) l
     (subst (λ (r : Pattern). DoesAsWell (language_at new) p r) c.pat.ensures well) in
-    let u : tree_by_id (trees_at_hand new) id ≡ t = ap (λ ts. tree_by_id ts id) (grows.terms ∙ c.in_ok-setting.ensures.terms) in
+    let u : tree_by_id (trees_at_hand new) id ≡ t = ap (λ ts. tree_by_id ts id) (grows.terms ∙ c.new-setting.ensures.terms) in
     IfOk-weaker c.solve.result _ _ (λ row h.
     let k : HasAsked (Match (language_at new) p (tree_by_id (trees_at_hand new) id)) (SplitsAt (language_at new) p (tree_by_id (trees_at_hand new) id))
     (asked_where c.args.splits) (split_row_of row) = h in

@@ -1,6 +1,7 @@
 use Rattle.std.proofs.Common.{◌<◌, ℕ, length, sym, arith}
 use Rattle.rdx_table.specs.Inside.Settings.{patterns_at_hand}
 use Rattle.rdx_table.proofs.NodePatterns.{patterns_in-length}
+use Rattle.rdx_table.proofs.NonterminalNodes.{adds-index, index-insert}
 use Rattle.rdx_table.proofs.setting.Setting.nonterminal.Goals as goal
 
 pub returns-in-Some-clause-number : goal.returns-in-Some-clause-number
@@ -11,3 +12,14 @@ returns-in-Some-clause-number c =
 
 pub returns-in-Some-clause-pattern : goal.returns-in-Some-clause-pattern
 returns-in-Some-clause-pattern c = c.requires.index.pattern c.args.name.now c.in-Some.number (sym c.in-Some.ensures)
+
+pub returns-clause-adds : goal.returns-clause-adds
+returns-clause-adds c =
+    let t = c.push.new.self in
+    let n : ℕ = c.in_ok-number.number in
+    let a = c.in_ok-number.ensures.adds in
+    let l = patterns_in-length t.nodes.items in
+    let h = c.in_ok-number.ensures.number in
+    let m : n < length (patterns_at_hand t) = omega (arith, h, l) in
+    adds-index c.args.self.now t a c.insert.new.self
+    (index-insert (patterns_at_hand t) t.index c.insert.new.self c.args.name.now n c.in_ok-insert.ensures a.ready.index m c.in_ok-number.ensures.pattern)

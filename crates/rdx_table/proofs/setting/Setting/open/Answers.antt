@@ -47,6 +47,6 @@ returns-clause-fewer c =
     ∙ c.requires.door.there in
     let t = c.number_all.new.self in
     let y : Node = record { form = c.give_numbers.new.form; kept = c.index_mut.result.now.kept } in
-    opened-fewer s t (record { alloc = t.alloc; language = t.language; nodes = with_item t.nodes c.args.number y; index = t.index; store = t.store })
+    opened-fewer s t (record { alloc = t.alloc; language = t.language; places = t.places; nodes = with_item t.nodes c.args.number y; index = t.index; store = t.store })
     c.args.number x y c.in_ok-numbers.numbers c.in_ok-numbers.ensures.adds c.requires.door.number c.index.ensures (new_form c) refl
     (ap (λ (z : Node). doors_of z.form) e ∙ c.requires.door.closed)

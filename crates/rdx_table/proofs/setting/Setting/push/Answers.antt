@@ -7,7 +7,7 @@ use Rattle.rdx_table.proofs.setting.Setting.push.Goals as goal
 
 pub returns-clause-adds : goal.returns-clause-adds
 returns-clause-adds c =
-    adds-push c.args.self.now c.push.new.self (record { form = c.args.form; kept = c.args.kept }) c.requires.ready c.requires.form c.requires.doors
+    adds-push c.args.self.now c.push.new.self (record { form = c.args.form; kept = c.args.kept }) c.requires.ready c.requires.form
     c.in_ok-push.ensures.items
 
 pub returns-clause-pattern : goal.returns-clause-pattern
