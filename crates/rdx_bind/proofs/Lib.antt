@@ -1,4 +1,5 @@
 pub mod Merging
+pub mod JoinedPairs
 pub mod ValueColumnLaws
 pub mod Gathering
 pub mod ChoiceLaws

@@ -80,6 +80,10 @@ both_first p a b c h k j = record {
 left_alone : (a : Binding) → HasAscendingNames a → IsJoin a [] a
 left_alone a h = record { map = h; sound = λ p i. inl i; left = λ p i. i; right = λ p i. elim i [ ] }
 
+-- a binding is the join of its first pair and the others
+pub first_and_rest : (p : Pair) (b : Binding) → HasAscendingNames (p ∷ b) → IsJoin (p ∷ []) b (p ∷ b)
+first_and_rest p b h = left_first p [] b b (tt, tt) h.0 (turned_join b [] b (left_alone b h.1))
+
 -- ---- the merge
 
 -- merged, with the join of what is left of both sides behind it, is the join of a and b

@@ -1,6 +1,7 @@
-// The join of two bindings: one pass over the pairs of both.
+// The join of two bindings: one pass over the pairs of both; or, where the one has few pairs and the
+// other is of no more use, a search for the place of each of the few.
 ghost use Rattle.std.specs.Prelude.{◌≡◌, ◌↔◌, ◌∷◌, [], ◌++◌, drop, IfOk, IfSome, IfNone, IsTrue, OnOk};
-ghost use Rattle.rdx_lang.specs.Bindings.{name_cmp};
+ghost use Rattle.rdx_lang.specs.Bindings.{name_cmp, HasAscendingNames};
 ghost use Rattle.rdx_lang.specs.BindingView.{pair_of, pairs_of};
 ghost use Rattle.rdx_lang.specs.Join.{IsJoin};
 ghost use Rattle.rdx_lang.specs.Shown.{binding_of};
@@ -89,4 +90,41 @@ pub fn join(alloc: Global, a: &Binding, b: &Binding) -> Result<Option<Binding>, 
     push_rest(&mut pairs, lefts, i)?;
     push_rest(&mut pairs, rights, j)?;
     Ok(Some(Binding::new(pairs)))
+}
+
+// So many pairs at most are put in one by one: each moves those behind it, which costs less than to
+// copy all where there are few.
+const FEW: usize = 4;
+
+/// The join of both, as by [`join`], where `a` is of no more use: it gets the pairs of `b` where these
+/// are few.
+pub fn join_into(alloc: Global, a: Binding, b: &Binding) -> Result<Option<Binding>, NoMemory>
+    ensures some { IfOk result (λ r. IfSome r (λ c.
+        IsJoin (binding_of a) (binding_of b.now) (binding_of c))) }
+    ensures none { IfOk result (λ r. IfNone r (
+        (c : _) → ¬ IsJoin (binding_of a) (binding_of b.now) c)) }
+{
+    if b.pairs().len() <= FEW {
+        with_each(a, b.pairs())
+    } else {
+        join(alloc, &a, b)
+    }
+}
+
+// The join of the binding with that of the pairs, which it gets one by one.
+fn with_each(a: Binding, pairs: &[(Name, Value)]) -> Result<Option<Binding>, NoMemory>
+    requires { HasAscendingNames (pairs_of pairs.now) }
+    ensures some { IfOk result (λ r. IfSome r (λ c.
+        IsJoin (binding_of a) (pairs_of pairs.now) (binding_of c))) }
+    ensures none { IfOk result (λ r. IfNone r (
+        (c : _) → ¬ IsJoin (binding_of a) (pairs_of pairs.now) c)) }
+{
+    let mut joined = a;
+    for (name, value) in pairs {
+        match joined.joined_with(name, value)? {
+            Some(more) => joined = more,
+            None => return Ok(None),
+        }
+    }
+    Ok(Some(joined))
 }

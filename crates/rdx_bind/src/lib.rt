@@ -1,8 +1,9 @@
 //! Bindings put together, and all of matching that needs no search.
 //!
-//! A [`Binding`](rdx_lang::Binding) is a finite map from names to values. [`join`] puts two of them together, [`one`] makes that of a
-//! name alone, and [`collect`] gives each name the sequence of what it stands for in each of several bindings, as a repetition does.
-//! [`compare`] is the order of bindings, and [`listing`] and [`listing_splits`] put what a search found into that order, each once.
+//! A [`Binding`](rdx_lang::Binding) is a finite map from names to values. [`join`] puts two of them together, and [`join_into`] where one
+//! is of no more use; [`one`] makes that of a name alone, and [`collect`] gives each name the sequence of what it stands for in each of
+//! several bindings, as a repetition does. [`compare`] is the order of bindings, and [`listing`] and [`listing_splits`] put what a search
+//! found into that order, each once.
 //!
 //! The modules are for those who write a matcher: given what the parts of a pattern bind, and where they split their terms, they find
 //! what the whole does. Patterns that match by the term alone stand in [`atoms`]. A split is kept as a [`Spot`](spots::Spot), a path
@@ -37,7 +38,7 @@ pub mod turns;
 pub mod ways;
 
 pub use collecting::collect;
-pub use joining::join;
+pub use joining::{join, join_into};
 pub use single::one;
 pub use sorting::{compare, listing};
 pub use splits::listing_splits;

@@ -5,7 +5,7 @@ ghost use Rattle.rdx_lang.specs.Bindings.{bound_names, name_cmp};
 ghost use Rattle.rdx_lang.specs.Members.{In};
 ghost use Rattle.rdx_lang.specs.Shown.{binding_of, bindings_of};
 
-use crate::{collect, compare, join, listing, one};
+use crate::{collect, compare, join, join_into, listing, one};
 use rdx_lang::{Binding, Value};
 use rdx_term::{Name, NoMemory, Term};
 use std::alloc::Global;
@@ -72,6 +72,7 @@ fn different_values(rt: HostRuntime) -> Result<(), Fail> {
     let first = one(alloc, &x, number(1))?;
     let second = one(alloc, &x, number(2))?;
     assert!(rt; join(alloc, &first, &second)?.is_none());
+    assert!(rt; join_into(alloc, first, &second)?.is_none());
     Ok(())
 }
 
@@ -83,6 +84,19 @@ fn equal_values(rt: HostRuntime) -> Result<(), Fail> {
     let second = one(alloc, &x, number(1))?;
     let joined = join(alloc, &first, &second)?;
     assert!(rt; joined.is_some_and(|b| compare(&b, &first) == Ordering::Equal));
+    Ok(())
+}
+
+#[test]
+fn one_pair_more(rt: HostRuntime) -> Result<(), Fail> {
+    let alloc = rt.alloc();
+    let x = name(alloc, "x")?;
+    let y = name(alloc, "y")?;
+    let first = one(alloc, &y, number(2))?;
+    let second = one(alloc, &x, number(1))?;
+    let expected = two(&x, &y, number(1), number(2), alloc)?;
+    let joined = join_into(alloc, first, &second)?;
+    assert!(rt; joined.is_some_and(|b| compare(&b, &expected) == Ordering::Equal));
     Ok(())
 }
 

@@ -1,4 +1,3 @@
-pub mod Places
 pub mod Gathered
 pub mod HandedOn
 pub mod GatheredLoops
@@ -13,6 +12,7 @@ pub mod Staying
 pub mod ItemEquations
 pub mod Items
 pub mod Joining
+pub mod MatchedTerms
 pub mod ExtraAfterExtra
 pub mod GoingOn
 pub mod Calling
@@ -20,7 +20,6 @@ pub mod LeastValues
 pub mod TextSets
 pub mod FirstVariants
 pub mod Symbols
-pub mod ValuesByName
 pub mod Examples
 pub mod CallExamples
 pub mod JudgementExamples

@@ -42,7 +42,7 @@ no_value : {A X : Type 0} (p : Fault) (x : A) → ◌≡◌ {A = Answer A} (faul
 no_value p x e = absurd cc
 
 -- equal values
-same_value : {A : Type 0} (x y : A) → ◌≡◌ {A = Answer A} (value x) (value y) → y ≡ x
+pub same_value : {A : Type 0} (x y : A) → ◌≡◌ {A = Answer A} (value x) (value y) → y ≡ x
 same_value x y e = cc
 
 -- one relation after the other

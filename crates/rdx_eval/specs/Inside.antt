@@ -7,4 +7,3 @@ pub mod Scopes
 pub mod Stops
 pub mod Taken
 pub mod Extras
-pub mod Found

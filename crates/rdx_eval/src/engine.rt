@@ -250,7 +250,7 @@ impl<'a, M: Matcher + Drop> Engine<'a, M> {
             HEIGHT,
             language,
             premise,
-            &none,
+            none,
         );
         self.names = Some(names);
         Ok(listed_bindings(self.alloc, found?)?)

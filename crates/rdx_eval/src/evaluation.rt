@@ -550,13 +550,13 @@ fn by_each<M: Matcher, H: Host>(
     let room = room.inside()?;
     let found = match extra {
         Extra::Where(pat, template) => {
-            where_each(setting, matcher, room, height, language, pat, template, &bs)?
+            where_each(setting, matcher, room, height, language, pat, template, bs)?
         }
         Extra::Side(h) => side_each(setting, matcher, room, height, h, bs)?,
         Extra::Holds(premise) => {
-            premise_each(setting, matcher, room, height, language, premise, &bs)?
+            premise_each(setting, matcher, room, height, language, premise, bs)?
         }
-        Extra::Fresh(name) => freshened_each(setting.alloc, whole, earlier, name, &bs)?,
+        Extra::Fresh(name) => freshened_each(setting.alloc, whole, earlier, name, bs)?,
     };
     Ok(listed_bindings(setting.alloc, found)?)
 }
@@ -564,31 +564,31 @@ fn by_each<M: Matcher, H: Host>(
 // The joins of each binding with those by which the pattern matches what the template makes of it.
 #[cycle(evaluation)]
 #[inline(never)]
-fn where_each<'x, 'n, M: Matcher, H: Host>(
-    setting: &'x Setting<'x, 'n, H>,
+fn where_each<M: Matcher, H: Host>(
+    setting: &Setting<H>,
     matcher: &mut M,
     room: Room,
     height: usize,
     language: &CheckedLang,
     pat: &CheckedPat,
     template: &Template,
-    bs: &'x [Binding],
+    bs: Vec<Binding>,
 ) -> Result<Vec<Binding>, Stop>
     ensures { Tells bindings_in (Gather (WhereOne (language_in language.now)
         (calls_in setting.now height) (pattern_in pat.now) (template_of template.now))
-        (bindings_of bs.now)) result }
+        (bindings_in bs)) result }
 {
     let room = room.inside()?;
     let mut found = Vec::new(setting.alloc);
     for binding in bs {
         let scope = Scope {
-            setting,
+            setting: &*setting,
             height,
-            b: binding,
+            b: &binding,
             turns: &[],
         };
         let t = instantiate(&scope, matcher, room, template)?;
-        let mut more = matched(setting.alloc, language, matcher, pat, binding, &t)?;
+        let mut more = matched(setting.alloc, language, matcher, pat, binding, t)?;
         found.append(&mut more)?;
     }
     Ok(found)
@@ -618,7 +618,7 @@ fn side_each<M: Matcher, H: Host>(
             turns: &[],
         };
         let t = evaluate(&scope, matcher, room, h)?;
-        let mut more = unless_false(setting.alloc, &t, binding)?;
+        let mut more = unless_false(setting.alloc, t, binding)?;
         found.append(&mut more)?;
     }
     Ok(found)
@@ -627,17 +627,17 @@ fn side_each<M: Matcher, H: Host>(
 // What the premise makes of each binding.
 #[cycle(evaluation)]
 #[inline(never)]
-fn premise_each<'x, 'n, M: Matcher, H: Host>(
-    setting: &'x Setting<'x, 'n, H>,
+fn premise_each<M: Matcher, H: Host>(
+    setting: &Setting<H>,
     matcher: &mut M,
     room: Room,
     height: usize,
     language: &CheckedLang,
     premise: &Premise,
-    bs: &'x [Binding],
+    bs: Vec<Binding>,
 ) -> Result<Vec<Binding>, Stop>
     ensures { Tells bindings_in (Gather (ByPremise (language_in language.now)
-        (calls_in setting.now height) (premise_of premise.now)) (bindings_of bs.now)) result }
+        (calls_in setting.now height) (premise_of premise.now)) (bindings_in bs)) result }
 {
     let room = room.inside()?;
     let mut found = Vec::new(setting.alloc);
@@ -651,23 +651,23 @@ fn premise_each<'x, 'n, M: Matcher, H: Host>(
 /// What a premise makes of one binding.
 #[cycle(evaluation)]
 #[inline(never)]
-pub(crate) fn by_premise<'x, 'n, M: Matcher, H: Host>(
-    setting: &'x Setting<'x, 'n, H>,
+pub(crate) fn by_premise<M: Matcher, H: Host>(
+    setting: &Setting<H>,
     matcher: &mut M,
     room: Room,
     height: usize,
     language: &CheckedLang,
     premise: &Premise,
-    b: &'x Binding,
+    b: Binding,
 ) -> Result<Vec<Binding>, Stop>
     ensures { Tells bindings_in (ByPremise (language_in language.now) (calls_in setting.now height)
-        (premise_of premise.now) (binding_of b.now)) result }
+        (premise_of premise.now) (binding_of b)) result }
 {
     let room = room.inside()?;
     let scope = Scope {
-        setting,
+        setting: &*setting,
         height,
-        b,
+        b: &b,
         turns: &[],
     };
     let ins = make_list(&scope, matcher, room, &premise.ins)?;

@@ -1,8 +1,9 @@
 // Looking up what a program has by names.
 ghost use Rattle.std.specs.Prelude.{◌≡◌, IfOk, map};
 ghost use Rattle.rdx_lang.specs.Checked.{language_in};
+ghost use Rattle.rdx_lang.specs.Model.Places.{FindsPlaces};
 ghost use Rattle.rdx_lang.specs.ProgramView.{judgement_of, metafunction_of, program_of, relation_of};
-ghost use Rattle.rdx_eval.specs.Model.Places.{FindsPlaces, name_of_function, name_of_judgement, name_of_language, name_of_relation, place_in};
+ghost use Rattle.rdx_eval.specs.Model.Places.{name_of_function, name_of_judgement, name_of_language, name_of_relation, place_in};
 
 use rdx_lang::{CheckedLang, Judgement, Metafunction, Program, Relation};
 use rdx_term::{Name, NoMemory};
@@ -24,8 +25,8 @@ fn places_of_languages<'a>(
     alloc: Global,
     languages: &'a [CheckedLang],
 ) -> Result<BTreeMap<&'a str, usize>, NoMemory>
-    ensures { IfOk result (λ places. FindsPlaces places 0
-        (map name_of_language (map language_in languages.now))) }
+    ensures { IfOk result (λ places. FindsPlaces name_of_language (place_in places) 0
+        (map language_in languages.now)) }
 {
     let mut places = BTreeMap::new(alloc);
     for place in (0..languages.len()).rev() {
@@ -39,8 +40,8 @@ fn places_of_metafunctions<'a>(
     alloc: Global,
     metafunctions: &'a [Metafunction],
 ) -> Result<BTreeMap<&'a str, usize>, NoMemory>
-    ensures { IfOk result (λ places. FindsPlaces places 0
-        (map name_of_function (map metafunction_of metafunctions.now))) }
+    ensures { IfOk result (λ places. FindsPlaces name_of_function (place_in places) 0
+        (map metafunction_of metafunctions.now)) }
 {
     let mut places = BTreeMap::new(alloc);
     for place in (0..metafunctions.len()).rev() {
@@ -54,8 +55,8 @@ fn places_of_judgements<'a>(
     alloc: Global,
     judgements: &'a [Judgement],
 ) -> Result<BTreeMap<&'a str, usize>, NoMemory>
-    ensures { IfOk result (λ places. FindsPlaces places 0
-        (map name_of_judgement (map judgement_of judgements.now))) }
+    ensures { IfOk result (λ places. FindsPlaces name_of_judgement (place_in places) 0
+        (map judgement_of judgements.now)) }
 {
     let mut places = BTreeMap::new(alloc);
     for place in (0..judgements.len()).rev() {
@@ -69,8 +70,8 @@ fn places_of_relations<'a>(
     alloc: Global,
     relations: &'a [Relation],
 ) -> Result<BTreeMap<&'a str, usize>, NoMemory>
-    ensures { IfOk result (λ places. FindsPlaces places 0
-        (map name_of_relation (map relation_of relations.now))) }
+    ensures { IfOk result (λ places. FindsPlaces name_of_relation (place_in places) 0
+        (map relation_of relations.now)) }
 {
     let mut places = BTreeMap::new(alloc);
     for place in (0..relations.len()).rev() {

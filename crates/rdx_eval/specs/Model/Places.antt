@@ -1,5 +1,5 @@
 -- The places of what a program has by its names.
-use Rattle.std.specs.Prelude.{◌≡◌, ℕ, suc, List, [], ◌∷◌, Option, Some, None, bytes_eq, if◌then◌else◌}
+use Rattle.std.specs.Prelude.{ℕ, List, Option}
 use Rattle.std.specs.BTreeMap.{BTreeMap, get_by}
 use Rattle.std.specs.Borrow.{Bor}
 use Rattle.std.specs.Cmp.Lexicographic.{slice_cmp}
@@ -7,18 +7,9 @@ use Rattle.std.specs.Ordering.{nat_cmp}
 use Rattle.rdx_lang.specs.Patterns.{Language}
 use Rattle.rdx_lang.specs.Programs.{Judgement, Metafunction, Relation}
 
--- the place of the first of these names that is x, if they have the places from i on
-abbrev pub place_from : ℕ → List ℕ → List (List ℕ) → Option ℕ
-place_from i x [] = None
-place_from i x (n ∷ ns) = if bytes_eq n x then Some i else place_from (suc i) x ns
-
 -- the place that a map has at a text
 abbrev pub place_in : BTreeMap (Bor (List ℕ)) ℕ → List ℕ → Option ℕ
 place_in m x = get_by (λ k. slice_cmp nat_cmp x k.now) m
-
--- each of these names is found with its place, and no other text
-abbrev pub FindsPlaces : BTreeMap (Bor (List ℕ)) ℕ → ℕ → List (List ℕ) → Type 0
-FindsPlaces m i ns = (x : List ℕ) → place_in m x ≡ place_from i x ns
 
 -- what each goes by
 abbrev pub name_of_language : Language → List ℕ

@@ -190,15 +190,6 @@ side_each-returns-in_err-t = extras.side_each-returns-in_err-t
 pub side_each-loop-binding-preserved : goal.side_each-loop-binding-preserved
 side_each-loop-binding-preserved = extras.side_each-loop-binding-preserved
 
-pub side_each-loop-binding-preserved-in_ok-append : goal.side_each-loop-binding-preserved-in_ok-append
-side_each-loop-binding-preserved-in_ok-append = extras.side_each-loop-binding-preserved-in_ok-append
-
-pub side_each-loop-binding-preserved-in_ok-append-2 : goal.side_each-loop-binding-preserved-in_ok-append-2
-side_each-loop-binding-preserved-in_ok-append-2 = extras.side_each-loop-binding-preserved-in_ok-append-2
-
-pub side_each-loop-binding-preserved-in_ok-append-3 : goal.side_each-loop-binding-preserved-in_ok-append-3
-side_each-loop-binding-preserved-in_ok-append-3 = extras.side_each-loop-binding-preserved-in_ok-append-3
-
 pub side_each-returns : goal.side_each-returns
 side_each-returns = extras.side_each-returns
 

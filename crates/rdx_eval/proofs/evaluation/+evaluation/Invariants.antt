@@ -143,7 +143,7 @@ invariant-extend-loop-i g l =
 abbrev pub invariant-where_each-loop-binding : goal.invariant-where_each-loop-binding
 invariant-where_each-loop-binding g l =
     Gathers (WhereOne (language_in l.language) (calls_in l.setting l.height) (pattern_in l.pat) (template_of l.template))
-    (bindings_of l.bs) (bindings_of (drop l.binding-index l.bs)) (bindings_in l.found)
+    (bindings_of l.fn.bs.items) (bindings_of l.binding-iterator.rest.items) (bindings_in l.found)
 
 abbrev pub invariant-side_each-loop-binding : goal.invariant-side_each-loop-binding
 invariant-side_each-loop-binding g l =
@@ -153,4 +153,4 @@ invariant-side_each-loop-binding g l =
 abbrev pub invariant-premise_each-loop-b : goal.invariant-premise_each-loop-b
 invariant-premise_each-loop-b g l =
     Gathers (ByPremise (language_in l.language) (calls_in l.setting l.height) (premise_of l.premise))
-    (bindings_of l.bs) (bindings_of (drop l.b-index l.bs)) (bindings_in l.found)
+    (bindings_of l.fn.bs.items) (bindings_of l.b-iterator.rest.items) (bindings_in l.found)

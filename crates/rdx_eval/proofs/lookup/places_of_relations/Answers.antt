@@ -1,9 +1,11 @@
-use Rattle.std.proofs.Common.{arith, ◌≡◌, ◌∙◌, ◌+◌, ◌-◌, ◌<◌, ◌∷◌, ℕ, suc, length, drop, map, sym, ap, subst}
+use Rattle.std.proofs.Common.{arith, ◌≡◌, ◌∙◌, ◌+◌, ◌-◌, ◌<◌, ◌∷◌, ℕ, suc, Some, length, drop, map, sym, ap, subst}
 use Rattle.std.proofs.lemmas.Grind.{common_steps}
+use Rattle.std.proofs.lemmas.Map.Text.{btree_map_updates_str}
 use Rattle.rdx_lang.specs.ProgramView.{relation_of}
+use Rattle.rdx_lang.specs.Model.Places.{FindsPlaces}
+use Rattle.rdx_lang.proofs.FirstPlaces.{places-next}
 use Rattle.rdx_lang.proofs.Rest.{rest_at}
-use Rattle.rdx_eval.specs.Model.Places.{FindsPlaces, name_of_relation}
-use Rattle.rdx_eval.proofs.Places.{places-next}
+use Rattle.rdx_eval.specs.Model.Places.{name_of_relation, place_in}
 use Rattle.rdx_eval.proofs.lookup.places_of_relations.Goals as goal
 
 pub loop-place-preserved : goal.loop-place-preserved
@@ -15,8 +17,10 @@ loop-place-preserved c =
     let k' : i + 1 ≡ j = omega arith in
     let l : i < length xs = grind (arith, common_steps) in
     let x = c.index-relations-place.result in
+    let key = c.text.result.now in
     let e : map relation_of (drop i xs) ≡ relation_of x ∷ map relation_of (drop j xs) =
     rest_at relation_of xs i x l c.index-relations-place.is ∙ ap (λ m. relation_of x ∷ map relation_of (drop m xs)) k' in
-    subst (λ zs. FindsPlaces c.insert.new.self i (map name_of_relation zs)) (sym e)
-    (places-next i j c.text.result (name_of_relation (relation_of x)) (map name_of_relation (map relation_of (drop j xs))) c.loop-place.places c.insert.new.self k (c.text.ensures.value ∙ ap (λ t. name_of_relation (relation_of t)) (sym c.index-relations-place.is))
-    c.in_ok-insert.ensures.updates c.loop-place.invariant)
+    subst (λ zs. FindsPlaces name_of_relation (place_in c.insert.new.self) i zs) (sym e)
+    (places-next name_of_relation i j key (relation_of x) (map relation_of (drop j xs)) (place_in c.loop-place.places) (place_in c.insert.new.self) k
+    (c.text.ensures.value ∙ ap (λ t. name_of_relation (relation_of t)) (sym c.index-relations-place.is))
+    (btree_map_updates_str key c.loop-place.places c.insert.new.self (Some i) c.in_ok-insert.ensures.updates) c.loop-place.invariant)

@@ -10,9 +10,9 @@ use Rattle.rdx_lang.specs.Bindings.{Binding}
 use Rattle.rdx_lang.specs.Checked.{language_in, pattern_in}
 use Rattle.rdx_lang.specs.Patterns.{Language}
 use Rattle.rdx_lang.specs.ProgramView.{extra_of, extras_of, premise_of}
-use Rattle.rdx_lang.specs.Programs.{Extra, Premise, such_as, provided, holds, fresh}
+use Rattle.rdx_lang.specs.Programs.{Extra, Premise, such_as, provided, holds}
 use Rattle.rdx_lang.specs.Shown.{binding_of, bindings_of}
-use Rattle.rdx_lang.specs.Templates.{Host}
+use Rattle.rdx_lang.specs.Templates.{Host, Template}
 use Rattle.rdx_lang.specs.TemplateView.{template_of, host_of}
 use Rattle.rdx_lang.specs.declared.binding.Binding as code_binding
 use Rattle.rdx_lang.specs.declared.template.Template as code_template
@@ -27,8 +27,7 @@ use Rattle.rdx_eval.specs.Inside.Scopes.{calls_in}
 use Rattle.rdx_eval.specs.Instantiation.{HostMakes, Makes, MakeList}
 use Rattle.rdx_eval.specs.Views.{terms_in, bindings_in}
 use Rattle.rdx_eval.proofs.ExtraAfterExtra.{extends-next, extends-fault}
-use Rattle.rdx_eval.proofs.Gathered.{gathers-end, gathers-fault, gathers-next}
-use Rattle.rdx_eval.proofs.GatheredLoops.{gather-next, gather-end, gather-error}
+use Rattle.rdx_eval.proofs.GatheredLoops.{used_up-next, used_up-end, used_up-error}
 use Rattle.rdx_eval.proofs.HandedOn.{handed_on, error_handed_on}
 use Rattle.rdx_eval.proofs.evaluation.+evaluation.Goals as goal
 use Rattle.rdx_eval.proofs.evaluation.+evaluation.Goals.{by_each-in-Where+in_ok-found-in-Where, by_each-in-Side+in_ok-found-in-Side, by_each-in-Holds+in_ok-found-in-Holds, by_each-in-Fresh+in_ok-found-in-Fresh}
@@ -88,10 +87,9 @@ by_each-returns-in_err-found-in-Where g t c =
     let a : Avoided = behind_all (avoiding (tree_of c.args.whole.now)) (extras_of c.args.earlier.now) in
     let bs : List Binding = bindings_in c.args.bs in
     let e : extra_of c.args.extra.now ≡ such_as (pattern_in c.in-Where.pat) (template_of c.in-Where.template) = ap extra_of c.in-Where.is in
-    error_handed_on bindings_in bindings_in (Gather (WhereOne L C (pattern_in c.in-Where.pat) (template_of c.in-Where.template)) (bindings_of c.deref.result.now))
+    error_handed_on bindings_in bindings_in (Gather (WhereOne L C (pattern_in c.in-Where.pat) (template_of c.in-Where.template)) bs)
     (ByEach L C a (extra_of c.args.extra.now) bs) c.from_residual-in_err-found-in-Where.result _ c.from_residual-in_err-found-in-Where.ensures.1
-    (λ f h. stops (subst (λ (x : Extra). Gather (By L C a x) bs (fault f)) (sym e)
-    (subst (λ (vs : List code_binding.Binding). Gather (WhereOne L C (pattern_in c.in-Where.pat) (template_of c.in-Where.template)) (bindings_of vs) (fault f)) c.deref.ensures.value h))) c.in_err-found-in-Where.ensures
+    (λ f h. stops (subst (λ (x : Extra). Gather (By L C a x) bs (fault f)) (sym e) h)) c.in_err-found-in-Where.ensures
 
 pub by_each-returns-in_err-found-in-Side : goal.by_each-returns-in_err-found-in-Side
 by_each-returns-in_err-found-in-Side g t c =
@@ -111,10 +109,9 @@ by_each-returns-in_err-found-in-Holds g t c =
     let a : Avoided = behind_all (avoiding (tree_of c.args.whole.now)) (extras_of c.args.earlier.now) in
     let bs : List Binding = bindings_in c.args.bs in
     let e : extra_of c.args.extra.now ≡ holds (premise_of c.in-Holds.premise) = ap extra_of c.in-Holds.is in
-    error_handed_on bindings_in bindings_in (Gather (ByPremise L C (premise_of c.in-Holds.premise)) (bindings_of c.deref-in-Holds.result.now))
+    error_handed_on bindings_in bindings_in (Gather (ByPremise L C (premise_of c.in-Holds.premise)) bs)
     (ByEach L C a (extra_of c.args.extra.now) bs) c.from_residual-in_err-found-in-Holds.result _ c.from_residual-in_err-found-in-Holds.ensures.1
-    (λ f h. stops (subst (λ (x : Extra). Gather (By L C a x) bs (fault f)) (sym e)
-    (subst (λ (vs : List code_binding.Binding). Gather (ByPremise L C (premise_of c.in-Holds.premise)) (bindings_of vs) (fault f)) c.deref-in-Holds.ensures.value h))) c.in_err-found-in-Holds.ensures
+    (λ f h. stops (subst (λ (x : Extra). Gather (By L C a x) bs (fault f)) (sym e) h)) c.in_err-found-in-Holds.ensures
 
 pub by_each-returns : goal.by_each-returns
 by_each-returns g t c =
@@ -126,116 +123,87 @@ by_each-returns g t c =
     let h : R (extra_of c.args.extra.now) c.match-extra.found.items =
     elim c.match-extra.branch [
       | by_each-in-Where+in_ok-found-in-Where w ↦
-          gathered_by R (ap extra_of w.in-Where.is) w.found-is
-          (subst (λ (vs : List code_binding.Binding). Gather (By L C a (such_as (pattern_in w.in-Where.pat) (template_of w.in-Where.template))) (bindings_of vs) (value (bindings_in w.in_ok-found-in-Where.found))) w.deref.ensures.value
-          w.in_ok-found-in-Where.ensures)
+          gathered_by R (ap extra_of w.in-Where.is) w.found-is w.in_ok-found-in-Where.ensures
       | by_each-in-Side+in_ok-found-in-Side w ↦
           gathered_by R (ap extra_of w.in-Side.is) w.found-is w.in_ok-found-in-Side.ensures
       | by_each-in-Holds+in_ok-found-in-Holds w ↦
-          gathered_by R (ap extra_of w.in-Holds.is) w.found-is
-          (subst (λ (vs : List code_binding.Binding). Gather (By L C a (holds (premise_of w.in-Holds.premise))) (bindings_of vs) (value (bindings_in w.in_ok-found-in-Holds.found))) w.deref-in-Holds.ensures.value
-          w.in_ok-found-in-Holds.ensures)
+          gathered_by R (ap extra_of w.in-Holds.is) w.found-is w.in_ok-found-in-Holds.ensures
       | by_each-in-Fresh+in_ok-found-in-Fresh w ↦
-          gathered_by R (ap extra_of w.in-Fresh.is) w.found-is
-          (subst (λ (vs : List code_binding.Binding). Gather (By L C a (fresh w.in-Fresh.name)) (bindings_of vs) (value (bindings_in w.in_ok-found-in-Fresh.found))) w.deref-in-Fresh.ensures.value
-          w.in_ok-found-in-Fresh.ensures)
+          gathered_by R (ap extra_of w.in-Fresh.is) w.found-is w.in_ok-found-in-Fresh.ensures
     ] in
     goes h (lists c.in_ok-listed_bindings.ensures)
+
+-- ---- extras of one kind, over all bindings
 
 pub where_each-returns-in_err-t : goal.where_each-returns-in_err-t
 where_each-returns-in_err-t g t c =
     let C : Calls = calls_in c.args.setting.now c.args.height in
-    let R : Binding → Answer (List Binding) → Type 0 =
-    WhereOne (language_in c.args.language.now) C (pattern_in c.args.pat.now) (template_of c.args.template.now) in
-    let x = c.binding-item.result in
-    gather-error binding_of R c.args.bs.now c.loop-binding.binding-index (bindings_in c.loop-binding.found) c.loop-binding.invariant x
-    c.loop-binding-test.true c.binding-item.is tree_of bindings_in (Makes C (binding_of x) (template_of c.args.template.now))
-    c.from_residual-in_err-t.result _ c.from_residual-in_err-t.ensures.1 (λ f h. stops h) c.in_err-t.ensures
+    let p : Template = template_of c.args.template.now in
+    let x = c.in-Some.binding in
+    used_up-error binding_of (WhereOne (language_in c.args.language.now) C (pattern_in c.args.pat.now) p) c.args.bs.items _
+    (bindings_in c.loop-binding.found) c.loop-binding.invariant x _ c.in-Some.ensures.steps.0 tree_of bindings_in (Makes C (binding_of x) p)
+    c.from_residual-in_err-t.result _ c.from_residual-in_err-t.ensures.1 (λ f k. stops k) c.in_err-t.ensures
 
 pub where_each-loop-binding-preserved : goal.where_each-loop-binding-preserved
 where_each-loop-binding-preserved g t c =
     let R : Binding → Answer (List Binding) → Type 0 =
     WhereOne (language_in c.args.language.now) (calls_in c.args.setting.now c.args.height) (pattern_in c.args.pat.now) (template_of c.args.template.now) in
     let d : bindings_in c.append.new.self ≡ bindings_in c.loop-binding.found ++ bindings_in c.in_ok-more.more = grind (arith, common_steps) in
-    gather-next binding_of R c.args.bs.now c.loop-binding.binding-index (bindings_in c.loop-binding.found) c.loop-binding.invariant
-    c.binding-item.result c.loop-binding-test.true c.binding-item.is (bindings_in c.in_ok-more.more) (bindings_in c.append.new.self) d
-    (goes c.in_ok-t.ensures c.in_ok-more.ensures)
+    used_up-next binding_of R c.args.bs.items _ (bindings_in c.loop-binding.found) c.loop-binding.invariant c.in-Some.binding _
+    c.in-Some.ensures.steps.0 (bindings_in c.in_ok-more.more) (bindings_in c.append.new.self) d (goes c.in_ok-t.ensures c.in_ok-more.ensures)
 
 pub where_each-returns : goal.where_each-returns
 where_each-returns g t c =
-    gather-end binding_of
+    let e : c.loop-binding.binding-iterator.rest.items ≡ [] = grind (arith, common_steps) in
+    used_up-end binding_of
     (WhereOne (language_in c.args.language.now) (calls_in c.args.setting.now c.args.height) (pattern_in c.args.pat.now) (template_of c.args.template.now))
-    c.args.bs.now c.loop-binding.binding-index (bindings_in c.loop-binding.found) c.loop-binding.invariant c.loop-binding-test.false
+    c.args.bs.items _ (bindings_in c.loop-binding.found) c.loop-binding.invariant e
 
 pub side_each-returns-in_err-t : goal.side_each-returns-in_err-t
 side_each-returns-in_err-t g t c =
     let C : Calls = calls_in c.args.setting.now c.args.height in
     let h : Host = host_of c.args.h.now in
-    let bs : List Binding = bindings_in c.args.bs in
-    let x : Binding = binding_of c.in-Some.binding in
-    let e = ap bindings_of c.in-Some.ensures.steps.0 in
-    error_handed_on tree_of bindings_in (HostMakes C x h) (Gather (SideOne C h) bs) c.from_residual-in_err-t.result _ c.from_residual-in_err-t.ensures.1
-    (λ f k. gathers-fault (SideOne C h) bs x _ _ (bindings_in c.loop-binding.found) f e (stops k) c.loop-binding.invariant) c.in_err-t.ensures
+    let x = c.in-Some.binding in
+    used_up-error binding_of (SideOne C h) c.args.bs.items _ (bindings_in c.loop-binding.found) c.loop-binding.invariant x _
+    c.in-Some.ensures.steps.0 tree_of bindings_in (HostMakes C (binding_of x) h) c.from_residual-in_err-t.result _
+    c.from_residual-in_err-t.ensures.1 (λ f k. stops k) c.in_err-t.ensures
 
 pub side_each-loop-binding-preserved : goal.side_each-loop-binding-preserved
 side_each-loop-binding-preserved g t c =
-    let R : Binding → Answer (List Binding) → Type 0 = SideOne (calls_in c.args.setting.now c.args.height) (host_of c.args.h.now) in
     let d : bindings_in c.append.new.self ≡ bindings_in c.loop-binding.found ++ bindings_in c.in_ok-more.more = grind (arith, common_steps) in
-    gathers-next R (bindings_in c.args.bs) (binding_of c.in-Some.binding) _ _ (bindings_in c.loop-binding.found) (bindings_in c.in_ok-more.more)
-    (bindings_in c.append.new.self) (ap bindings_of c.in-Some.ensures.steps.0) d (goes c.in_ok-t.ensures (ap value c.in_ok-more.ensures))
-    c.loop-binding.invariant
-
-pub side_each-loop-binding-preserved-in_ok-append : goal.side_each-loop-binding-preserved-in_ok-append
-side_each-loop-binding-preserved-in_ok-append g t c =
-    let R : Binding → Answer (List Binding) → Type 0 = SideOne (calls_in c.args.setting.now c.args.height) (host_of c.args.h.now) in
-    let d : bindings_in c.append.new.self ≡ bindings_in c.loop-binding.found ++ bindings_in c.in_ok-more.more = grind (arith, common_steps) in
-    gathers-next R (bindings_in c.args.bs) (binding_of c.in-Some.binding) _ _ (bindings_in c.loop-binding.found) (bindings_in c.in_ok-more.more)
-    (bindings_in c.append.new.self) (ap bindings_of c.in-Some.ensures.steps.0) d (goes c.in_ok-t.ensures (ap value c.in_ok-more.ensures))
-    c.loop-binding.invariant
-
-pub side_each-loop-binding-preserved-in_ok-append-2 : goal.side_each-loop-binding-preserved-in_ok-append-2
-side_each-loop-binding-preserved-in_ok-append-2 g t c =
-    let R : Binding → Answer (List Binding) → Type 0 = SideOne (calls_in c.args.setting.now c.args.height) (host_of c.args.h.now) in
-    let d : bindings_in c.append.new.self ≡ bindings_in c.loop-binding.found ++ bindings_in c.in_ok-more.more = grind (arith, common_steps) in
-    gathers-next R (bindings_in c.args.bs) (binding_of c.in-Some.binding) _ _ (bindings_in c.loop-binding.found) (bindings_in c.in_ok-more.more)
-    (bindings_in c.append.new.self) (ap bindings_of c.in-Some.ensures.steps.0) d (goes c.in_ok-t.ensures (ap value c.in_ok-more.ensures))
-    c.loop-binding.invariant
-
-pub side_each-loop-binding-preserved-in_ok-append-3 : goal.side_each-loop-binding-preserved-in_ok-append-3
-side_each-loop-binding-preserved-in_ok-append-3 g t c =
-    let R : Binding → Answer (List Binding) → Type 0 = SideOne (calls_in c.args.setting.now c.args.height) (host_of c.args.h.now) in
-    let d : bindings_in c.append.new.self ≡ bindings_in c.loop-binding.found ++ bindings_in c.in_ok-more.more = grind (arith, common_steps) in
-    gathers-next R (bindings_in c.args.bs) (binding_of c.in-Some.binding) _ _ (bindings_in c.loop-binding.found) (bindings_in c.in_ok-more.more)
-    (bindings_in c.append.new.self) (ap bindings_of c.in-Some.ensures.steps.0) d (goes c.in_ok-t.ensures (ap value c.in_ok-more.ensures))
-    c.loop-binding.invariant
+    used_up-next binding_of (SideOne (calls_in c.args.setting.now c.args.height) (host_of c.args.h.now)) c.args.bs.items _
+    (bindings_in c.loop-binding.found) c.loop-binding.invariant c.in-Some.binding _ c.in-Some.ensures.steps.0 (bindings_in c.in_ok-more.more)
+    (bindings_in c.append.new.self) d (goes c.in_ok-t.ensures (ap value c.in_ok-more.ensures))
 
 pub side_each-returns : goal.side_each-returns
 side_each-returns g t c =
     let e : c.loop-binding.binding-iterator.rest.items ≡ [] = grind (arith, common_steps) in
-    gathers-end (SideOne (calls_in c.args.setting.now c.args.height) (host_of c.args.h.now)) (bindings_in c.args.bs) _ (bindings_in c.loop-binding.found)
-    (ap bindings_of e) c.loop-binding.invariant
+    used_up-end binding_of (SideOne (calls_in c.args.setting.now c.args.height) (host_of c.args.h.now)) c.args.bs.items _
+    (bindings_in c.loop-binding.found) c.loop-binding.invariant e
 
 pub premise_each-returns-in_err-more : goal.premise_each-returns-in_err-more
 premise_each-returns-in_err-more g t c =
     let R : Binding → Answer (List Binding) → Type 0 =
     ByPremise (language_in c.args.language.now) (calls_in c.args.setting.now c.args.height) (premise_of c.args.premise.now) in
-    let x = c.b-item.result in
-    gather-error binding_of R c.args.bs.now c.loop-b.b-index (bindings_in c.loop-b.found) c.loop-b.invariant x c.loop-b-test.true c.b-item.is
-    bindings_in bindings_in (R (binding_of x)) c.from_residual-in_err-more.result _ c.from_residual-in_err-more.ensures.1 (λ f h. h) c.in_err-more.ensures
+    let x = c.in-Some.b in
+    used_up-error binding_of R c.args.bs.items _ (bindings_in c.loop-b.found) c.loop-b.invariant x _ c.in-Some.ensures.steps.0
+    bindings_in bindings_in (R (binding_of x)) c.from_residual-in_err-more.result _ c.from_residual-in_err-more.ensures.1 (λ f k. k)
+    c.in_err-more.ensures
 
 pub premise_each-loop-b-preserved : goal.premise_each-loop-b-preserved
 premise_each-loop-b-preserved g t c =
     let R : Binding → Answer (List Binding) → Type 0 =
     ByPremise (language_in c.args.language.now) (calls_in c.args.setting.now c.args.height) (premise_of c.args.premise.now) in
     let d : bindings_in c.append.new.self ≡ bindings_in c.loop-b.found ++ bindings_in c.in_ok-more.more = grind (arith, common_steps) in
-    gather-next binding_of R c.args.bs.now c.loop-b.b-index (bindings_in c.loop-b.found) c.loop-b.invariant c.b-item.result c.loop-b-test.true
-    c.b-item.is (bindings_in c.in_ok-more.more) (bindings_in c.append.new.self) d c.in_ok-more.ensures
+    used_up-next binding_of R c.args.bs.items _ (bindings_in c.loop-b.found) c.loop-b.invariant c.in-Some.b _ c.in-Some.ensures.steps.0
+    (bindings_in c.in_ok-more.more) (bindings_in c.append.new.self) d c.in_ok-more.ensures
 
 pub premise_each-returns : goal.premise_each-returns
 premise_each-returns g t c =
-    gather-end binding_of
+    let e : c.loop-b.b-iterator.rest.items ≡ [] = grind (arith, common_steps) in
+    used_up-end binding_of
     (ByPremise (language_in c.args.language.now) (calls_in c.args.setting.now c.args.height) (premise_of c.args.premise.now))
-    c.args.bs.now c.loop-b.b-index (bindings_in c.loop-b.found) c.loop-b.invariant c.loop-b-test.false
+    c.args.bs.items _ (bindings_in c.loop-b.found) c.loop-b.invariant e
 
 -- ---- premises
 
@@ -244,7 +212,7 @@ by_premise-returns-in_err-ins g t c =
     let C : Calls = calls_in c.args.setting.now c.args.height in
     let L : Language = language_in c.args.language.now in
     let q : Premise = premise_of c.args.premise.now in
-    let b : Binding = binding_of c.args.b.now in
+    let b : Binding = binding_of c.args.b in
     error_handed_on tree_of bindings_in (MakeList C b (map template_of c.deref.result.now)) (ByPremise L C q b)
     c.from_residual-in_err-ins.result _ c.from_residual-in_err-ins.ensures.1
     (λ f h. stops (stops (subst (λ (ts : List code_template.Template). MakeList C b (map template_of ts) (fault f)) c.deref.ensures.value h)))
@@ -255,7 +223,7 @@ by_premise-returns-in_err-found g t c =
     let C : Calls = calls_in c.args.setting.now c.args.height in
     let L : Language = language_in c.args.language.now in
     let q : Premise = premise_of c.args.premise.now in
-    let b : Binding = binding_of c.args.b.now in
+    let b : Binding = binding_of c.args.b in
     let u : Tree = tree_of c.in_ok-ins.ins in
     let m : MakeList C b q.inputs (value u) =
     subst (λ (ts : List code_template.Template). MakeList C b (map template_of ts) (value u)) c.deref.ensures.value c.in_ok-ins.ensures in
@@ -267,7 +235,7 @@ by_premise-returns g t c =
     let C : Calls = calls_in c.args.setting.now c.args.height in
     let L : Language = language_in c.args.language.now in
     let q : Premise = premise_of c.args.premise.now in
-    let b : Binding = binding_of c.args.b.now in
+    let b : Binding = binding_of c.args.b in
     let u : Tree = tree_of c.in_ok-ins.ins in
     let bs : List Binding = bindings_in c.in_ok-matched_each.field-0 in
     let m : MakeList C b q.inputs (value u) =
