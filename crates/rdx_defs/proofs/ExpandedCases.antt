@@ -6,6 +6,7 @@ use Rattle.rdx_grammar.specs.Kinds.{is_among}
 use Rattle.rdx_grammar.specs.Parts.{text_of}
 use Rattle.rdx_grammar.proofs.Firsts.{none_first}
 use Rattle.rdx_defs.specs.Expansion.{by_shortcut, once_expanded, expanded_case, new_arrows, repeated_arrows}
+use Rattle.rdx_lang.proofs.FirstPlaces.{place-above, place-within}
 use Rattle.rdx_defs.specs.Inside.Arrows.{place_from, below}
 use Rattle.rdx_defs.specs.Inside.ShortcutViews.{shortcut_of, shortcuts_in}
 use Rattle.rdx_defs.specs.RelationForms.{CaseForm}
@@ -31,18 +32,6 @@ stays (s ∷ ss) zero c h = refl
 stays (s ∷ ss) (suc n) c h =
     let k = neither (bytes_eq (text_of s.new) (text_of c.arrow)) (is_among (new_arrows ss) (text_of c.arrow)) h in
     ap (once_expanded s) (stays ss n c k.1) ∙ once-by s c false k.0
-
--- a place is not before the first
-place-above : (j : ℕ) (x : List ℕ) (ss : List Shortcut) (k : ℕ) → place_from j x ss ≡ Some k → j ≤ k
-place-above j x [] k e = absurd cc
-place-above j x (s ∷ ss) k e = by_test (bytes_eq (text_of s.new) x) e (place-above (suc j) x ss k)
-  where
-    same : Some j ≡ Some k → j ≡ k
-    same h = cc
-
-    by_test : (b : Bool) → (if b then Some j else place_from (suc j) x ss) ≡ Some k → (place_from (suc j) x ss ≡ Some k → suc j ≤ k) → j ≤ k
-    by_test true f h = let g : j ≡ k = same f in omega arith
-    by_test false f h = let g = h f in omega arith
 
 -- at the place of its arrow, of shortcuts with different arrows that have the places from j on
 step-from : (j : ℕ) (seen : List (List ℕ)) (ss : List Shortcut) (n i k : ℕ) (c : CaseForm) (s : Shortcut) → repeated_arrows seen ss ≡ []
@@ -76,7 +65,7 @@ step-from j seen (t ∷ ss) (suc n) i k c s d p e h g =
         not-again (text_of t.new ∷ seen) x ss (first_so (bytes_eq (text_of t.new) x) (is_among seen x) f) rest in
         ap (once_expanded t) (stays ss n c others) ∙ once-by t c true f ∙ ap (λ (r : Shortcut). by_shortcut r c) (sym g)
     by_test true f q later (suc i) e h g = let r : j ≡ k = same q in absurd (omega arith)
-    by_test false f q later zero e h g = let r = place-above (suc j) x ss k q in absurd (omega arith)
+    by_test false f q later zero e h g = let r = place-above (λ (t : Shortcut). text_of t.new) (suc j) x ss k q in absurd (omega arith)
     by_test false f q later (suc i) e h g = ap (once_expanded t) (later i q (omega arith) (omega arith) g)
 
 -- where its arrow is none of those before the limit
@@ -139,21 +128,9 @@ pub expanded-last : (ss : List Shortcut) (n : ℕ) (c : CaseForm) → below n (p
     → expanded_case (take n ss) c ≡ c
 expanded-last ss n c e = stop-from 0 ss n c (λ k q. let r = below-none n (place_from 0 (text_of c.arrow) ss) e k q in omega arith)
 
--- a place is one of a shortcut
-place-within : (j : ℕ) (x : List ℕ) (ss : List Shortcut) (k : ℕ) → place_from j x ss ≡ Some k → k < j + length ss
-place-within j x [] k e = absurd cc
-place-within j x (s ∷ ss) k e = by_test (bytes_eq (text_of s.new) x) e (place-within (suc j) x ss k)
-  where
-    same : Some j ≡ Some k → j ≡ k
-    same h = cc
-
-    by_test : (b : Bool) → (if b then Some j else place_from (suc j) x ss) ≡ Some k
-        → (place_from (suc j) x ss ≡ Some k → k < suc j + length ss) → k < j + suc (length ss)
-    by_test true f h = let g : j ≡ k = same f in omega arith
-    by_test false f h = let g = h f in omega arith
-
+-- a place that is below a limit is one of a shortcut
 pub below-within : (n i : ℕ) (x : List ℕ) (ss : List Shortcut) → below n (place_from 0 x ss) ≡ Some i → i < length ss
-below-within n i x ss e = let k = below-some n i (place_from 0 x ss) e in let h = place-within 0 x ss i k.0 in omega arith
+below-within n i x ss e = let k = below-some n i (place_from 0 x ss) e in place-within (λ (s : Shortcut). text_of s.new) 0 i i x ss k.0 (omega arith)
 
 -- ---- shortcuts of the code
 

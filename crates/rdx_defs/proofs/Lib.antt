@@ -51,7 +51,6 @@ pub mod ScopeParts
 pub mod ScopeForms
 pub mod ShorthandCuts
 pub mod ArrowPlaces
-pub mod NamedPlaces
 pub mod FoundDepths
 pub mod ShorthandRefused
 pub mod NestedShortcuts

@@ -7,5 +7,5 @@ mod readings;
 mod refusals;
 mod stands;
 
-pub use premises::{ReadPremise, read_premise};
-pub use reader::{judgement_name, read_judgement};
+pub use premises::{ReadPremise, read_premise, read_premise_over};
+pub use reader::{judgement_name, read_judgement, read_judgement_over};

@@ -28,10 +28,13 @@ mod shorthand;
 mod stands;
 mod templates;
 
-pub use judgements::{ReadPremise, judgement_name, read_judgement, read_premise};
-pub use metafunctions::{metafunction_name, read_metafunction};
+pub use judgements::{
+    ReadPremise, judgement_name, read_judgement, read_judgement_over, read_premise,
+    read_premise_over,
+};
+pub use metafunctions::{metafunction_name, read_metafunction, read_metafunction_over};
 pub use operations::operation_text;
-pub use relations::{read_relation, relation_ends};
+pub use relations::{read_relation, read_relation_over, relation_ends};
 pub use scope::Scope;
 pub use scopes::{judgement_languages, scope_of};
 pub use shorthand::expand_with;

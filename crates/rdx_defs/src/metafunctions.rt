@@ -7,4 +7,4 @@ pub(crate) mod readings;
 pub(crate) mod stands;
 
 pub use names::metafunction_name;
-pub use reader::read_metafunction;
+pub use reader::{read_metafunction, read_metafunction_over};

@@ -7,4 +7,4 @@ pub(crate) mod readings;
 pub(crate) mod stands;
 
 pub use ends::relation_ends;
-pub use reader::read_relation;
+pub use reader::{read_relation, read_relation_over};

@@ -1,6 +1,7 @@
 // What the whole file defines.
 ghost use Rattle.std.specs.Prelude.{IfOk};
-ghost use Rattle.rdx_defs.specs.Model.Places.{FindsPlaces};
+ghost use Rattle.std.specs.BTreeMap.{get_by_text};
+ghost use Rattle.rdx_lang.specs.Model.Places.{FindsPlaces};
 
 use rdx_term::{Name, NoMemory};
 use std::alloc::Global;
@@ -19,13 +20,13 @@ pub struct Scope {
     functions_at: BTreeMap<String, usize>,
     // The same of judgements.
     judgements_at: BTreeMap<String, usize>,
-    ghost finds_functions: { FindsPlaces (λ n. n) functions_at 0 metafunctions.items },
-    ghost finds_judgements: { FindsPlaces (λ j. j.0) judgements_at 0 judgements.items },
+    ghost finds_functions: { FindsPlaces (λ n. n) (get_by_text functions_at) 0 metafunctions.items },
+    ghost finds_judgements: { FindsPlaces (λ j. j.0) (get_by_text judgements_at) 0 judgements.items },
 }
 
 // The places of these names, of each that of the first.
 fn places_of(alloc: Global, names: &[Name]) -> Result<BTreeMap<String, usize>, NoMemory>
-    ensures { IfOk result (λ places. FindsPlaces (λ n. n) places 0 names.now) }
+    ensures { IfOk result (λ places. FindsPlaces (λ n. n) (get_by_text places) 0 names.now) }
 {
     let mut places = BTreeMap::new(alloc);
     for place in (0..names.len()).rev() {
@@ -39,7 +40,7 @@ fn judgement_places(
     alloc: Global,
     judgements: &[(Name, Vec<bool>)],
 ) -> Result<BTreeMap<String, usize>, NoMemory>
-    ensures { IfOk result (λ places. FindsPlaces (λ j. j.0) places 0 judgements.now) }
+    ensures { IfOk result (λ places. FindsPlaces (λ j. j.0) (get_by_text places) 0 judgements.now) }
 {
     let mut places = BTreeMap::new(alloc);
     for place in (0..judgements.len()).rev() {

@@ -16,7 +16,6 @@ use Rattle.rdx_grammar.specs.Checks.{bad_pattern, bad_patterns}
 use Rattle.rdx_grammar.specs.Definitions.{Definition, definition_in}
 use Rattle.rdx_grammar.specs.Extension.{heads, redefined, added}
 use Rattle.rdx_grammar.specs.Forms.{GrammarForm}
-use Rattle.rdx_grammar.specs.Kinds.{is_among}
 use Rattle.rdx_grammar.specs.Languages.{definitions_of, written_over, language_over}
 use Rattle.rdx_grammar.specs.Nonterminals.{names_in, all_names}
 use Rattle.rdx_grammar.specs.Occurrences.{occurrences}

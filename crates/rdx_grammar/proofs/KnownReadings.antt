@@ -1,5 +1,5 @@
 -- Readings in a language that has the cross nonterminals for which what is read asks.
-use Rattle.std.proofs.Common.{◌≡◌, ℕ, Bool, true, false, inl, inr, List, [], ◌∷◌, ◌++◌, None, refl, sym, ap, ◌∙◌, subst, if◌then◌else◌}
+use Rattle.std.proofs.Common.{◌≡◌, ℕ, Bool, true, false, inl, inr, List, [], ◌∷◌, None, refl, sym, ap, ◌∙◌, subst, if◌then◌else◌}
 use Rattle.std.specs.Prelude.{flat_map}
 use Rattle.rdx_base.specs.declared.place.Span.{Span}
 use Rattle.rdx_sexp.specs.Sexp.{Sexp, Sexps, list, cons}

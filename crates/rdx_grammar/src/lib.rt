@@ -21,7 +21,7 @@ pub mod shape;
 pub use crosses::{add_crosses_for, add_crosses_of, cross_of};
 pub use languages::{extend, read_language};
 pub use patterns::{
-    Names, Position, add_ends, checks, ends_in, heads, language_names, occurrences, read_pattern,
-    readings, symbol_name,
+    Names, Position, add_ends, checks, ends_in, heads, occurrences, read_pattern,
+    read_pattern_over, readings, symbol_name,
 };
 pub use shape::{DefFault, DefKind, DefRefusal, names, refusal, unbuilt};

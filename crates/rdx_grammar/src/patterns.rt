@@ -16,6 +16,5 @@ mod refusals;
 pub(crate) use ends::known_ends;
 pub use ends::{add_ends, ends_in};
 pub use names::{Names, symbol_name};
-pub use nonterminals::language_names;
 pub use position::Position;
-pub use reader::read_pattern;
+pub use reader::{read_pattern, read_pattern_over};

@@ -1,5 +1,5 @@
-pub mod FirstPlaces
 pub mod PlacesKnown
+pub mod KeptNames
 pub mod Upto
 pub mod Whether
 pub mod OneReading

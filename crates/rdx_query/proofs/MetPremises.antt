@@ -19,7 +19,7 @@ use Rattle.rdx_eval.specs.Answers.{Answer, value, fault, Fault, Then, stops, goe
 use Rattle.rdx_eval.specs.Extending.{MeetsOver}
 use Rattle.rdx_eval.specs.Heights.{calls_at, height}
 use Rattle.rdx_eval.proofs.Gathered.{Gathers, gathers-start, gathers-next, gathers-fault, gathers-end}
-use Rattle.rdx_query.specs.HoldsAnswers.{FindsMet, values_of, no_bindings, Values, WritesValues, IsValuesAnswer}
+use Rattle.rdx_query.specs.HoldsAnswers.{FindsMet, values_of, bindings_faulted, Values, WritesValues, IsValuesAnswer}
 
 -- ---- premises
 
@@ -38,7 +38,7 @@ finds_met P q J found e m = met_over P q J (language_named P J.language) found e
 -- what is written for the values that a template has of what is found
 pub values_answer : (P : Program) (q : Premise) (t : Template) (values : Answer (List Tree)) (text : List ℕ) (met : Bool)
     → Then (FindsMet P q) (Values (calls_at P height) t) values → WritesValues values text met → IsValuesAnswer P q t text met
-values_answer P q t values text met (stops {f} h) w = record { found = fault f; finds = h; values = fault f; made = no_bindings; written = w }
+values_answer P q t values text met (stops {f} h) w = record { found = fault f; finds = h; values = fault f; made = bindings_faulted; written = w }
 values_answer P q t values text met (goes {x = bs} h k) w = record { found = value bs; finds = h; values = values; made = values_of k; written = w }
 
 -- of members so far, keys are the listing of what they give; whatever the rest gives, behind that, all give

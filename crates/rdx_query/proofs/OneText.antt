@@ -34,12 +34,12 @@ use Rattle.rdx_run.specs.Walks.{Walk, Walks}
 use Rattle.rdx_query.specs.Answering.{HostValue, HostValues, Over, over_value, over_fault, OverEach, over_values, over_first_fault, IsValueAnswer, IsAnswer, AreAnswers, no_answers, more_answers, counts_behind, Writes}
 use Rattle.rdx_query.specs.Known.{Known}
 use Rattle.rdx_query.specs.File.{known_before}
-use Rattle.rdx_query.specs.HoldsAnswers.{FindsMet, WritesWhether, whether_found, not_found, IsHoldsAnswer, ValuesOf, values_of, no_bindings, WritesValues, values_found, no_values, IsValuesAnswer, IsPremiseAnswer}
+use Rattle.rdx_query.specs.HoldsAnswers.{FindsMet, WritesWhether, whether_found, question_faulted, IsHoldsAnswer, ValuesOf, values_of, bindings_faulted, WritesValues, values_found, values_faulted, IsValuesAnswer, IsPremiseAnswer}
 use Rattle.rdx_query.specs.MatchAnswers.{Finds, FindsSplits, IsMatchesAnswer, IsWhetherAnswer, IsSplitsAnswer}
 use Rattle.rdx_query.specs.Queries.{Query, matches, whether, splits, value, holds, reducts, tagged, stepper, test_equal, test_step, test_run, test_match, test_holds, test_results}
-use Rattle.rdx_query.specs.StepAnswers.{reducts_in, WritesReducts, reducts_found, no_reducts, WritesSteps, steps_found, no_steps, IsReductsAnswer, IsTaggedAnswer}
+use Rattle.rdx_query.specs.StepAnswers.{reducts_in, WritesReducts, reducts_found, reducts_faulted, WritesSteps, steps_found, steps_faulted, IsReductsAnswer, IsTaggedAnswer}
 use Rattle.rdx_query.specs.StepperAnswers.{walk_text, is_done, IsStepperAnswer}
-use Rattle.rdx_query.specs.TestAnswers.{ComparesSteps, steps_compared, no_steps as no_steps_compared, ComparesEnd, rest_compared, run_fails, run_branches, run_is_bound, IsStepTestAnswer, IsRunTestAnswer, IsMatchTestAnswer, WritesVerdict, verdict_found, not_found as no_verdict, IsHoldsTestAnswer, IsResultsAnswer}
+use Rattle.rdx_query.specs.TestAnswers.{ComparesSteps, steps_compared, steps_faulted as no_steps_compared, ComparesEnd, rest_compared, run_fails, run_branches, run_is_bound, IsStepTestAnswer, IsRunTestAnswer, IsMatchTestAnswer, WritesVerdict, verdict_found, question_faulted as no_verdict, IsHoldsTestAnswer, IsResultsAnswer}
 use Rattle.rdx_query.specs.Tests.{Compares, Counts, no_tests, verdict_line, as_wanted}
 use Rattle.rdx_query.proofs.Compared.{compares-once}
 use Rattle.rdx_query.proofs.OneReading.{accepts-one}
@@ -77,24 +77,24 @@ once-reducts (evaluation.value ss) t u m n (reducts_found ts l e f) (reducts_fou
   text = e ∙ ap reducts_text (one_ascending tree_cmp (λ (x : Tree). In x (reducts_in ss)) ts us tree_cmp-total l k) ∙ sym g;
   met = f ∙ sym h;
 }
-once-reducts (fault p) t u m n (no_reducts e f) (no_reducts g h) = record { text = e ∙ sym g; met = f ∙ sym h }
+once-reducts (fault p) t u m n (reducts_faulted e f) (reducts_faulted g h) = record { text = e ∙ sym g; met = f ∙ sym h }
 
 -- and have one text with the names of their rules
 once-steps : (rs : List Rule) (a : Answer (List Step)) → OnceWritten (WritesSteps rs a)
 once-steps rs (evaluation.value ss) t u m n (steps_found e f) (steps_found g h) = record { text = e ∙ sym g; met = f ∙ sym h }
-once-steps rs (fault p) t u m n (no_steps e f) (no_steps g h) = record { text = e ∙ sym g; met = f ∙ sym h }
+once-steps rs (fault p) t u m n (steps_faulted e f) (steps_faulted g h) = record { text = e ∙ sym g; met = f ∙ sym h }
 
 -- ---- what is written over a premise
 
 -- equal answers of bindings are written in one way
 once-met : (a : Answer (List Binding)) → OnceWritten (WritesWhether a)
 once-met (evaluation.value bs) t u m n (whether_found e f) (whether_found g h) = record { text = e ∙ sym g; met = f ∙ sym h }
-once-met (fault p) t u m n (not_found e f) (not_found g h) = record { text = e ∙ sym g; met = f ∙ sym h }
+once-met (fault p) t u m n (question_faulted e f) (question_faulted g h) = record { text = e ∙ sym g; met = f ∙ sym h }
 
 -- and so are those of values
 once-written_values : (a : Answer (List Tree)) → OnceWritten (WritesValues a)
 once-written_values (evaluation.value ts) t u m n (values_found e f) (values_found g h) = record { text = e ∙ sym g; met = f ∙ sym h }
-once-written_values (fault p) t u m n (no_values e f) (no_values g h) = record { text = e ∙ sym g; met = f ∙ sym h }
+once-written_values (fault p) t u m n (values_faulted e f) (values_faulted g h) = record { text = e ∙ sym g; met = f ∙ sym h }
 
 -- ---- what is written of tests
 
@@ -234,7 +234,7 @@ module _ (one_listing : OneListing) (one_splits : OneSplitsListing) (one_term : 
       let R : Binding → Answer Tree → Type 0 = λ b. Makes (calls_at P height) b t in
       once-then (Gather (λ b. Single (R b)) bs) _ (once-gather (λ b. Single (R b)) (λ b. once-single (R b) (one_term P height b t)) bs)
       (λ ts. once-lists tree_cmp (λ u. In u ts) tree_cmp-total) r s h k
-  once-values P t (fault f) r s no_bindings no_bindings = refl
+  once-values P t (fault f) r s bindings_faulted bindings_faulted = refl
 
   once-holds : (P : Program) (q : Premise) → OnceWritten (IsHoldsAnswer P q)
   once-holds P q text other m n a b =

@@ -31,13 +31,13 @@ use Rattle.rdx_run.specs.Runs as run
 use Rattle.rdx_run.specs.Runs.{RunEnd, most_steps}
 use Rattle.rdx_query.specs.Answering.{HostValue, HostValues, Over, over_value, over_fault, OverEach, over_values, over_first_fault, IsValueAnswer, IsAnswer, AreAnswers, no_answers, more_answers, counts_behind}
 use Rattle.rdx_query.specs.File.{known_before}
-use Rattle.rdx_query.specs.HoldsAnswers.{FindsMet, WritesWhether, whether_found, not_found, ValuesOf, values_of, no_bindings, WritesValues, values_found, no_values, IsPremiseAnswer}
+use Rattle.rdx_query.specs.HoldsAnswers.{FindsMet, WritesWhether, whether_found, question_faulted, ValuesOf, values_of, bindings_faulted, WritesValues, values_found, values_faulted, IsPremiseAnswer}
 use Rattle.rdx_query.specs.Laws.{AreAccepted, AreRefused, DoWrite}
 use Rattle.rdx_query.specs.MatchAnswers.{Finds, FindsSplits, IsMatchesAnswer, IsWhetherAnswer, IsSplitsAnswer}
 use Rattle.rdx_query.specs.Queries.{Query, matches, whether, splits, value, holds, reducts, tagged, stepper, test_equal, test_step, test_run, test_match, test_holds, test_results, NamesKnown, KnowsJudgement, KnowsRelation}
-use Rattle.rdx_query.specs.StepAnswers.{reducts_in, named_steps, AreReducts, WritesReducts, reducts_found, no_reducts, WritesSteps, steps_found, no_steps, IsReductsAnswer, IsTaggedAnswer}
+use Rattle.rdx_query.specs.StepAnswers.{reducts_in, named_steps, AreReducts, WritesReducts, reducts_found, reducts_faulted, WritesSteps, steps_found, steps_faulted, IsReductsAnswer, IsTaggedAnswer}
 use Rattle.rdx_query.specs.StepperAnswers.{walk_text, is_done, IsStepperAnswer}
-use Rattle.rdx_query.specs.TestAnswers.{ComparesSteps, steps_compared, no_steps as no_steps_compared, ComparesEnd, rest_compared, run_fails, run_branches, run_is_bound, IsStepTestAnswer, IsRunTestAnswer, IsMatchTestAnswer, WritesVerdict, verdict_found, not_found as no_verdict, IsHoldsTestAnswer}
+use Rattle.rdx_query.specs.TestAnswers.{ComparesSteps, steps_compared, steps_faulted as no_steps_compared, ComparesEnd, rest_compared, run_fails, run_branches, run_is_bound, IsStepTestAnswer, IsRunTestAnswer, IsMatchTestAnswer, WritesVerdict, verdict_found, question_faulted as no_verdict, IsHoldsTestAnswer}
 use Rattle.rdx_query.specs.Tests.{Compares, Counts, no_tests, verdict_line, as_wanted, results_line}
 use Rattle.rdx_query.specs.Views.{AllNamesKnown}
 use Rattle.rdx_query.proofs.AcceptedOrRefused.{accepted_or_refused}
@@ -75,21 +75,21 @@ are_reducts ss =
 write-reducts : (a : Answer (List Step)) → DoesWrite (WritesReducts a)
 write-reducts (evaluation.value ss) =
     record { text = reducts_text (reduct_list ss); met = true; written = reducts_found (reduct_list ss) (are_reducts ss) refl refl }
-write-reducts (fault f) = record { text = fault_line f; met = false; written = no_reducts refl refl }
+write-reducts (fault f) = record { text = fault_line f; met = false; written = reducts_faulted refl refl }
 
 write-steps : (rs : List Rule) (a : Answer (List Step)) → DoesWrite (WritesSteps rs a)
 write-steps rs (evaluation.value ss) = record { text = steps_text (named_steps rs ss); met = true; written = steps_found refl refl }
-write-steps rs (fault f) = record { text = fault_line f; met = false; written = no_steps refl refl }
+write-steps rs (fault f) = record { text = fault_line f; met = false; written = steps_faulted refl refl }
 
 -- ---- what is written over a premise
 
 write-met : (a : Answer (List Binding)) → DoesWrite (WritesWhether a)
 write-met (evaluation.value bs) = record { text = holds_text (judging.are_some bs); met = true; written = whether_found refl refl }
-write-met (fault f) = record { text = fault_line f; met = false; written = not_found refl refl }
+write-met (fault f) = record { text = fault_line f; met = false; written = question_faulted refl refl }
 
 write-found_values : (a : Answer (List Tree)) → DoesWrite (WritesValues a)
 write-found_values (evaluation.value ts) = record { text = answers_text ts; met = true; written = values_found refl refl }
-write-found_values (fault f) = record { text = fault_line f; met = false; written = no_values refl refl }
+write-found_values (fault f) = record { text = fault_line f; met = false; written = values_faulted refl refl }
 
 -- ---- what is written of tests
 
@@ -153,7 +153,7 @@ module _ (decided : FreeOrRecursive) (some : SomeListing) (some_splits : SomeSpl
       let s = some-then (Gather (λ b. Single (R b)) bs) _ (some-gather (λ b. Single (R b)) (λ b. some-single (R b) (some_term P height b t f)) bs)
       (some-lists tree_cmp tree_cmp-total tree_cmp-equal) in
       record { answer = s.answer; allowed = values_of s.allowed }
-  are_values P t f (fault p) = record { answer = fault p; allowed = no_bindings }
+  are_values P t f (fault p) = record { answer = fault p; allowed = bindings_faulted }
 
   write-premise : (P : Program) (q : Premise) (o : Option Template) → AreFree P → KnowsJudgement P q.judgement → DoesWrite (IsPremiseAnswer P q o)
   write-premise P q None f n =

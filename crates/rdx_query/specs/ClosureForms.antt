@@ -1,4 +1,4 @@
--- Forms that define a relation as a closure of another one, `(define R (context-closure R0 L p))` and `(define R (compatible-closure R0 L e))`:
+-- Forms that define a relation as a closure of another one, `(define R (context-closure r L p))` and `(define R (compatible-closure r L e))`:
 -- when they are refused, and what they define else (the Redex reference manual, "Reduction Relations").
 use Rattle.std.specs.Prelude.{ℕ, List, [], ◌∷◌, Option, Some, None, bytes_eq, option_map, if◌then◌else◌}
 use Rattle.rdx_sexp.specs.Sexp.{Sexp}
@@ -87,7 +87,7 @@ abbrev pub context_refusal_by : Known → Sexp → DefineParts → Option Closur
 context_refusal_by K d q None = misshaped_refusal d q
 context_refusal_by K d q (Some c) = context_refusal_over K d q c (closure_names K c) (occurrences 0 c.by)
 
--- the refusal of `(define R (context-closure R0 L p))`
+-- the refusal of `(define R (context-closure r L p))`
 abbrev pub context_refusal : Known → Sexp → DefineParts → Option Refusal
 context_refusal K d q = context_refusal_by K d q (closure_parts q.body)
 
@@ -117,7 +117,7 @@ compatible_refusal_by K d q (Some c) =
     ∷ unknown_closed_at K c  -- S8
     ∷ [])
 
--- the refusal of `(define R (compatible-closure R0 L e))`
+-- the refusal of `(define R (compatible-closure r L e))`
 abbrev pub compatible_refusal : Known → Sexp → DefineParts → Option Refusal
 compatible_refusal K d q = compatible_refusal_by K d q (with_symbol (closure_parts q.body))
 

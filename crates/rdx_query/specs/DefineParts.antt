@@ -10,9 +10,9 @@ use Rattle.rdx_grammar.specs.Parts.{parts, is_symbol}
 pub data DefineKind : Type 0 where
   -- `(reduction-relation L case ...)`
   by_cases : DefineKind
-  -- `(context-closure R0 L p)`
+  -- `(context-closure r L p)`
   by_contexts : DefineKind
-  -- `(compatible-closure R0 L e)`
+  -- `(compatible-closure r L e)`
   by_crosses : DefineKind
 
 -- by the word at its head
@@ -69,7 +69,7 @@ pub record ClosureParts : Type 0 where
   pub language : Sexp
   pub by : Sexp
 
--- the parts of a list `(head R0 L by)`
+-- the parts of a list `(head r L by)`
 abbrev pub closure_among : Option (List Sexp) → Option ClosureParts
 closure_among (Some (h ∷ r ∷ l ∷ p ∷ [])) = if is_symbol r && is_symbol l then Some (record { relation = r; language = l; by = p }) else None
 closure_among o = None
@@ -78,7 +78,7 @@ closure_among o = None
 abbrev pub closure_parts : Sexp → Option ClosureParts
 closure_parts d = closure_among (parts d)
 
--- those of `(compatible-closure R0 L e)`, where e has to be a symbol
+-- those of `(compatible-closure r L e)`, where e has to be a symbol
 abbrev pub with_symbol : Option ClosureParts → Option ClosureParts
 with_symbol None = None
 with_symbol (Some q) = if is_symbol q.by then Some q else None

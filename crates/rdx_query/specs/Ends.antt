@@ -24,7 +24,7 @@ abbrev pub define_ends : Option DefineParts → List (List ℕ)
 define_ends None = []
 define_ends (Some q) = kind_ends q.kind q.body
 
--- the nonterminals to which a form asks for cross nonterminals: `(define R (compatible-closure R0 L e))` for those to e, and so each list
+-- the nonterminals to which a form asks for cross nonterminals: `(define R (compatible-closure r L e))` for those to e, and so each list
 -- `(cross e)` in it, and in what a relation is without its shorthand, where such a list may stand that stands nowhere in the form
 abbrev pub form_ends : Sexp → List (List ℕ)
 form_ends d = define_ends (define_parts d) ++ ends_in d

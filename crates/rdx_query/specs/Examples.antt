@@ -189,10 +189,10 @@ LengthInDecimal = pair_text (codes "..._a", len 2) ≡ codes "..._a = 2"
 -- ---- why files are refused
 
 -- The first form that is refused counts, although a later one is refused by a check with a lesser number: in
--- `(define-language L (e 1)) (redex-match M 1 (term 1)) 7` it is M that is not known, and not that 7 is no form so far.
+-- `(define-language L (e 1)) (redex-match M 1 (term 1)) (redex-match L 1)` it is M that is not known, and not that the last form has no term.
 abbrev pub FirstRefusedForm : Type 0
 FirstRefusedForm = (s m : Span) →
-    IsFileRefusal (defines_L s ∷ asks s (word m (codes "M")) (number s 1) (number s 1) ∷ number s 7 ∷ []) (named UnknownLanguage (word m (codes "M")))
+    IsFileRefusal (defines_L s ∷ asks s (word m (codes "M")) (number s 1) (number s 1) ∷ form s (word s (codes "redex-match") ∷ word s (codes "L") ∷ number s 1 ∷ []) ∷ []) (named UnknownLanguage (word m (codes "M")))
 
 -- An extension sees the languages before it, and no later one: `(define-extended-language M L (e ....)) (define-language L (e 1))` is
 -- refused at L, which is not known there.

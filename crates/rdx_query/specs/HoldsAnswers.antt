@@ -28,7 +28,7 @@ pub record FindsMet (P : Program) (q : Premise) (found : Answer (List Binding)) 
 -- what is written for the bindings: whether there are some, or the fault that there is on the way, by which something stays unmet
 pub data WritesWhether : Answer (List Binding) → List ℕ → Bool → Type 0 where
   whether_found : {bs : List Binding} {text : List ℕ} {met : Bool} → text ≡ holds_text (are_some bs) → IsTrue met → WritesWhether (value bs) text met
-  not_found : {f : Fault} {text : List ℕ} {met : Bool} → text ≡ fault_line f → IsFalse met → WritesWhether (fault f) text met
+  question_faulted : {f : Fault} {text : List ℕ} {met : Bool} → text ≡ fault_line f → IsFalse met → WritesWhether (fault f) text met
 
 -- `(judgment-holds (J d ...))` writes whether the premise is met; nothing is stated that could be unmet
 pub record IsHoldsAnswer (P : Program) (q : Premise) (text : List ℕ) (met : Bool) : Type 0 where
@@ -45,12 +45,12 @@ Values C t bs = Then (Gather (λ b. Single (Makes C b t)) bs) (λ ts. Lists tree
 -- the same, where bindings are found, or the fault that there is on the way
 pub data ValuesOf (C : Calls) (t : Template) : Answer (List Binding) → Answer (List Tree) → Type 0 where
   values_of : {bs : List Binding} {r : Answer (List Tree)} → Values C t bs r → ValuesOf C t (value bs) r
-  no_bindings : {f : Fault} → ValuesOf C t (fault f) (fault f)
+  bindings_faulted : {f : Fault} → ValuesOf C t (fault f) (fault f)
 
 -- what is written for the values: each of them, or the fault
 pub data WritesValues : Answer (List Tree) → List ℕ → Bool → Type 0 where
   values_found : {ts : List Tree} {text : List ℕ} {met : Bool} → text ≡ answers_text ts → IsTrue met → WritesValues (value ts) text met
-  no_values : {f : Fault} {text : List ℕ} {met : Bool} → text ≡ fault_line f → IsFalse met → WritesValues (fault f) text met
+  values_faulted : {f : Fault} {text : List ℕ} {met : Bool} → text ≡ fault_line f → IsFalse met → WritesValues (fault f) text met
 
 -- `(judgment-holds (J d ...) t)` writes each value that the template has for a binding that meets the premise; nothing is stated that could be unmet
 pub record IsValuesAnswer (P : Program) (q : Premise) (t : Template) (text : List ℕ) (met : Bool) : Type 0 where

@@ -1,6 +1,5 @@
 -- What only clauses inside the crate cite.
 pub mod KindViews
-pub mod Firsts
 pub mod Tabled
 pub mod KnownView
 pub mod PartViews

@@ -32,12 +32,12 @@ named_steps rs ss = map (λ s. (name_at rs s.rule, s.reduct)) ss
 pub data WritesReducts : Answer (List Step) → List ℕ → Bool → Type 0 where
   reducts_found : {ss : List Step} {text : List ℕ} {met : Bool} (ts : List Tree) →
       AreReducts ss ts → text ≡ reducts_text ts → IsTrue met → WritesReducts (value ss) text met
-  no_reducts : {f : Fault} {text : List ℕ} {met : Bool} → text ≡ fault_line f → IsFalse met → WritesReducts (fault f) text met
+  reducts_faulted : {f : Fault} {text : List ℕ} {met : Bool} → text ≡ fault_line f → IsFalse met → WritesReducts (fault f) text met
 
 -- and each step by these rules, with the name of its rule
 pub data WritesSteps (rs : List Rule) : Answer (List Step) → List ℕ → Bool → Type 0 where
   steps_found : {ss : List Step} {text : List ℕ} {met : Bool} → text ≡ steps_text (named_steps rs ss) → IsTrue met → WritesSteps rs (value ss) text met
-  no_steps : {f : Fault} {text : List ℕ} {met : Bool} → text ≡ fault_line f → IsFalse met → WritesSteps rs (fault f) text met
+  steps_faulted : {f : Fault} {text : List ℕ} {met : Bool} → text ≡ fault_line f → IsFalse met → WritesSteps rs (fault f) text met
 
 -- `apply-reduction-relation`, by the relation of this name
 pub record IsReductsAnswer (P : Program) (name : List ℕ) (t : Tree) (text : List ℕ) (met : Bool) : Type 0 where

@@ -21,7 +21,7 @@ use Rattle.rdx_query.specs.Tests.{Compares, Counts, verdict_line, as_wanted, res
 -- what is written where the terms that steps lead to are compared with those that are wanted, or there is a fault on the way
 pub data ComparesSteps (wanted : List Tree) : Answer (List Step) → List ℕ → Bool → Type 0 where
   steps_compared : {ss : List Step} {text : List ℕ} {met : Bool} → Compares (reducts_in ss) wanted text met → ComparesSteps wanted (value ss) text met
-  no_steps : {f : Fault} {text : List ℕ} {met : Bool} → text ≡ fault_line f → IsFalse met → ComparesSteps wanted (fault f) text met
+  steps_faulted : {f : Fault} {text : List ℕ} {met : Bool} → text ≡ fault_line f → IsFalse met → ComparesSteps wanted (fault f) text met
 
 -- what is written where the term in which a run rests is compared so, or there is none
 pub data ComparesEnd (wanted : List Tree) : RunEnd → List ℕ → Bool → Type 0 where
@@ -59,7 +59,7 @@ pub record IsMatchTestAnswer (P : Program) (name : List ℕ) (p : Pattern) (want
 pub data WritesVerdict : Answer (List Binding) → List ℕ → Bool → Type 0 where
   verdict_found : {bs : List Binding} {text : List ℕ} {met : Bool} → text ≡ verdict_line (are_some bs) → met ≡ are_some bs
       → WritesVerdict (value bs) text met
-  not_found : {f : Fault} {text : List ℕ} {met : Bool} → text ≡ fault_line f → IsFalse met → WritesVerdict (fault f) text met
+  question_faulted : {f : Fault} {text : List ℕ} {met : Bool} → text ≡ fault_line f → IsFalse met → WritesVerdict (fault f) text met
 
 -- `test-judgment-holds`
 pub record IsHoldsTestAnswer (P : Program) (q : Premise) (text : List ℕ) (met : Bool) : Type 0 where

@@ -1,5 +1,6 @@
 // Forms that define a relation as a closure of another one.
-ghost use Rattle.std.specs.Prelude.{◌≡◌, ◌∷◌, [], None, Some, true, IfOk, IsTrue, option_map};
+ghost use Rattle.std.specs.Prelude.{◌≡◌, ◌<◌, ◌∷◌, [], None, Some, true, IfOk, IsTrue, get_or, length, option_map};
+ghost use Rattle.rdx_lang.specs.declared.checked.CheckedLang.{CheckedLang};
 ghost use Rattle.std.specs.Bool.{then_some};
 ghost use Rattle.rdx_lang.specs.Checked.{language_in, pattern_in};
 ghost use Rattle.rdx_grammar.specs.Kinds.{is_among};
@@ -34,7 +35,7 @@ use crate::refusals::refuse_language;
 use crate::relation_forms::{name_of, refuse_name};
 use rdx_grammar::refusal::{named, unnamed};
 use rdx_grammar::shape::{is_symbol, text};
-use rdx_grammar::{DefFault, DefKind, DefRefusal, Names, language_names, read_pattern};
+use rdx_grammar::{DefFault, DefKind, DefRefusal, read_pattern, read_pattern_over};
 use rdx_lang::{CheckedLang, CheckedPat, Relation};
 use rdx_reduce::{compatible_closure, context_closure};
 use rdx_sexp::Datum;
@@ -120,7 +121,10 @@ fn read_over(
     ensures same { known_of known.new ≡ known_of known.old }
 {
     match place_named(known, text(language)) {
-        Some(place) => read_pattern(alloc, &mut known.program.languages[place], d),
+        Some(place) => {
+            let language = &mut known.program.languages[place];
+            read_pattern_over(alloc, language, &known.tables.nonterminals[place], d)
+        }
         None => read_pattern(alloc, &mut empty_language(alloc)?, d),
     }
 }
@@ -182,25 +186,21 @@ pub(crate) fn define_by_contexts(
 
 // ---- closures by the contexts of a nonterminal in itself
 
-// The nonterminal of this name, where the language has one.
-fn nonterminal(alloc: Global, language: &CheckedLang, name: &str) -> Result<Option<Name>, NoMemory>
-    ensures { IfOk result (λ found.
-        found ≡ then_some (is_among (names_of (language_in language.now)) name.now) name.now) }
+// The nonterminal of this name, where the language at this place has one.
+fn nonterminal(known: &Known, place: usize, name: &str) -> Result<Option<Name>, NoMemory>
+    requires { place < length known.now.program.languages.items }
+    ensures { IfOk result (λ found. (l : CheckedLang)
+        → l ≡ get_or known.now.program.languages.items place l
+        → found ≡ then_some (is_among (names_of (language_in l)) name.now) name.now) }
 {
-    let all = language_names(alloc, language)?;
-    let names = Names::new(alloc, &all)?;
-    match names.find(name) {
+    match known.tables.nonterminals[place].find(name) {
         Some(found) => Ok(Some(found.share()?)),
         None => Ok(None),
     }
 }
 
 // The refusal of a symbol that is no nonterminal of the language, S5.
-fn refuse_nonterminal(
-    alloc: Global,
-    known: &Known,
-    closure: ClosureParts,
-) -> Result<Option<DefRefusal>, NoMemory>
+fn refuse_nonterminal(known: &Known, closure: ClosureParts) -> Result<Option<DefRefusal>, NoMemory>
     ensures { IfOk result (λ r. option_map refusal_of r
         ≡ no_nonterminal_at (closure_names (known_of known.now) (closure_of closure.entry))
         closure.entry.by.now) }
@@ -208,10 +208,10 @@ fn refuse_nonterminal(
     let Some(place) = place_named(known, text(closure.language)) else {
         return Ok(Some(unnamed(DefKind::BadPattern, closure.by)));
     };
-    match nonterminal(alloc, &known.program.languages[place], text(closure.by))? {
-        Some(_) => Ok(None),
-        None => Ok(Some(unnamed(DefKind::BadPattern, closure.by))),
-    }
+    let Some(_) = nonterminal(known, place, text(closure.by))? else {
+        return Ok(Some(unnamed(DefKind::BadPattern, closure.by)));
+    };
+    Ok(None)
 }
 
 // The refusal of the nonterminal, and of the relation that is closed.
@@ -225,7 +225,7 @@ fn refuse_closed(
         closure.entry.by.now
         ∷ unknown_closed_at (known_of known.now) (closure_of closure.entry) ∷ [])) }
 {
-    match refuse_nonterminal(alloc, known, closure)? {
+    match refuse_nonterminal(known, closure)? {
         Some(refusal) => Ok(Some(refusal)),
         None => refuse_unknown(alloc, known, closure),
     }
@@ -279,7 +279,7 @@ pub(crate) fn define_by_crosses(
         unreachable!()
     };
     let language = &known.program.languages[place];
-    let Some(end) = nonterminal(alloc, language, text(closure.by))? else {
+    let Some(end) = nonterminal(known, place, text(closure.by))? else {
         unreachable!()
     };
     let name = name_of(alloc, name)?;

@@ -30,7 +30,7 @@ use crate::tables::add_text;
 use crate::test_forms::{Leading, Same, check_results, read_equal, read_leading};
 use rdx_defs::ReadPremise;
 use rdx_grammar::refusal::unnamed;
-use rdx_grammar::{DefFault, DefKind, add_crosses_for};
+use rdx_grammar::{DefFault, DefKind, Names, add_crosses_for};
 use rdx_lang::{CheckedLang, Judgement, Metafunction, Relation};
 use rdx_sexp::Datum;
 use rdx_term::NoMemory;
@@ -42,7 +42,9 @@ fn add_language(alloc: Global, known: &mut Known, mut language: CheckedLang) -> 
         ≡ with_definition (known_of known.old) (defined.language (language_in language))) }
 {
     add_crosses_for(alloc, &mut language, &known.ends)?;
+    let names = Names::of_language(alloc, &language)?;
     known.program.languages.reserve(1)?;
+    known.tables.nonterminals.reserve(1)?;
     let place = known.program.languages.len();
     add_text(
         alloc,
@@ -50,6 +52,7 @@ fn add_language(alloc: Global, known: &mut Known, mut language: CheckedLang) -> 
         language.language().name.text(),
         place,
     )?;
+    known.tables.nonterminals.push_reserved(names);
     known.program.languages.push_reserved(language);
     Ok(())
 }

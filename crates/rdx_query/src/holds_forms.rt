@@ -21,7 +21,7 @@ use crate::language_forms::empty_language;
 use crate::lookup::{judgement_language, place_named};
 use crate::parts::{HoldsParts, holds_parts, judgement_head, lone_parts};
 use crate::refusals::misshaped;
-use rdx_defs::{ReadPremise, read_premise};
+use rdx_defs::{ReadPremise, read_premise, read_premise_over};
 use rdx_grammar::refusal::{named_at, unnamed};
 use rdx_grammar::shape::text;
 use rdx_grammar::unbuilt::has_word_to_come;
@@ -98,7 +98,8 @@ fn read_over(
     match asked_place(known, premise) {
         Some(place) => {
             let language = &mut known.program.languages[place];
-            read_premise(alloc, &known.scope, language, premise, behind)
+            let names = &known.tables.nonterminals[place];
+            read_premise_over(alloc, &known.scope, language, names, premise, behind)
         }
         None => read_premise(
             alloc,

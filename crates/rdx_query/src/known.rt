@@ -1,8 +1,7 @@
 // What is known where a form stands.
 ghost use Rattle.std.specs.Prelude.{map};
 ghost use Rattle.rdx_lang.specs.ProgramView.{program_of};
-ghost use Rattle.rdx_query.specs.Inside.Firsts.{FindsFirsts};
-ghost use Rattle.rdx_query.specs.Inside.Tabled.{AreTabled};
+ghost use Rattle.rdx_query.specs.Inside.Tabled.{AreTabled, FindsFirsts};
 
 use crate::tables::Tables;
 use rdx_defs::Scope;

@@ -21,7 +21,7 @@ use crate::refusals::misshaped;
 use rdx_grammar::refusal::{named, unnamed};
 use rdx_grammar::shape::{is_symbol, text};
 use rdx_grammar::unbuilt::has_word_to_come;
-use rdx_grammar::{DefFault, DefKind, read_pattern};
+use rdx_grammar::{DefFault, DefKind, read_pattern, read_pattern_over};
 use rdx_lang::{CheckedPat, HostExpr};
 use rdx_sexp::Datum;
 use rdx_term::Name;
@@ -67,7 +67,8 @@ fn read_over(
         → ReadsPattern (names_of (language_in l)) d.now result }
     ensures same { known_of known.new ≡ known_of known.old }
 {
-    read_pattern(alloc, &mut known.program.languages[place], d)
+    let language = &mut known.program.languages[place];
+    read_pattern_over(alloc, language, &known.tables.nonterminals[place], d)
 }
 
 /// What a query asks, where this is known.

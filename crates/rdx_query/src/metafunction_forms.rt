@@ -18,7 +18,7 @@ use crate::language_forms::empty_language;
 use crate::lookup::place_of;
 use crate::parts::language_item;
 use crate::refusals::refuse_names;
-use rdx_defs::{metafunction_name, read_metafunction};
+use rdx_defs::{metafunction_name, read_metafunction, read_metafunction_over};
 use rdx_grammar::DefFault;
 use rdx_lang::Metafunction;
 use rdx_sexp::Datum;
@@ -44,7 +44,8 @@ fn read_over(
     match place_of(known, language) {
         Some(place) => {
             let language = &mut known.program.languages[place];
-            read_metafunction(alloc, &known.scope, language, form)
+            let names = &known.tables.nonterminals[place];
+            read_metafunction_over(alloc, &known.scope, language, names, form)
         }
         None => read_metafunction(alloc, &known.scope, &mut empty_language(alloc)?, form),
     }

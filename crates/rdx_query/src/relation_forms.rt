@@ -25,7 +25,7 @@ use crate::language_forms::{empty_language, some_name};
 use crate::lookup::{is_taken, place_of};
 use crate::parts::language_item;
 use crate::refusals::refuse_language;
-use rdx_defs::read_relation;
+use rdx_defs::{read_relation, read_relation_over};
 use rdx_grammar::names::is_bad_name;
 use rdx_grammar::refusal::named;
 use rdx_grammar::shape::text;
@@ -106,7 +106,8 @@ fn read_over(
     match place_of(known, language) {
         Some(place) => {
             let language = &mut known.program.languages[place];
-            read_relation(alloc, &known.scope, language, name, body)
+            let names = &known.tables.nonterminals[place];
+            read_relation_over(alloc, &known.scope, language, names, name, body)
         }
         None => read_relation(alloc, &known.scope, &mut empty_language(alloc)?, name, body),
     }

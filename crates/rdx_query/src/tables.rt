@@ -1,15 +1,15 @@
 // Tables by which what a file defines is found by its name.
 ghost use Rattle.std.specs.Prelude.{◌≡◌, ℕ, List, [], ◌∷◌, ◌++◌, map, length, IfOk, OnOk, OnErr};
-ghost use Rattle.rdx_query.specs.Inside.Firsts.{FindsFirsts};
-ghost use Rattle.rdx_query.specs.Inside.Tabled.{AreTabled};
+ghost use Rattle.rdx_query.specs.Inside.Tabled.{AreTabled, FindsFirsts};
 ghost use Rattle.rdx_query.specs.Known.{empty_program};
 
+use rdx_grammar::Names;
 use rdx_term::{Name, NoMemory};
 use std::alloc::Global;
 use std::collections::BTreeMap;
 
 /// The names of what is defined, of each kind, each with the first place at which it stands in the
-/// program.
+/// program, and those of nonterminals.
 #[derive(Drop)]
 pub(crate) struct Tables {
     pub(crate) languages: BTreeMap<String, usize>,
@@ -18,6 +18,8 @@ pub(crate) struct Tables {
     pub(crate) relations: BTreeMap<String, usize>,
     /// Those of the judgements of the whole file, by their places among them.
     pub(crate) asked: BTreeMap<String, usize>,
+    /// The names of each language's nonterminals, in the order of the languages.
+    pub(crate) nonterminals: Vec<Names>,
 }
 
 /// Puts the text behind others, of which there are so many. Where memory is wanting, no text is put
@@ -65,6 +67,7 @@ impl Tables {
             judgements: BTreeMap::new(alloc),
             relations: BTreeMap::new(alloc),
             asked: asked_table(alloc, pairs)?,
+            nonterminals: Vec::new(alloc),
         })
     }
 }

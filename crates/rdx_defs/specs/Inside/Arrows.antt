@@ -1,18 +1,18 @@
 -- The places of shortcuts by their new arrows.
-use Rattle.std.specs.Prelude.{◌≡◌, ℕ, suc, List, [], ◌∷◌, Option, Some, None, nat_lt, bytes_eq, if◌then◌else◌}
+use Rattle.std.specs.Prelude.{ℕ, List, [], ◌∷◌, Option, Some, None, nat_lt, if◌then◌else◌}
 use Rattle.std.specs.BTreeMap.{BTreeMap, get_by}
 use Rattle.std.specs.Borrow.{Bor}
 use Rattle.std.specs.Cmp.Lexicographic.{slice_cmp}
 use Rattle.std.specs.Ordering.{nat_cmp}
 use Rattle.rdx_sexp.specs.Sexp.{Sexp}
+use Rattle.rdx_lang.specs.Model.Places as places
 use Rattle.rdx_grammar.specs.Kinds.{is_among}
 use Rattle.rdx_grammar.specs.Parts.{text_of}
 use Rattle.rdx_defs.specs.Shorthand.{Shortcut}
 
 -- the place of the first with this new arrow, if they have the places from i on
 abbrev pub place_from : ℕ → List ℕ → List Shortcut → Option ℕ
-place_from i x [] = None
-place_from i x (s ∷ ss) = if bytes_eq (text_of s.new) x then Some i else place_from (suc i) x ss
+place_from = places.place_from (λ (s : Shortcut). text_of s.new)
 
 -- the place that a map has at a text
 abbrev pub place_in : BTreeMap (Bor (List ℕ)) ℕ → List ℕ → Option ℕ
@@ -20,7 +20,7 @@ place_in m x = get_by (λ k. slice_cmp nat_cmp x k.now) m
 
 -- each new arrow of these is found with its place, and no other text
 abbrev pub FindsPlaces : BTreeMap (Bor (List ℕ)) ℕ → ℕ → List Shortcut → Type 0
-FindsPlaces m i ss = (x : List ℕ) → place_in m x ≡ place_from i x ss
+FindsPlaces m = places.FindsPlaces (λ (s : Shortcut). text_of s.new) (place_in m)
 
 -- the place, if it is below the limit
 abbrev pub below : ℕ → Option ℕ → Option ℕ

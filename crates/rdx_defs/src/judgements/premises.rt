@@ -22,7 +22,7 @@ use crate::stands::names::lone_names;
 use crate::stands::readings;
 use crate::templates::bound::Bound;
 use crate::templates::readings as templates;
-use rdx_grammar::{DefFault, Names, language_names};
+use rdx_grammar::{DefFault, Names};
 use rdx_lang::{CheckedLang, Premise, Template};
 use rdx_sexp::Datum;
 use rdx_term::NoMemory;
@@ -80,6 +80,37 @@ fn read_behind(
     Ok(Some(templates::read_datum(alloc, scope, &bound, template)?))
 }
 
+/// As [`read_premise`], over a language with nonterminals of these names.
+pub fn read_premise_over(
+    alloc: Global,
+    scope: &Scope,
+    language: &mut CheckedLang,
+    names: &Names,
+    premise: &Datum,
+    behind: Option<&Datum>,
+) -> Result<ReadPremise, DefFault>
+    requires premise { IsReadable premise.now }
+    requires names { names.now ≡ names_of (language_in language.old) }
+    requires behind { IfSome behind (λ d. IsReadable d.now) }
+    ensures reads { ReadsPremise (scope_of scope.now) (names_of (language_in language.old))
+        premise.now (option_map (λ d. d.now) behind.entry) result }
+    ensures gains { Gained (language_in language.old) (ends_in premise.now) result
+        (language_in language.new) }
+{
+    if let Some(refusal) = refuse_question(alloc, scope, names, premise, behind)? {
+        return Err(DefFault::Refused(refusal));
+    }
+    add_asked(alloc, language, premise)?;
+    let Some(asked) = read_alone(alloc, scope, language, names, premise)? else {
+        unreachable!()
+    };
+    let result = read_behind(alloc, scope, names, premise, behind)?;
+    Ok(ReadPremise {
+        premise: asked,
+        result,
+    })
+}
+
 /// The premise that a datum stands for, before which no name is bound, its patterns over the
 /// language, and the template behind it, where there is one, which sees the names of the premise.
 /// Words that are not built yet aren't looked for.
@@ -97,18 +128,6 @@ pub fn read_premise(
     ensures gains { Gained (language_in language.old) (ends_in premise.now) result
         (language_in language.new) }
 {
-    let all = language_names(alloc, language)?;
-    let names = Names::new(alloc, &all)?;
-    if let Some(refusal) = refuse_question(alloc, scope, &names, premise, behind)? {
-        return Err(DefFault::Refused(refusal));
-    }
-    add_asked(alloc, language, premise)?;
-    let Some(asked) = read_alone(alloc, scope, language, &names, premise)? else {
-        unreachable!()
-    };
-    let result = read_behind(alloc, scope, &names, premise, behind)?;
-    Ok(ReadPremise {
-        premise: asked,
-        result,
-    })
+    let names = Names::of_language(alloc, language)?;
+    read_premise_over(alloc, scope, language, &names, premise, behind)
 }

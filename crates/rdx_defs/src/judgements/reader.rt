@@ -17,7 +17,7 @@ use crate::judgements::readings::read_parts;
 use crate::judgements::refusals::refuse_judgement;
 use rdx_grammar::refusal::unnamed;
 use rdx_grammar::unbuilt::has_word_to_come;
-use rdx_grammar::{DefFault, DefKind, Names, language_names};
+use rdx_grammar::{DefFault, DefKind, Names};
 use rdx_lang::{CheckedLang, Judgement};
 use rdx_sexp::Datum;
 use std::alloc::Global;
@@ -31,6 +31,42 @@ pub fn judgement_name(form: &Datum) -> Option<&Datum>
         → option_map (λ d. d.now) result ≡ None }
 {
     judgement_in(judgement_form(form)?)
+}
+
+/// As [`read_judgement`], over a language with nonterminals of these names.
+pub fn read_judgement_over(
+    alloc: Global,
+    scope: &Scope,
+    language: &mut CheckedLang,
+    names: &Names,
+    form: &Datum,
+) -> Result<Judgement, DefFault>
+    requires readable { IsReadable form.now }
+    requires names { names.now ≡ names_of (language_in language.old) }
+    ensures reads { ReadsJudgement (scope_of scope.now) (names_of (language_in language.old))
+        form.now result }
+    ensures gains { Gained (language_in language.old) (ends_in form.now) result
+        (language_in language.new) }
+    ensures valid { IfOk result (λ j.
+        IsTrue (is_valid_judgement (callable (scope_of scope.now))
+        (Some (language_in language.new)) (judgement_of j))) }
+{
+    if has_word_to_come(form) {
+        return Err(DefFault::Refused(unnamed(DefKind::Unbuilt, form)));
+    }
+    let Some(parts) = judgement_form(form) else {
+        return Err(DefFault::Refused(unnamed(DefKind::Shape, form)));
+    };
+    let mode = own_mode(alloc, parts)?;
+    if let Some(refusal) = refuse_judgement(alloc, scope, names, form, parts, mode.as_deref())? {
+        return Err(DefFault::Refused(refusal));
+    }
+    let Some(name) = judgement_in(parts) else {
+        unreachable!()
+    };
+    let Some(mode) = mode else { unreachable!() };
+    add_asked(alloc, language, form)?;
+    Ok(read_parts(alloc, scope, language, names, parts, name, mode)?)
 }
 
 /// The judgement that a `define-judgment-form` form stands for over a language, whatever the name of
@@ -50,22 +86,6 @@ pub fn read_judgement(
         IsTrue (is_valid_judgement (callable (scope_of scope.now))
         (Some (language_in language.new)) (judgement_of j))) }
 {
-    if has_word_to_come(form) {
-        return Err(DefFault::Refused(unnamed(DefKind::Unbuilt, form)));
-    }
-    let Some(parts) = judgement_form(form) else {
-        return Err(DefFault::Refused(unnamed(DefKind::Shape, form)));
-    };
-    let all = language_names(alloc, language)?;
-    let names = Names::new(alloc, &all)?;
-    let mode = own_mode(alloc, parts)?;
-    if let Some(refusal) = refuse_judgement(alloc, scope, &names, form, parts, mode.as_deref())? {
-        return Err(DefFault::Refused(refusal));
-    }
-    let Some(name) = judgement_in(parts) else {
-        unreachable!()
-    };
-    let Some(mode) = mode else { unreachable!() };
-    add_asked(alloc, language, form)?;
-    Ok(read_parts(alloc, scope, language, &names, parts, name, mode)?)
+    let names = Names::of_language(alloc, language)?;
+    read_judgement_over(alloc, scope, language, &names, form)
 }

@@ -17,10 +17,45 @@ use crate::metafunctions::stands::{function_stands, metafunction_outline};
 use crate::stands::refusals::refuse_parts;
 use rdx_grammar::refusal::unnamed;
 use rdx_grammar::unbuilt::has_word_to_come;
-use rdx_grammar::{DefFault, DefKind, Names, language_names};
+use rdx_grammar::{DefFault, DefKind, Names};
 use rdx_lang::{CheckedLang, Metafunction};
 use rdx_sexp::Datum;
 use std::alloc::Global;
+
+/// As [`read_metafunction`], over a language with nonterminals of these names.
+pub fn read_metafunction_over(
+    alloc: Global,
+    scope: &Scope,
+    language: &mut CheckedLang,
+    names: &Names,
+    form: &Datum,
+) -> Result<Metafunction, DefFault>
+    requires readable { IsReadable form.now }
+    requires names { names.now ≡ names_of (language_in language.old) }
+    ensures reads { ReadsMetafunction (scope_of scope.now) (names_of (language_in language.old))
+        form.now result }
+    ensures gains { Gained (language_in language.old) (ends_in form.now) result
+        (language_in language.new) }
+    ensures valid { IfOk result (λ f.
+        IsTrue (is_valid_metafunction (callable (scope_of scope.now))
+        (Some (language_in language.new)) (metafunction_of f))) }
+{
+    if has_word_to_come(form) {
+        return Err(DefFault::Refused(unnamed(DefKind::Unbuilt, form)));
+    }
+    let Some(parts) = metafunction_form(form) else {
+        return Err(DefFault::Refused(unnamed(DefKind::Shape, form)));
+    };
+    let function = function_in(parts);
+    let outline = metafunction_outline(alloc, parts, function)?;
+    let found = function_stands(alloc, scope, parts, function, &outline)?;
+    if let Some(refusal) = refuse_parts(alloc, scope, names, &found, &outline)? {
+        return Err(DefFault::Refused(refusal));
+    }
+    let Some(name) = function else { unreachable!() };
+    add_asked(alloc, language, form)?;
+    Ok(read_parts(alloc, scope, language, names, parts, name, &outline)?)
+}
 
 /// The metafunction that a `define-metafunction` form stands for over a language, whatever the name
 /// of that is.
@@ -39,21 +74,6 @@ pub fn read_metafunction(
         IsTrue (is_valid_metafunction (callable (scope_of scope.now))
         (Some (language_in language.new)) (metafunction_of f))) }
 {
-    if has_word_to_come(form) {
-        return Err(DefFault::Refused(unnamed(DefKind::Unbuilt, form)));
-    }
-    let Some(parts) = metafunction_form(form) else {
-        return Err(DefFault::Refused(unnamed(DefKind::Shape, form)));
-    };
-    let all = language_names(alloc, language)?;
-    let names = Names::new(alloc, &all)?;
-    let function = function_in(parts);
-    let outline = metafunction_outline(alloc, parts, function)?;
-    let found = function_stands(alloc, scope, parts, function, &outline)?;
-    if let Some(refusal) = refuse_parts(alloc, scope, &names, &found, &outline)? {
-        return Err(DefFault::Refused(refusal));
-    }
-    let Some(name) = function else { unreachable!() };
-    add_asked(alloc, language, form)?;
-    Ok(read_parts(alloc, scope, language, &names, parts, name, &outline)?)
+    let names = Names::of_language(alloc, language)?;
+    read_metafunction_over(alloc, scope, language, &names, form)
 }

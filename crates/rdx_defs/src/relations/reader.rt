@@ -26,7 +26,7 @@ use crate::shorthand::forms::cut_at_with;
 use crate::stands::refusals::refuse_parts;
 use rdx_grammar::refusal::unnamed;
 use rdx_grammar::unbuilt::has_word_to_come;
-use rdx_grammar::{DefFault, DefKind, Names, language_names};
+use rdx_grammar::{DefFault, DefKind, Names};
 use rdx_lang::{CheckedLang, Relation};
 use rdx_sexp::Datum;
 use rdx_term::Name;
@@ -38,12 +38,14 @@ fn read_expanded<'a>(
     alloc: Global,
     scope: &Scope,
     language: &mut CheckedLang,
+    names: &Names,
     name: &Name,
     form: RelationForm<'a>,
     shortcuts: &'a [Datum],
 ) -> Result<Relation, DefFault>
     requires domain { AreReadable (domain_patterns (option_map (λ d. d.now) form.domain)) }
     requires cases { AreReadable form.cases.now }
+    requires names { names.now ≡ names_of (language_in language.old) }
     requires named { IsTrue (is_name (text_of form.language.now)) }
     ensures reads { ReadsExpanded (scope_of scope.now) (names_of (language_in language.old))
         name.now (relation_form_of form.entry) shortcuts.now result }
@@ -53,15 +55,50 @@ fn read_expanded<'a>(
         IsTrue (is_valid_over (callable (scope_of scope.now))
         (Some (language_in language.new)) (relation_of r))) }
 {
-    let all = language_names(alloc, language)?;
-    let names = Names::new(alloc, &all)?;
     let found = relation_stands(alloc, scope, form, shortcuts)?;
     let outline = relation_outline(alloc, form)?;
-    if let Some(refusal) = refuse_parts(alloc, scope, &names, &found, &outline)? {
+    if let Some(refusal) = refuse_parts(alloc, scope, names, &found, &outline)? {
         return Err(DefFault::Refused(refusal));
     }
     add_ends_of(alloc, language, form)?;
-    Ok(read_parts(alloc, scope, language, &names, name, form, &outline)?)
+    Ok(read_parts(alloc, scope, language, names, name, form, &outline)?)
+}
+
+/// As [`read_relation`], over a language with nonterminals of these names.
+pub fn read_relation_over(
+    alloc: Global,
+    scope: &Scope,
+    language: &mut CheckedLang,
+    names: &Names,
+    name: &Name,
+    form: &Datum,
+) -> Result<Relation, DefFault>
+    requires readable { IsReadable form.now }
+    requires names { names.now ≡ names_of (language_in language.old) }
+    ensures reads { ReadsRelation (scope_of scope.now) (names_of (language_in language.old))
+        name.now form.now result }
+    ensures gains { Gained (language_in language.old) (relation_ends form.now) result
+        (language_in language.new) }
+    ensures valid { IfOk result (λ r.
+        IsTrue (is_valid_over (callable (scope_of scope.now))
+        (Some (language_in language.new)) (relation_of r))) }
+{
+    if has_word_to_come(form) {
+        return Err(DefFault::Refused(unnamed(DefKind::Unbuilt, form)));
+    }
+    let Some(parts) = relation_form(form) else {
+        return Err(DefFault::Refused(unnamed(DefKind::Shape, form)));
+    };
+    let cut = cut_at_with(parts.cases);
+    if cut.shortcuts.is_empty() {
+        let cases = cut.cases;
+        let plain = RelationForm { cases, ..parts };
+        return read_expanded(alloc, scope, language, names, name, plain, cut.shortcuts);
+    }
+    let expanded = expanded_cases(alloc, cut)?;
+    let cases = &expanded;
+    let plain = RelationForm { cases, ..parts };
+    read_expanded(alloc, scope, language, names, name, plain, cut.shortcuts)
 }
 
 /// The relation of this name that a `reduction-relation` form stands for over a language, whatever
@@ -82,20 +119,6 @@ pub fn read_relation(
         IsTrue (is_valid_over (callable (scope_of scope.now))
         (Some (language_in language.new)) (relation_of r))) }
 {
-    if has_word_to_come(form) {
-        return Err(DefFault::Refused(unnamed(DefKind::Unbuilt, form)));
-    }
-    let Some(parts) = relation_form(form) else {
-        return Err(DefFault::Refused(unnamed(DefKind::Shape, form)));
-    };
-    let cut = cut_at_with(parts.cases);
-    if cut.shortcuts.is_empty() {
-        let cases = cut.cases;
-        let plain = RelationForm { cases, ..parts };
-        return read_expanded(alloc, scope, language, name, plain, cut.shortcuts);
-    }
-    let expanded = expanded_cases(alloc, cut)?;
-    let cases = &expanded;
-    let plain = RelationForm { cases, ..parts };
-    read_expanded(alloc, scope, language, name, plain, cut.shortcuts)
+    let names = Names::of_language(alloc, language)?;
+    read_relation_over(alloc, scope, language, &names, name, form)
 }

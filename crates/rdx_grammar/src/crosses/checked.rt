@@ -10,7 +10,7 @@ ghost use Rattle.rdx_grammar.specs.Ends.{crossed_for};
 ghost use Rattle.rdx_grammar.specs.Inside.CrossesTo.{with_definitions, first_definitions};
 
 use crate::crosses::adding::new_crosses;
-use crate::patterns::{Names, known_ends, language_names};
+use crate::patterns::{Names, known_ends};
 use rdx_lang::laws::{crosses_stay, ranks_fall};
 use rdx_lang::{CheckedLang, CheckedPat, Language, Pat, Ranks, Ref};
 use rdx_leftrec::LeftRec;
@@ -201,8 +201,7 @@ pub fn add_crosses_for(
     if ends.is_empty() {
         return Ok(());
     }
-    let all = language_names(alloc, language)?;
-    let names = Names::new(alloc, &all)?;
+    let names = Names::of_language(alloc, language)?;
     let known = known_ends(alloc, &names, ends)?;
     add_crosses_of(alloc, language, &known)
 }

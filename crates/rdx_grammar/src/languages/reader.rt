@@ -40,7 +40,7 @@ fn read_parts(
 {
     let name = symbol_name(parts.name)?;
     let all = form_names(alloc, base, parts.definitions)?;
-    let names = Names::new(alloc, &all)?;
+    let names = Names::new(alloc, all)?;
     let new = read_definitions(alloc, base, &names, parts.definitions)?;
     let nts = extended(alloc, base, new)?;
     let mut language = Language { name, nts };

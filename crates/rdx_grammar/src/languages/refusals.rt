@@ -109,7 +109,7 @@ pub(crate) fn refuse_form(
         return Ok(Some(refusal));
     }
     let all = names_over(alloc, base, parts)?;
-    let names = Names::new(alloc, &all)?;
+    let names = Names::new(alloc, all)?;
     refuse_late(alloc, base, &names, found)
 }
 

@@ -47,11 +47,7 @@ pub fn ends_in(alloc: Global, d: &Datum) -> Result<Vec<Name>, NoMemory>
 }
 
 /// Those that are among these names, as they stand.
-pub(crate) fn known_ends(
-    alloc: Global,
-    names: &Names<'_>,
-    ends: &[Name],
-) -> Result<Vec<Name>, NoMemory>
+pub(crate) fn known_ends(alloc: Global, names: &Names, ends: &[Name]) -> Result<Vec<Name>, NoMemory>
     ensures { IfOk result (λ known. known.items ≡ model.known_ends names.now ends.now) }
 {
     let mut known = Vec::new(alloc);

@@ -42,7 +42,7 @@ unreachable-requires-in_default-3 c =
     let k : language_named K.program (text_of q.language) ≡ Some (language_in l) =
     ap (language_named K.program) (sym c.text.ensures) ∙ c.in-Some-place_named.ensures.some l c.index-language.ensures in
     nonterminal-there K x body q p t (language_in l) k e
-    (ap (λ (z : List ℕ). then_some (is_among (names_of (language_in l)) z) z) (sym c.text-3.ensures) ∙ sym c.in_ok-end.ensures ∙ c.in_default-3.is)
+    (ap (λ (z : List ℕ). then_some (is_among (names_of (language_in l)) z) z) (sym c.text-3.ensures) ∙ sym (c.in_ok-end.ensures l c.index-language.ensures) ∙ c.in_default-3.is)
 
 pub compatible_closure-requires-clause-crosses : goal.compatible_closure-requires-clause-crosses
 compatible_closure-requires-clause-crosses c =
@@ -57,7 +57,7 @@ compatible_closure-requires-clause-crosses c =
     let k : language_named K.program (text_of q.language) ≡ Some (language_in l) =
     ap (language_named K.program) (sym c.text.ensures) ∙ c.in-Some-place_named.ensures.some l c.index-language.ensures in
     let g : c.in-Some-3.end ≡ text_of q.by =
-    found-name (is_among (names_of (language_in l)) c.text-3.result.now) c.in-Some-3.end c.text-3.result.now (sym c.in-Some-3.is ∙ c.in_ok-end.ensures) ∙ c.text-3.ensures in
+    found-name (is_among (names_of (language_in l)) c.text-3.result.now) c.in-Some-3.end c.text-3.result.now (sym c.in-Some-3.is ∙ c.in_ok-end.ensures l c.index-language.ensures) ∙ c.text-3.ensures in
     let n : is_name c.in-Some-3.end ≡ true = ap is_name (sym c.end.view_is) ∙ c.end.invariant in
     ap (λ (z : List ℕ). references.is_among (Cross z z) (defined (language_in l))) g
     ∙ crossed-there K x body q p t (language_in l) k c.requires.fitting c.requires.ends e (ap is_name (sym g) ∙ n)
@@ -93,7 +93,7 @@ returns-clause-closes c =
     let R = relation_of c.in-Some-relation_named.relation.now in
     let f : closed_relation K q ≡ Some R = ap (relation_named K.program) (sym c.text-2.ensures) ∙ sym c.in-Some-relation_named.ensures in
     let g : c.in-Some-3.end ≡ text_of q.by =
-    found-name (is_among (names_of (language_in l)) c.text-3.result.now) c.in-Some-3.end c.text-3.result.now (sym c.in-Some-3.is ∙ c.in_ok-end.ensures) ∙ c.text-3.ensures in
+    found-name (is_among (names_of (language_in l)) c.text-3.result.now) c.in-Some-3.end c.text-3.result.now (sym c.in-Some-3.is ∙ c.in_ok-end.ensures l c.index-language.ensures) ∙ c.text-3.ensures in
     crosses-answered K x body q p t c.in-Some-3.end c.in_ok-name.name R c.in_ok-compatible_closure.field-0 e g c.in_ok-name.ensures f c.in_ok-compatible_closure.ensures.closed
 
 pub returns-clause-fits : goal.returns-clause-fits

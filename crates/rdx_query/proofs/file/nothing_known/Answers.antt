@@ -2,7 +2,7 @@ use Rattle.std.proofs.Common.{map, sym, subst}
 use Rattle.rdx_lang.specs.Checked.{language_in}
 use Rattle.rdx_lang.specs.ProgramView.{judgement_of, metafunction_of, relation_of}
 use Rattle.rdx_lang.specs.Programs.{Program}
-use Rattle.rdx_query.specs.Inside.Firsts.{FindsFirsts}
+use Rattle.rdx_query.specs.Inside.Tabled.{FindsFirsts}
 use Rattle.rdx_query.specs.Inside.Tabled.{AreTabled}
 use Rattle.rdx_query.proofs.file.nothing_known.Goals as goal
 

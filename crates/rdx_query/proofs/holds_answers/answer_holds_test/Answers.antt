@@ -6,7 +6,7 @@ use Rattle.rdx_eval.specs.Answers.{value, fault}
 use Rattle.rdx_eval.specs.Judgements.{are_some}
 use Rattle.rdx_eval.specs.Views.{bindings_in, program_in}
 use Rattle.rdx_query.specs.HoldsAnswers.{FindsMet}
-use Rattle.rdx_query.specs.TestAnswers.{IsHoldsTestAnswer, verdict_found, not_found}
+use Rattle.rdx_query.specs.TestAnswers.{IsHoldsTestAnswer, verdict_found, question_faulted}
 use Rattle.rdx_query.specs.Tests.{verdict_line}
 use Rattle.rdx_query.proofs.Trying.{error_tried}
 use Rattle.rdx_query.proofs.holds_answers.answer_holds_test.Goals as goal
@@ -16,7 +16,7 @@ returns-in_err-found-clause-answer g c =
     let P : Program = program_of (program_in c.args.engine.now).now in
     let q : Premise = premise_of c.args.premise.now in
     error_tried bindings_in (FindsMet P q) (IsHoldsTestAnswer P q) c.args.out.now.items c.from_residual.result _ c.from_residual.ensures.1
-    (λ f h. record { found = fault f; finds = h; written = not_found refl refl }) c.in_err-found.ensures.answer
+    (λ f h. record { found = fault f; finds = h; written = question_faulted refl refl }) c.in_err-found.ensures.answer
 
 pub returns-clause-answer : goal.returns-clause-answer
 returns-clause-answer g c =

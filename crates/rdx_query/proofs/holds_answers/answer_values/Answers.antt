@@ -8,7 +8,7 @@ use Rattle.rdx_eval.specs.Answers.{value, fault, Then}
 use Rattle.rdx_eval.specs.Heights.{calls_at, height}
 use Rattle.rdx_eval.specs.Views.{program_in, terms_in}
 use Rattle.rdx_query.specs.AnswerText.{answers_text, fault_line}
-use Rattle.rdx_query.specs.HoldsAnswers.{FindsMet, IsValuesAnswer, Values, values_found, no_values}
+use Rattle.rdx_query.specs.HoldsAnswers.{FindsMet, IsValuesAnswer, Values, values_found, values_faulted}
 use Rattle.rdx_query.proofs.MetPremises.{values_answer}
 use Rattle.rdx_query.proofs.Trying.{error_tried}
 use Rattle.rdx_query.proofs.holds_answers.answer_values.Goals as goal
@@ -20,7 +20,7 @@ returns-in_err-values-clause-answer g c =
     let t : Template = template_of c.args.t.now in
     error_tried terms_in (Then (FindsMet P q) (Values (calls_at P height) t)) (IsValuesAnswer P q t) c.args.out.now.items
     c.from_residual.result _ c.from_residual.ensures.1
-    (λ f h. values_answer P q t (fault f) (fault_line f) false h (no_values refl refl)) c.in_err-values.ensures.answer
+    (λ f h. values_answer P q t (fault f) (fault_line f) false h (values_faulted refl refl)) c.in_err-values.ensures.answer
 
 pub returns-clause-answer : goal.returns-clause-answer
 returns-clause-answer g c =

@@ -11,7 +11,7 @@ use Rattle.rdx_eval.specs.Views.{Says, program_in}
 use Rattle.rdx_reduce.specs.Relations.{AreSteps}
 use Rattle.rdx_reduce.specs.StepView.{step_of, steps_in}
 use Rattle.rdx_query.specs.AnswerText.{steps_text}
-use Rattle.rdx_query.specs.StepAnswers.{named_steps, steps_found, no_steps, IsTaggedAnswer}
+use Rattle.rdx_query.specs.StepAnswers.{named_steps, steps_found, steps_faulted, IsTaggedAnswer}
 use Rattle.rdx_query.proofs.Trying.{error_tried}
 use Rattle.rdx_query.proofs.step_answers.answer_steps.Goals as goal
 
@@ -23,7 +23,7 @@ returns-in_err-found-clause-answer g c =
     let known : relation_named P c.args.name.now ≡ Some R = c.in_ok-relation.ensures.found in
     let e : program_of (program_in c.relation.new.engine).now ≡ P = ap (λ (q : Bor Program). program_of q.now) c.in_ok-relation.ensures.same in
     error_tried steps_in (AreSteps P R t) (IsTaggedAnswer P c.args.name.now t) c.args.out.now.items c.from_residual-in_err-found.result _ c.from_residual-in_err-found.ensures.1
-    (λ f h. record { relation = R; known = known; answer = fault f; steps = h; written = no_steps refl refl })
+    (λ f h. record { relation = R; known = known; answer = fault f; steps = h; written = steps_faulted refl refl })
     (subst (λ (p : programs.Program). Says steps_in (AreSteps p R t) (Err c.in_err-found.field-0.0)) e c.in_err-found.ensures.answer)
 
 pub returns-clause-answer : goal.returns-clause-answer

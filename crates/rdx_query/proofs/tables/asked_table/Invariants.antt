@@ -1,5 +1,5 @@
 use Rattle.std.proofs.Common.{take, map}
-use Rattle.rdx_query.specs.Inside.Firsts.{FindsFirsts}
+use Rattle.rdx_query.specs.Inside.Tabled.{FindsFirsts}
 use Rattle.rdx_query.proofs.tables.asked_table.Given as goal
 
 abbrev pub invariant-loop-place : goal.invariant-loop-place

@@ -31,9 +31,9 @@ refuse_parts-requires c =
     let ds = c.args.shortcuts.now in
     let h : RelationHas IsReadable r =
     record { domain = each-readable (domain_patterns r.domain) c.requires.domain; cases = each-readable r.cases c.requires.cases; language = c.requires.named } in
-    let q : stands_of c.deref-2.result.now ≡ relation_stands S r ds = ap stands_of c.deref-2.ensures.value ∙ c.in_ok-found.ensures in
-    λ e. subst (λ (o : Outline). OutlineHas S (can_bind c.in_ok-names.names) o) (sym c.in_ok-outline.ensures)
-    (relation-early S c.in_ok-names.names r ds (stands_of c.deref-2.result.now) h q e)
+    let q : stands_of c.deref.result.now ≡ relation_stands S r ds = ap stands_of c.deref.ensures.value ∙ c.in_ok-found.ensures in
+    λ e. subst (λ (o : Outline). OutlineHas S (can_bind c.args.names.now) o) (sym c.in_ok-outline.ensures)
+    (relation-early S c.args.names.now r ds (stands_of c.deref.result.now) h q e)
 
 pub returns-in-Some-clause-reads : goal.returns-in-Some-clause-reads
 returns-in-Some-clause-reads c =
@@ -41,10 +41,8 @@ returns-in-Some-clause-reads c =
     let L = language_in c.args.language.now in
     let r = relation_form_of c.args.form in
     let ds = c.args.shortcuts.now in
-    let m : c.in_ok-names.names ≡ c.deref.result.now = c.in_ok-names.ensures in
-    let n0 : c.in_ok-all.all.items ≡ names_of L = c.in_ok-all.ensures in
-    let n : c.in_ok-names.names ≡ names_of L = cc in
-    let q : stands_of c.deref-2.result.now ≡ relation_stands S r ds = ap stands_of c.deref-2.ensures.value ∙ c.in_ok-found.ensures in
+    let n : c.args.names.now ≡ names_of L = c.requires.names in
+    let q : stands_of c.deref.result.now ≡ relation_stands S r ds = ap stands_of c.deref.ensures.value ∙ c.in_ok-found.ensures in
     let o : outline_of c.in_ok-outline.outline ≡ relation_outline r = c.in_ok-outline.ensures in
     relation-refused S (names_of L) r ds ∙ (λ i. form_refusal S (sym n i) (sym q i) (sym o i)) ∙ sym c.in_ok-refusal.ensures ∙ ap (option_map refusal_of) c.in-Some.is
 
@@ -54,10 +52,8 @@ read_parts-requires-clause-parts c =
     let L = language_in c.args.language.now in
     let r = relation_form_of c.args.form in
     let ds = c.args.shortcuts.now in
-    let m : c.in_ok-names.names ≡ c.deref.result.now = c.in_ok-names.ensures in
-    let n0 : c.in_ok-all.all.items ≡ names_of L = c.in_ok-all.ensures in
-    let n : c.in_ok-names.names ≡ names_of L = cc in
-    let q : stands_of c.deref-2.result.now ≡ relation_stands S r ds = ap stands_of c.deref-2.ensures.value ∙ c.in_ok-found.ensures in
+    let n : c.args.names.now ≡ names_of L = c.requires.names in
+    let q : stands_of c.deref.result.now ≡ relation_stands S r ds = ap stands_of c.deref.ensures.value ∙ c.in_ok-found.ensures in
     let o : outline_of c.in_ok-outline.outline ≡ relation_outline r = c.in_ok-outline.ensures in
     let h : RelationHas IsReadable r =
     record { domain = each-readable (domain_patterns r.domain) c.requires.domain; cases = each-readable r.cases c.requires.cases; language = c.requires.named } in
@@ -74,10 +70,8 @@ returns-clause-reads c =
     let L = language_in c.args.language.now in
     let r = relation_form_of c.args.form in
     let ds = c.args.shortcuts.now in
-    let m : c.in_ok-names.names ≡ c.deref.result.now = c.in_ok-names.ensures in
-    let n0 : c.in_ok-all.all.items ≡ names_of L = c.in_ok-all.ensures in
-    let n : c.in_ok-names.names ≡ names_of L = cc in
-    let q : stands_of c.deref-2.result.now ≡ relation_stands S r ds = ap stands_of c.deref-2.ensures.value ∙ c.in_ok-found.ensures in
+    let n : c.args.names.now ≡ names_of L = c.requires.names in
+    let q : stands_of c.deref.result.now ≡ relation_stands S r ds = ap stands_of c.deref.ensures.value ∙ c.in_ok-found.ensures in
     let o : outline_of c.in_ok-outline.outline ≡ relation_outline r = c.in_ok-outline.ensures in
     let e : expanded_refusal S (names_of L) r ds ≡ None =
     relation-refused S (names_of L) r ds ∙ (λ i. form_refusal S (sym n i) (sym q i) (sym o i)) ∙ sym c.in_ok-refusal.ensures ∙ ap (option_map refusal_of) c.in_default.is in
@@ -91,10 +85,8 @@ returns-clause-valid c =
     let L = language_in c.args.language.now in
     let r = relation_form_of c.args.form in
     let ds = c.args.shortcuts.now in
-    let m : c.in_ok-names.names ≡ c.deref.result.now = c.in_ok-names.ensures in
-    let n0 : c.in_ok-all.all.items ≡ names_of L = c.in_ok-all.ensures in
-    let n : c.in_ok-names.names ≡ names_of L = cc in
-    let q : stands_of c.deref-2.result.now ≡ relation_stands S r ds = ap stands_of c.deref-2.ensures.value ∙ c.in_ok-found.ensures in
+    let n : c.args.names.now ≡ names_of L = c.requires.names in
+    let q : stands_of c.deref.result.now ≡ relation_stands S r ds = ap stands_of c.deref.ensures.value ∙ c.in_ok-found.ensures in
     let o : outline_of c.in_ok-outline.outline ≡ relation_outline r = c.in_ok-outline.ensures in
     let h : RelationHas IsReadable r =
     record { domain = each-readable (domain_patterns r.domain) c.requires.domain; cases = each-readable r.cases c.requires.cases; language = c.requires.named } in

@@ -1,9 +1,10 @@
-use Rattle.std.proofs.Common.{◌≡◌, ◌∙◌, ◌<◌, Some, None, length, sym, ap, arith}
+use Rattle.std.proofs.Common.{◌≡◌, ◌∙◌, ◌<◌, Some, None, length, map, refl, sym, ap, arith}
 use Rattle.std.proofs.lemmas.Grind.{common_steps}
 use Rattle.std.specs.Cmp.Lexicographic.{bytes_decides}
 use Rattle.std.specs.Prelude.{option_map}
-use Rattle.rdx_defs.specs.Model.Places.{place_from}
-use Rattle.rdx_defs.proofs.NamedPlaces.{place-mode, place-named, place-no_mode, place-within}
+use Rattle.rdx_lang.specs.Model.Places.{place_from}
+use Rattle.rdx_lang.proofs.FirstPlaces.{none-stands, place-named, stands-at}
+use Rattle.rdx_defs.specs.Scope.{mode_among}
 use Rattle.rdx_defs.proofs.scope.Scope.judgement.Goals as goal
 
 pub index-requires : goal.index-requires
@@ -13,7 +14,8 @@ index-requires c =
     let p = c.in-Some.place.now in
     let at : place_from (λ j. j.0) 0 x js ≡ Some p =
     sym (c.args.self.now.finds_judgements x) ∙ sym c.get.ensures.value ∙ ap (option_map (λ p. p.now)) c.in-Some.is in
-    let h : p < length js = place-within (λ j. j.0) 0 p p x js at (omega arith) in
+    let s = stands-at (λ j. j.0) (λ j. j.1.items) (λ ks. mode_among (map (λ j. (j.0, j.1.items)) ks)) (λ y. refl) (λ k ks y. refl) js x (Some p) p (sym at) refl in
+    let h : p < length js = s.within in
     grind (arith, common_steps)
 
 pub returns-in-Some-clause-mode : goal.returns-in-Some-clause-mode
@@ -23,7 +25,8 @@ returns-in-Some-clause-mode c =
     let p = c.in-Some.place.now in
     let at : place_from (λ j. j.0) 0 x js ≡ Some p =
     sym (c.args.self.now.finds_judgements x) ∙ sym c.get.ensures.value ∙ ap (option_map (λ p. p.now)) c.in-Some.is in
-    sym (place-mode (λ j. j.0) (λ j. j.1.items) 0 p p x js c.index.result.now at (omega arith) c.index.ensures)
+    let s = stands-at (λ j. j.0) (λ j. j.1.items) (λ ks. mode_among (map (λ j. (j.0, j.1.items)) ks)) (λ y. refl) (λ k ks y. refl) js x (Some p) p (sym at) refl in
+    sym (s.stands c.index.result.now ∙ ap (λ j. Some j.1.items) (sym c.index.ensures))
 
 pub returns-in-Some-clause-name : goal.returns-in-Some-clause-name
 returns-in-Some-clause-name c =
@@ -41,4 +44,4 @@ returns-in-None-clause-mode c =
     let js = c.args.self.now.judgements.items in
     let at : place_from (λ j. j.0) 0 x js ≡ None =
     sym (c.args.self.now.finds_judgements x) ∙ sym c.get.ensures.value ∙ ap (option_map (λ p. p.now)) c.in-None.is in
-    sym (place-no_mode (λ j. j.0) (λ j. j.1.items) 0 x js at)
+    sym (none-stands (λ j. j.0) (λ j. j.1.items) (λ ks. mode_among (map (λ j. (j.0, j.1.items)) ks)) (λ y. refl) (λ k ks y. refl) js x None (sym at) refl)

@@ -2,8 +2,8 @@ use Rattle.std.proofs.Common.{◌≡◌, ◌∙◌, ◌<◌, Some, None, length,
 use Rattle.std.proofs.lemmas.Grind.{common_steps}
 use Rattle.std.specs.Cmp.Lexicographic.{bytes_decides}
 use Rattle.std.specs.Prelude.{ℕ, List, is_some, option_map}
-use Rattle.rdx_defs.specs.Model.Places.{place_from}
-use Rattle.rdx_defs.proofs.NamedPlaces.{place-named, place-some, place-within}
+use Rattle.rdx_lang.specs.Model.Places.{place_from}
+use Rattle.rdx_lang.proofs.FirstPlaces.{place-named, place-some, place-within}
 use Rattle.rdx_defs.proofs.scope.Scope.metafunction.Goals as goal
 
 pub index-requires : goal.index-requires

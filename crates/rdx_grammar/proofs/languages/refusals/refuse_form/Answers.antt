@@ -63,8 +63,7 @@ returns c =
     let u : unbuilt_at c.args.form.now ≡ None =
     ap (λ b. if b then Some (unnamed Unbuilt c.args.form.now) else None) (sym c.has_word_to_come.ensures ∙ c.if-has_word_to_come.false) in
     let n0 : c.in_ok-all.all.items ≡ ns = c.in_ok-all.ensures in
-    let m : c.in_ok-names.names ≡ c.deref.result.now = c.in_ok-names.ensures in
-    let n : c.in_ok-names.names ≡ ns = cc in
+    let n : c.in_ok-names.names ≡ ns = c.in_ok-names.ensures ∙ n0 in
     subst (λ (o : Option Refusal). IfOk c.refuse_late.result (λ r. option_map refusal_of r ≡ o))
     ((λ i. first_refusal (bad_pattern_at B (n i) (r i) ∷ depth_clash_at (n i) (r i) ∷ []))
     ∙ sym (late_of (unbuilt_at c.args.form.now) (shape_at ss) (duplicate_at ss) (bad_name_at ss) (bad_pattern_at B ns ss ∷ depth_clash_at ns ss ∷ []) u e))

@@ -1,10 +1,13 @@
 use Rattle.std.proofs.Common.{◌≡◌, ◌∙◌, ◌+◌, ◌-◌, ◌<◌, ◌∷◌, ℕ, suc, List, length, drop, sym, ap, subst, arith}
 use Rattle.std.proofs.lemmas.Grind.{common_steps}
+use Rattle.std.proofs.lemmas.Map.Text.{btree_map_updates_str}
+use Rattle.std.specs.Prelude.{Some}
+use Rattle.rdx_lang.proofs.FirstPlaces.{places-next}
 use Rattle.rdx_lang.proofs.Rest.{rest_at}
-use Rattle.rdx_defs.specs.Inside.Arrows.{FindsPlaces}
+use Rattle.rdx_grammar.specs.Parts.{text_of}
+use Rattle.rdx_defs.specs.Inside.Arrows.{FindsPlaces, place_in}
 use Rattle.rdx_defs.specs.Inside.ShortcutViews.{shortcut_of, shortcuts_in}
 use Rattle.rdx_defs.specs.Shorthand.{Shortcut}
-use Rattle.rdx_defs.proofs.ArrowPlaces.{places-next}
 use Rattle.rdx_defs.proofs.shorthand.arrows.Arrows.new.Goals as goal
 
 pub loop-place-preserved : goal.loop-place-preserved
@@ -19,5 +22,5 @@ loop-place-preserved c =
     rest_at shortcut_of ss i c.index.result.now l c.index.ensures
     ∙ ap (λ m. shortcut_of c.index.result.now ∷ shortcuts_in (drop m ss)) k in
     subst (λ (zs : List Shortcut). FindsPlaces c.insert.new.self i zs) (sym e)
-    (places-next i j c.text.result (shortcut_of c.index.result.now) (shortcuts_in (drop j ss)) c.loop-place.places c.insert.new.self n c.text.ensures
-    c.in_ok-insert.ensures.updates c.loop-place.invariant)
+    (places-next (λ (s : Shortcut). text_of s.new) i j c.text.result.now (shortcut_of c.index.result.now) (shortcuts_in (drop j ss)) (place_in c.loop-place.places) (place_in c.insert.new.self) n
+    c.text.ensures (btree_map_updates_str c.text.result.now c.loop-place.places c.insert.new.self (Some i) c.in_ok-insert.ensures.updates) c.loop-place.invariant)

@@ -23,16 +23,14 @@ use Rattle.rdx_defs.proofs.PassedForms.{gained, judgement-valid}
 use Rattle.rdx_defs.proofs.ReadJudgements.{no-name, no-mode}
 use Rattle.rdx_defs.proofs.InheritedParts.{judgement-has}
 use Rattle.rdx_defs.proofs.ReadableParts.{readable-inherited}
-use Rattle.rdx_defs.proofs.judgements.reader.read_judgement.Goals as goal
+use Rattle.rdx_defs.proofs.judgements.reader.read_judgement_over.Goals as goal
 
 pub returns-in-Some-2-clause-reads : goal.returns-in-Some-2-clause-reads
 returns-in-Some-2-clause-reads c =
     let S = scope_of c.args.scope.now in
     let L = language_in c.args.language.now in
     let d = c.args.form.now in
-    let n0 : c.in_ok-all.all.items ≡ names_of L = c.in_ok-all.ensures in
-    let n1 : c.in_ok-names.names ≡ c.deref.result.now = c.in_ok-names.ensures in
-    let n : c.in_ok-names.names ≡ names_of L = cc in
+    let n : c.args.names.now ≡ names_of L = c.requires.names in
     (λ i. judgement_refusal S (sym n i) d) ∙ sym c.in_ok-refusal.ensures ∙ ap (option_map refusal_of) c.in-Some-2.is
 
 pub unreachable-requires : goal.unreachable-requires
@@ -42,12 +40,10 @@ unreachable-requires c =
     let d = c.args.form.now in
     let f = judgement_form_of c.in-Some.parts in
     let g : judgement_form d ≡ Some f = sym c.judgement_form.ensures ∙ ap (option_map judgement_form_of) c.in-Some.is in
-    let n0 : c.in_ok-all.all.items ≡ names_of L = c.in_ok-all.ensures in
-    let n1 : c.in_ok-names.names ≡ c.deref.result.now = c.in_ok-names.ensures in
-    let n : c.in_ok-names.names ≡ names_of L = cc in
+    let n : c.args.names.now ≡ names_of L = c.requires.names in
     let e : judgement_refusal S (names_of L) d ≡ None =
     (λ i. judgement_refusal S (sym n i) d) ∙ sym c.in_ok-refusal.ensures ∙ ap (option_map refusal_of) c.in_default-2.is in
-    let v = judgement-valid S L d f c.requires g e in
+    let v = judgement-valid S L d f c.requires.readable g e in
     no-name f v.moded (sym c.judgement_in.ensures ∙ ap (option_map (λ x. x.now)) c.in_default-judgement_in.is)
 
 pub unreachable-requires-in_default-mode : goal.unreachable-requires-in_default-mode
@@ -57,12 +53,10 @@ unreachable-requires-in_default-mode c =
     let d = c.args.form.now in
     let f = judgement_form_of c.in-Some.parts in
     let g : judgement_form d ≡ Some f = sym c.judgement_form.ensures ∙ ap (option_map judgement_form_of) c.in-Some.is in
-    let n0 : c.in_ok-all.all.items ≡ names_of L = c.in_ok-all.ensures in
-    let n1 : c.in_ok-names.names ≡ c.deref.result.now = c.in_ok-names.ensures in
-    let n : c.in_ok-names.names ≡ names_of L = cc in
+    let n : c.args.names.now ≡ names_of L = c.requires.names in
     let e : judgement_refusal S (names_of L) d ≡ None =
     (λ i. judgement_refusal S (sym n i) d) ∙ sym c.in_ok-refusal.ensures ∙ ap (option_map refusal_of) c.in_default-2.is in
-    let v = judgement-valid S L d f c.requires g e in
+    let v = judgement-valid S L d f c.requires.readable g e in
     no-mode (own_mode f) v.moded (sym c.in_ok-mode.ensures ∙ ap (option_map (λ x. x.items)) c.in_default-mode.is)
 
 pub read_parts-requires-clause-rules : goal.read_parts-requires-clause-rules
@@ -72,12 +66,10 @@ read_parts-requires-clause-rules c =
     let d = c.args.form.now in
     let f = judgement_form_of c.in-Some.parts in
     let g : judgement_form d ≡ Some f = sym c.judgement_form.ensures ∙ ap (option_map judgement_form_of) c.in-Some.is in
-    let n0 : c.in_ok-all.all.items ≡ names_of L = c.in_ok-all.ensures in
-    let n1 : c.in_ok-names.names ≡ c.deref.result.now = c.in_ok-names.ensures in
-    let n : c.in_ok-names.names ≡ names_of L = cc in
+    let n : c.args.names.now ≡ names_of L = c.requires.names in
     let e : judgement_refusal S (names_of L) d ≡ None =
     (λ i. judgement_refusal S (sym n i) d) ∙ sym c.in_ok-refusal.ensures ∙ ap (option_map refusal_of) c.in_default-2.is in
-    let v = judgement-valid S L d f c.requires g e in
+    let v = judgement-valid S L d f c.requires.readable g e in
     let w : language_in c.add_asked.new.language ≡ gained L d = c.in_ok-add_asked.ensures.added in
     subst (λ (xs : List (List ℕ)). RulesHave S (can_read S (language_in c.add_asked.new.language) xs) (judgement_outline f).rules) (sym n)
     (subst (λ (M : Language). RulesHave S (can_read S M (names_of L)) (judgement_outline f).rules) (sym w) v.parts.rules)
@@ -89,12 +81,10 @@ read_parts-requires-clause-contract c =
     let d = c.args.form.now in
     let f = judgement_form_of c.in-Some.parts in
     let g : judgement_form d ≡ Some f = sym c.judgement_form.ensures ∙ ap (option_map judgement_form_of) c.in-Some.is in
-    let n0 : c.in_ok-all.all.items ≡ names_of L = c.in_ok-all.ensures in
-    let n1 : c.in_ok-names.names ≡ c.deref.result.now = c.in_ok-names.ensures in
-    let n : c.in_ok-names.names ≡ names_of L = cc in
+    let n : c.args.names.now ≡ names_of L = c.requires.names in
     let e : judgement_refusal S (names_of L) d ≡ None =
     (λ i. judgement_refusal S (sym n i) d) ∙ sym c.in_ok-refusal.ensures ∙ ap (option_map refusal_of) c.in_default-2.is in
-    let v = judgement-valid S L d f c.requires g e in
+    let v = judgement-valid S L d f c.requires.readable g e in
     let w : language_in c.add_asked.new.language ≡ gained L d = c.in_ok-add_asked.ensures.added in
     subst (λ (xs : List (List ℕ)). IsJudgementContract (language_in c.add_asked.new.language) xs (contract_form f)) (sym n)
     (subst (λ (M : Language). IsJudgementContract M (names_of L) (contract_form f)) (sym w) v.contract)
@@ -104,7 +94,7 @@ read_parts-requires-clause-language c =
     let d = c.args.form.now in
     let f = judgement_form_of c.in-Some.parts in
     let g : judgement_form d ≡ Some f = sym c.judgement_form.ensures ∙ ap (option_map judgement_form_of) c.in-Some.is in
-    (judgement-has IsReadable IsReadableTaken readable-inherited d f c.requires g).language
+    (judgement-has IsReadable IsReadableTaken readable-inherited d f c.requires.readable g).language
 
 pub read_parts-requires-clause-name : goal.read_parts-requires-clause-name
 read_parts-requires-clause-name c =
@@ -113,12 +103,10 @@ read_parts-requires-clause-name c =
     let d = c.args.form.now in
     let f = judgement_form_of c.in-Some.parts in
     let g : judgement_form d ≡ Some f = sym c.judgement_form.ensures ∙ ap (option_map judgement_form_of) c.in-Some.is in
-    let n0 : c.in_ok-all.all.items ≡ names_of L = c.in_ok-all.ensures in
-    let n1 : c.in_ok-names.names ≡ c.deref.result.now = c.in_ok-names.ensures in
-    let n : c.in_ok-names.names ≡ names_of L = cc in
+    let n : c.args.names.now ≡ names_of L = c.requires.names in
     let e : judgement_refusal S (names_of L) d ≡ None =
     (λ i. judgement_refusal S (sym n i) d) ∙ sym c.in_ok-refusal.ensures ∙ ap (option_map refusal_of) c.in_default-2.is in
-    let v = judgement-valid S L d f c.requires g e in
+    let v = judgement-valid S L d f c.requires.readable g e in
     let x = c.in-Some-judgement_in.name.now in
     let j : judgement_in f ≡ Some x = sym c.judgement_in.ensures ∙ ap (option_map (λ y. y.now)) c.in-Some-judgement_in.is in
     subst (λ (o : Option Sexp). IsTrue (is_name (text_in o))) j v.named
@@ -130,12 +118,10 @@ returns-clause-reads c =
     let d = c.args.form.now in
     let f = judgement_form_of c.in-Some.parts in
     let g : judgement_form d ≡ Some f = sym c.judgement_form.ensures ∙ ap (option_map judgement_form_of) c.in-Some.is in
-    let n0 : c.in_ok-all.all.items ≡ names_of L = c.in_ok-all.ensures in
-    let n1 : c.in_ok-names.names ≡ c.deref.result.now = c.in_ok-names.ensures in
-    let n : c.in_ok-names.names ≡ names_of L = cc in
+    let n : c.args.names.now ≡ names_of L = c.requires.names in
     let e : judgement_refusal S (names_of L) d ≡ None =
     (λ i. judgement_refusal S (sym n i) d) ∙ sym c.in_ok-refusal.ensures ∙ ap (option_map refusal_of) c.in_default-2.is in
-    let v = judgement-valid S L d f c.requires g e in
+    let v = judgement-valid S L d f c.requires.readable g e in
     let r : judgement_of c.in_ok-read_parts.field-0 ≡ judgement_reading S (names_of L) f =
     c.in_ok-read_parts.ensures ∙ (λ i. judgement_reading S (n i) f) in
     record { passes = e; parts = f; is_form = g; is_read = r }
@@ -147,12 +133,10 @@ returns-clause-valid c =
     let d = c.args.form.now in
     let f = judgement_form_of c.in-Some.parts in
     let g : judgement_form d ≡ Some f = sym c.judgement_form.ensures ∙ ap (option_map judgement_form_of) c.in-Some.is in
-    let n0 : c.in_ok-all.all.items ≡ names_of L = c.in_ok-all.ensures in
-    let n1 : c.in_ok-names.names ≡ c.deref.result.now = c.in_ok-names.ensures in
-    let n : c.in_ok-names.names ≡ names_of L = cc in
+    let n : c.args.names.now ≡ names_of L = c.requires.names in
     let e : judgement_refusal S (names_of L) d ≡ None =
     (λ i. judgement_refusal S (sym n i) d) ∙ sym c.in_ok-refusal.ensures ∙ ap (option_map refusal_of) c.in_default-2.is in
-    let v = judgement-valid S L d f c.requires g e in
+    let v = judgement-valid S L d f c.requires.readable g e in
     let r : judgement_of c.in_ok-read_parts.field-0 ≡ judgement_reading S (names_of L) f =
     c.in_ok-read_parts.ensures ∙ (λ i. judgement_reading S (n i) f) in
     let w : language_in c.add_asked.new.language ≡ gained L d = c.in_ok-add_asked.ensures.added in

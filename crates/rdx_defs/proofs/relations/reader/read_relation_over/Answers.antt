@@ -18,14 +18,14 @@ use Rattle.rdx_defs.proofs.ExpandedRelations.{expanded-reads, readable-before, r
 use Rattle.rdx_defs.proofs.InheritedParts.{relation-has}
 use Rattle.rdx_defs.proofs.PlainRelations.{no-data, plain-form}
 use Rattle.rdx_defs.proofs.ReadableParts.{readable-inherited, are-readable}
-use Rattle.rdx_defs.proofs.relations.reader.read_relation.Goals as goal
+use Rattle.rdx_defs.proofs.relations.reader.read_relation_over.Goals as goal
 
 pub read_expanded-requires-clause-domain : goal.read_expanded-requires-clause-domain
 read_expanded-requires-clause-domain c =
     let d = c.args.form.now in
     let r = relation_form_of c.in-Some.parts in
     let f : relation_form d ≡ Some r = sym c.relation_form.ensures ∙ ap (option_map relation_form_of) c.in-Some.is in
-    let h = relation-has IsReadable IsReadableTaken readable-inherited d r c.requires f in
+    let h = relation-has IsReadable IsReadableTaken readable-inherited d r c.requires.readable f in
     are-readable (domain_patterns r.domain) h.domain
 
 pub read_expanded-requires-clause-cases : goal.read_expanded-requires-clause-cases
@@ -33,7 +33,7 @@ read_expanded-requires-clause-cases c =
     let d = c.args.form.now in
     let r = relation_form_of c.in-Some.parts in
     let f : relation_form d ≡ Some r = sym c.relation_form.ensures ∙ ap (option_map relation_form_of) c.in-Some.is in
-    let h = relation-has IsReadable IsReadableTaken readable-inherited d r c.requires f in
+    let h = relation-has IsReadable IsReadableTaken readable-inherited d r c.requires.readable f in
     subst AreReadable (sym c.cut_at_with-cut.ensures.cases) (readable-before r.cases (are-readable r.cases h.cases))
 
 pub read_expanded-requires-clause-named : goal.read_expanded-requires-clause-named
@@ -41,7 +41,7 @@ read_expanded-requires-clause-named c =
     let d = c.args.form.now in
     let r = relation_form_of c.in-Some.parts in
     let f : relation_form d ≡ Some r = sym c.relation_form.ensures ∙ ap (option_map relation_form_of) c.in-Some.is in
-    let h = relation-has IsReadable IsReadableTaken readable-inherited d r c.requires f in
+    let h = relation-has IsReadable IsReadableTaken readable-inherited d r c.requires.readable f in
     h.language
 
 pub returns-then-is_empty-clause-reads : goal.returns-then-is_empty-clause-reads
@@ -79,7 +79,7 @@ read_expanded-requires-2-clause-domain c =
     let d = c.args.form.now in
     let r = relation_form_of c.in-Some.parts in
     let f : relation_form d ≡ Some r = sym c.relation_form.ensures ∙ ap (option_map relation_form_of) c.in-Some.is in
-    let h = relation-has IsReadable IsReadableTaken readable-inherited d r c.requires f in
+    let h = relation-has IsReadable IsReadableTaken readable-inherited d r c.requires.readable f in
     are-readable (domain_patterns r.domain) h.domain
 
 pub read_expanded-requires-2-clause-cases : goal.read_expanded-requires-2-clause-cases
@@ -87,7 +87,7 @@ read_expanded-requires-2-clause-cases c =
     let d = c.args.form.now in
     let r = relation_form_of c.in-Some.parts in
     let f : relation_form d ≡ Some r = sym c.relation_form.ensures ∙ ap (option_map relation_form_of) c.in-Some.is in
-    let h = relation-has IsReadable IsReadableTaken readable-inherited d r c.requires f in
+    let h = relation-has IsReadable IsReadableTaken readable-inherited d r c.requires.readable f in
     let cut = c.cut_at_with-cut.ensures in
     subst AreReadable (sym c.deref.ensures.value)
     (c.in_ok-expanded.ensures.readable (subst AreReadable (sym cut.cases) (readable-before r.cases (are-readable r.cases h.cases)))
@@ -98,7 +98,7 @@ read_expanded-requires-2-clause-named c =
     let d = c.args.form.now in
     let r = relation_form_of c.in-Some.parts in
     let f : relation_form d ≡ Some r = sym c.relation_form.ensures ∙ ap (option_map relation_form_of) c.in-Some.is in
-    let h = relation-has IsReadable IsReadableTaken readable-inherited d r c.requires f in
+    let h = relation-has IsReadable IsReadableTaken readable-inherited d r c.requires.readable f in
     h.language
 
 pub returns-clause-reads : goal.returns-clause-reads

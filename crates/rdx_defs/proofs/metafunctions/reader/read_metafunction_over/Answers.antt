@@ -26,7 +26,7 @@ use Rattle.rdx_defs.proofs.FormRefusals.{metafunction-refused}
 use Rattle.rdx_defs.proofs.PassedForms.{gained, metafunction-early, has-function, metafunction-valid}
 use Rattle.rdx_defs.proofs.InheritedParts.{metafunction-has, contract-has}
 use Rattle.rdx_defs.proofs.ReadableParts.{readable-inherited, are-readable}
-use Rattle.rdx_defs.proofs.metafunctions.reader.read_metafunction.Goals as goal
+use Rattle.rdx_defs.proofs.metafunctions.reader.read_metafunction_over.Goals as goal
 
 pub function_stands-requires-clause-alone : goal.function_stands-requires-clause-alone
 function_stands-requires-clause-alone c =
@@ -35,14 +35,14 @@ function_stands-requires-clause-alone c =
     let f : metafunction_form d ≡ Some m = sym c.metafunction_form.ensures ∙ ap (option_map metafunction_form_of) c.in-Some.is in
     let k : option_map (λ x. x.now) c.function_in-function.result ≡ function_in m = c.function_in-function.ensures in
     let o : outline_of c.in_ok-outline.outline ≡ metafunction_outline m (function_in m) = c.in_ok-outline.ensures ∙ ap (metafunction_outline m) k in
-    subst AreReadable (sym (ap (λ (z : Outline). z.alone) o)) (are-readable (contract_patterns m.contract) (contract-has IsReadable IsReadableTaken readable-inherited m.contract (metafunction-has IsReadable IsReadableTaken readable-inherited d m c.requires f).contract))
+    subst AreReadable (sym (ap (λ (z : Outline). z.alone) o)) (are-readable (contract_patterns m.contract) (contract-has IsReadable IsReadableTaken readable-inherited m.contract (metafunction-has IsReadable IsReadableTaken readable-inherited d m c.requires.readable f).contract))
 
 pub function_stands-requires-clause-clauses : goal.function_stands-requires-clause-clauses
 function_stands-requires-clause-clauses c =
     let d = c.args.form.now in
     let m = metafunction_form_of c.in-Some.parts in
     let f : metafunction_form d ≡ Some m = sym c.metafunction_form.ensures ∙ ap (option_map metafunction_form_of) c.in-Some.is in
-    are-readable m.clauses (metafunction-has IsReadable IsReadableTaken readable-inherited d m c.requires f).clauses
+    are-readable m.clauses (metafunction-has IsReadable IsReadableTaken readable-inherited d m c.requires.readable f).clauses
 
 pub refuse_parts-requires : goal.refuse_parts-requires
 refuse_parts-requires c =
@@ -52,9 +52,9 @@ refuse_parts-requires c =
     let f : metafunction_form d ≡ Some m = sym c.metafunction_form.ensures ∙ ap (option_map metafunction_form_of) c.in-Some.is in
     let k : option_map (λ x. x.now) c.function_in-function.result ≡ function_in m = c.function_in-function.ensures in
     let o : outline_of c.in_ok-outline.outline ≡ metafunction_outline m (function_in m) = c.in_ok-outline.ensures ∙ ap (metafunction_outline m) k in
-    let q : stands_of c.deref-2.result.now ≡ function_stands S m (function_in m) =
-    ap stands_of c.deref-2.ensures.value ∙ c.in_ok-found.ensures ∙ ap (function_stands S m) k in
-    λ e. subst (λ (z : Outline). OutlineHas S (can_bind c.in_ok-names.names) z) (sym o) (metafunction-early S c.in_ok-names.names d m (stands_of c.deref-2.result.now) c.requires f q e)
+    let q : stands_of c.deref.result.now ≡ function_stands S m (function_in m) =
+    ap stands_of c.deref.ensures.value ∙ c.in_ok-found.ensures ∙ ap (function_stands S m) k in
+    λ e. subst (λ (z : Outline). OutlineHas S (can_bind c.args.names.now) z) (sym o) (metafunction-early S c.args.names.now d m (stands_of c.deref.result.now) c.requires.readable f q e)
 
 pub returns-in-Some-2-clause-reads : goal.returns-in-Some-2-clause-reads
 returns-in-Some-2-clause-reads c =
@@ -65,12 +65,10 @@ returns-in-Some-2-clause-reads c =
     let f : metafunction_form d ≡ Some m = sym c.metafunction_form.ensures ∙ ap (option_map metafunction_form_of) c.in-Some.is in
     let k : option_map (λ x. x.now) c.function_in-function.result ≡ function_in m = c.function_in-function.ensures in
     let o : outline_of c.in_ok-outline.outline ≡ metafunction_outline m (function_in m) = c.in_ok-outline.ensures ∙ ap (metafunction_outline m) k in
-    let q : stands_of c.deref-2.result.now ≡ function_stands S m (function_in m) =
-    ap stands_of c.deref-2.ensures.value ∙ c.in_ok-found.ensures ∙ ap (function_stands S m) k in
+    let q : stands_of c.deref.result.now ≡ function_stands S m (function_in m) =
+    ap stands_of c.deref.ensures.value ∙ c.in_ok-found.ensures ∙ ap (function_stands S m) k in
     let u : unbuilt_at d ≡ None = ap (λ b. if b then Some (unnamed Unbuilt d) else None) (sym c.has_word_to_come.ensures ∙ c.if-has_word_to_come.false) in
-    let n0 : c.in_ok-all.all.items ≡ names_of L = c.in_ok-all.ensures in
-    let n1 : c.in_ok-names.names ≡ c.deref.result.now = c.in_ok-names.ensures in
-    let n : c.in_ok-names.names ≡ names_of L = cc in
+    let n : c.args.names.now ≡ names_of L = c.requires.names in
     metafunction-refused S (names_of L) d m u f ∙ (λ i. form_refusal S (sym n i) (sym q i) (sym o i)) ∙ sym c.in_ok-refusal.ensures ∙ ap (option_map refusal_of) c.in-Some-2.is
 
 pub read_parts-requires-clause-branches : goal.read_parts-requires-clause-branches
@@ -82,17 +80,15 @@ read_parts-requires-clause-branches c =
     let f : metafunction_form d ≡ Some m = sym c.metafunction_form.ensures ∙ ap (option_map metafunction_form_of) c.in-Some.is in
     let k : option_map (λ x. x.now) c.function_in-function.result ≡ function_in m = c.function_in-function.ensures in
     let o : outline_of c.in_ok-outline.outline ≡ metafunction_outline m (function_in m) = c.in_ok-outline.ensures ∙ ap (metafunction_outline m) k in
-    let q : stands_of c.deref-2.result.now ≡ function_stands S m (function_in m) =
-    ap stands_of c.deref-2.ensures.value ∙ c.in_ok-found.ensures ∙ ap (function_stands S m) k in
+    let q : stands_of c.deref.result.now ≡ function_stands S m (function_in m) =
+    ap stands_of c.deref.ensures.value ∙ c.in_ok-found.ensures ∙ ap (function_stands S m) k in
     let u : unbuilt_at d ≡ None = ap (λ b. if b then Some (unnamed Unbuilt d) else None) (sym c.has_word_to_come.ensures ∙ c.if-has_word_to_come.false) in
-    let n0 : c.in_ok-all.all.items ≡ names_of L = c.in_ok-all.ensures in
-    let n1 : c.in_ok-names.names ≡ c.deref.result.now = c.in_ok-names.ensures in
-    let n : c.in_ok-names.names ≡ names_of L = cc in
+    let n : c.args.names.now ≡ names_of L = c.requires.names in
     let e : metafunction_refusal S (names_of L) d ≡ None =
     metafunction-refused S (names_of L) d m u f ∙ (λ i. form_refusal S (sym n i) (sym q i) (sym o i)) ∙ sym c.in_ok-refusal.ensures ∙ ap (option_map refusal_of) c.in_default-2.is in
     let x = c.in-Some-function.name.now in
     let p : function_in m ≡ Some x = sym k ∙ ap (option_map (λ y. y.now)) c.in-Some-function.is in
-    let v = metafunction-valid S L d m x c.requires f p e in
+    let v = metafunction-valid S L d m x c.requires.readable f p e in
     let b : (outline_of c.in_ok-outline.outline).branches ≡ clause_branches (text_of x) m.clauses = ap (λ (z : Outline). z.branches) (o ∙ ap (metafunction_outline m) p) in
     let w : language_in c.add_asked.new.language ≡ gained L d = c.in_ok-add_asked.ensures.added in
     subst (λ (xs : List (List ℕ)). BranchesHave S (can_read S (language_in c.add_asked.new.language) xs) (outline_of c.in_ok-outline.outline).branches) (sym n)
@@ -108,17 +104,15 @@ read_parts-requires-clause-contract c =
     let f : metafunction_form d ≡ Some m = sym c.metafunction_form.ensures ∙ ap (option_map metafunction_form_of) c.in-Some.is in
     let k : option_map (λ x. x.now) c.function_in-function.result ≡ function_in m = c.function_in-function.ensures in
     let o : outline_of c.in_ok-outline.outline ≡ metafunction_outline m (function_in m) = c.in_ok-outline.ensures ∙ ap (metafunction_outline m) k in
-    let q : stands_of c.deref-2.result.now ≡ function_stands S m (function_in m) =
-    ap stands_of c.deref-2.ensures.value ∙ c.in_ok-found.ensures ∙ ap (function_stands S m) k in
+    let q : stands_of c.deref.result.now ≡ function_stands S m (function_in m) =
+    ap stands_of c.deref.ensures.value ∙ c.in_ok-found.ensures ∙ ap (function_stands S m) k in
     let u : unbuilt_at d ≡ None = ap (λ b. if b then Some (unnamed Unbuilt d) else None) (sym c.has_word_to_come.ensures ∙ c.if-has_word_to_come.false) in
-    let n0 : c.in_ok-all.all.items ≡ names_of L = c.in_ok-all.ensures in
-    let n1 : c.in_ok-names.names ≡ c.deref.result.now = c.in_ok-names.ensures in
-    let n : c.in_ok-names.names ≡ names_of L = cc in
+    let n : c.args.names.now ≡ names_of L = c.requires.names in
     let e : metafunction_refusal S (names_of L) d ≡ None =
     metafunction-refused S (names_of L) d m u f ∙ (λ i. form_refusal S (sym n i) (sym q i) (sym o i)) ∙ sym c.in_ok-refusal.ensures ∙ ap (option_map refusal_of) c.in_default-2.is in
     let x = c.in-Some-function.name.now in
     let p : function_in m ≡ Some x = sym k ∙ ap (option_map (λ y. y.now)) c.in-Some-function.is in
-    let v = metafunction-valid S L d m x c.requires f p e in
+    let v = metafunction-valid S L d m x c.requires.readable f p e in
     let w : language_in c.add_asked.new.language ≡ gained L d = c.in_ok-add_asked.ensures.added in
     subst (λ (xs : List (List ℕ)). IsContractIn (language_in c.add_asked.new.language) xs m.contract) (sym n)
     (subst (λ (M : Language). IsContractIn M (names_of L) m.contract) (sym w) v.good.contract)
@@ -128,7 +122,7 @@ read_parts-requires-clause-language c =
     let d = c.args.form.now in
     let m = metafunction_form_of c.in-Some.parts in
     let f : metafunction_form d ≡ Some m = sym c.metafunction_form.ensures ∙ ap (option_map metafunction_form_of) c.in-Some.is in
-    (metafunction-has IsReadable IsReadableTaken readable-inherited d m c.requires f).language
+    (metafunction-has IsReadable IsReadableTaken readable-inherited d m c.requires.readable f).language
 
 pub read_parts-requires-clause-name : goal.read_parts-requires-clause-name
 read_parts-requires-clause-name c =
@@ -139,17 +133,15 @@ read_parts-requires-clause-name c =
     let f : metafunction_form d ≡ Some m = sym c.metafunction_form.ensures ∙ ap (option_map metafunction_form_of) c.in-Some.is in
     let k : option_map (λ x. x.now) c.function_in-function.result ≡ function_in m = c.function_in-function.ensures in
     let o : outline_of c.in_ok-outline.outline ≡ metafunction_outline m (function_in m) = c.in_ok-outline.ensures ∙ ap (metafunction_outline m) k in
-    let q : stands_of c.deref-2.result.now ≡ function_stands S m (function_in m) =
-    ap stands_of c.deref-2.ensures.value ∙ c.in_ok-found.ensures ∙ ap (function_stands S m) k in
+    let q : stands_of c.deref.result.now ≡ function_stands S m (function_in m) =
+    ap stands_of c.deref.ensures.value ∙ c.in_ok-found.ensures ∙ ap (function_stands S m) k in
     let u : unbuilt_at d ≡ None = ap (λ b. if b then Some (unnamed Unbuilt d) else None) (sym c.has_word_to_come.ensures ∙ c.if-has_word_to_come.false) in
-    let n0 : c.in_ok-all.all.items ≡ names_of L = c.in_ok-all.ensures in
-    let n1 : c.in_ok-names.names ≡ c.deref.result.now = c.in_ok-names.ensures in
-    let n : c.in_ok-names.names ≡ names_of L = cc in
+    let n : c.args.names.now ≡ names_of L = c.requires.names in
     let e : metafunction_refusal S (names_of L) d ≡ None =
     metafunction-refused S (names_of L) d m u f ∙ (λ i. form_refusal S (sym n i) (sym q i) (sym o i)) ∙ sym c.in_ok-refusal.ensures ∙ ap (option_map refusal_of) c.in_default-2.is in
     let x = c.in-Some-function.name.now in
     let p : function_in m ≡ Some x = sym k ∙ ap (option_map (λ y. y.now)) c.in-Some-function.is in
-    let v = metafunction-valid S L d m x c.requires f p e in
+    let v = metafunction-valid S L d m x c.requires.readable f p e in
     v.named
 
 pub unreachable-requires : goal.unreachable-requires
@@ -161,15 +153,13 @@ unreachable-requires c =
     let f : metafunction_form d ≡ Some m = sym c.metafunction_form.ensures ∙ ap (option_map metafunction_form_of) c.in-Some.is in
     let k : option_map (λ x. x.now) c.function_in-function.result ≡ function_in m = c.function_in-function.ensures in
     let o : outline_of c.in_ok-outline.outline ≡ metafunction_outline m (function_in m) = c.in_ok-outline.ensures ∙ ap (metafunction_outline m) k in
-    let q : stands_of c.deref-2.result.now ≡ function_stands S m (function_in m) =
-    ap stands_of c.deref-2.ensures.value ∙ c.in_ok-found.ensures ∙ ap (function_stands S m) k in
+    let q : stands_of c.deref.result.now ≡ function_stands S m (function_in m) =
+    ap stands_of c.deref.ensures.value ∙ c.in_ok-found.ensures ∙ ap (function_stands S m) k in
     let u : unbuilt_at d ≡ None = ap (λ b. if b then Some (unnamed Unbuilt d) else None) (sym c.has_word_to_come.ensures ∙ c.if-has_word_to_come.false) in
-    let n0 : c.in_ok-all.all.items ≡ names_of L = c.in_ok-all.ensures in
-    let n1 : c.in_ok-names.names ≡ c.deref.result.now = c.in_ok-names.ensures in
-    let n : c.in_ok-names.names ≡ names_of L = cc in
+    let n : c.args.names.now ≡ names_of L = c.requires.names in
     let e : metafunction_refusal S (names_of L) d ≡ None =
     metafunction-refused S (names_of L) d m u f ∙ (λ i. form_refusal S (sym n i) (sym q i) (sym o i)) ∙ sym c.in_ok-refusal.ensures ∙ ap (option_map refusal_of) c.in_default-2.is in
-    has-function S (names_of L) d m c.requires f e (sym k ∙ ap (option_map (λ y. y.now)) c.in_default-function.is)
+    has-function S (names_of L) d m c.requires.readable f e (sym k ∙ ap (option_map (λ y. y.now)) c.in_default-function.is)
 
 pub returns-clause-reads : goal.returns-clause-reads
 returns-clause-reads c =
@@ -180,17 +170,15 @@ returns-clause-reads c =
     let f : metafunction_form d ≡ Some m = sym c.metafunction_form.ensures ∙ ap (option_map metafunction_form_of) c.in-Some.is in
     let k : option_map (λ x. x.now) c.function_in-function.result ≡ function_in m = c.function_in-function.ensures in
     let o : outline_of c.in_ok-outline.outline ≡ metafunction_outline m (function_in m) = c.in_ok-outline.ensures ∙ ap (metafunction_outline m) k in
-    let q : stands_of c.deref-2.result.now ≡ function_stands S m (function_in m) =
-    ap stands_of c.deref-2.ensures.value ∙ c.in_ok-found.ensures ∙ ap (function_stands S m) k in
+    let q : stands_of c.deref.result.now ≡ function_stands S m (function_in m) =
+    ap stands_of c.deref.ensures.value ∙ c.in_ok-found.ensures ∙ ap (function_stands S m) k in
     let u : unbuilt_at d ≡ None = ap (λ b. if b then Some (unnamed Unbuilt d) else None) (sym c.has_word_to_come.ensures ∙ c.if-has_word_to_come.false) in
-    let n0 : c.in_ok-all.all.items ≡ names_of L = c.in_ok-all.ensures in
-    let n1 : c.in_ok-names.names ≡ c.deref.result.now = c.in_ok-names.ensures in
-    let n : c.in_ok-names.names ≡ names_of L = cc in
+    let n : c.args.names.now ≡ names_of L = c.requires.names in
     let e : metafunction_refusal S (names_of L) d ≡ None =
     metafunction-refused S (names_of L) d m u f ∙ (λ i. form_refusal S (sym n i) (sym q i) (sym o i)) ∙ sym c.in_ok-refusal.ensures ∙ ap (option_map refusal_of) c.in_default-2.is in
     let x = c.in-Some-function.name.now in
     let p : function_in m ≡ Some x = sym k ∙ ap (option_map (λ y. y.now)) c.in-Some-function.is in
-    let v = metafunction-valid S L d m x c.requires f p e in
+    let v = metafunction-valid S L d m x c.requires.readable f p e in
     let b : (outline_of c.in_ok-outline.outline).branches ≡ clause_branches (text_of x) m.clauses = ap (λ (z : Outline). z.branches) (o ∙ ap (metafunction_outline m) p) in
     let g : metafunction_of c.in_ok-read_parts.field-0 ≡ metafunction_reading S (names_of L) m =
     c.in_ok-read_parts.ensures ∙ (λ i. branch_metafunction S (n i) m x (b i)) ∙ v.reading in
@@ -205,17 +193,15 @@ returns-clause-valid c =
     let f : metafunction_form d ≡ Some m = sym c.metafunction_form.ensures ∙ ap (option_map metafunction_form_of) c.in-Some.is in
     let k : option_map (λ x. x.now) c.function_in-function.result ≡ function_in m = c.function_in-function.ensures in
     let o : outline_of c.in_ok-outline.outline ≡ metafunction_outline m (function_in m) = c.in_ok-outline.ensures ∙ ap (metafunction_outline m) k in
-    let q : stands_of c.deref-2.result.now ≡ function_stands S m (function_in m) =
-    ap stands_of c.deref-2.ensures.value ∙ c.in_ok-found.ensures ∙ ap (function_stands S m) k in
+    let q : stands_of c.deref.result.now ≡ function_stands S m (function_in m) =
+    ap stands_of c.deref.ensures.value ∙ c.in_ok-found.ensures ∙ ap (function_stands S m) k in
     let u : unbuilt_at d ≡ None = ap (λ b. if b then Some (unnamed Unbuilt d) else None) (sym c.has_word_to_come.ensures ∙ c.if-has_word_to_come.false) in
-    let n0 : c.in_ok-all.all.items ≡ names_of L = c.in_ok-all.ensures in
-    let n1 : c.in_ok-names.names ≡ c.deref.result.now = c.in_ok-names.ensures in
-    let n : c.in_ok-names.names ≡ names_of L = cc in
+    let n : c.args.names.now ≡ names_of L = c.requires.names in
     let e : metafunction_refusal S (names_of L) d ≡ None =
     metafunction-refused S (names_of L) d m u f ∙ (λ i. form_refusal S (sym n i) (sym q i) (sym o i)) ∙ sym c.in_ok-refusal.ensures ∙ ap (option_map refusal_of) c.in_default-2.is in
     let x = c.in-Some-function.name.now in
     let p : function_in m ≡ Some x = sym k ∙ ap (option_map (λ y. y.now)) c.in-Some-function.is in
-    let v = metafunction-valid S L d m x c.requires f p e in
+    let v = metafunction-valid S L d m x c.requires.readable f p e in
     let b : (outline_of c.in_ok-outline.outline).branches ≡ clause_branches (text_of x) m.clauses = ap (λ (z : Outline). z.branches) (o ∙ ap (metafunction_outline m) p) in
     let g : metafunction_of c.in_ok-read_parts.field-0 ≡ metafunction_reading S (names_of L) m =
     c.in_ok-read_parts.ensures ∙ (λ i. branch_metafunction S (n i) m x (b i)) ∙ v.reading in

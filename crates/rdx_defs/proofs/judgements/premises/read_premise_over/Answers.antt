@@ -18,7 +18,7 @@ use Rattle.rdx_defs.proofs.NamesBound as names
 use Rattle.rdx_defs.proofs.PartsAt.{premise-weaker}
 use Rattle.rdx_defs.proofs.PassedForms.{gained, question-valid}
 use Rattle.rdx_defs.proofs.ReadJudgements.{readable-behind, read-some}
-use Rattle.rdx_defs.proofs.judgements.premises.read_premise.Goals as goal
+use Rattle.rdx_defs.proofs.judgements.premises.read_premise_over.Goals as goal
 
 pub returns-in-Some-clause-reads : goal.returns-in-Some-clause-reads
 returns-in-Some-clause-reads c =
@@ -26,9 +26,7 @@ returns-in-Some-clause-reads c =
     let L = language_in c.args.language.now in
     let d = c.args.premise.now in
     let t = option_map (λ x. x.now) c.args.behind in
-    let n0 : c.in_ok-all.all.items ≡ names_of L = c.in_ok-all.ensures in
-    let n1 : c.in_ok-names.names ≡ c.deref.result.now = c.in_ok-names.ensures in
-    let n : c.in_ok-names.names ≡ names_of L = cc in
+    let n : c.args.names.now ≡ names_of L = c.requires.names in
     (λ i. premise_refusal S (sym n i) d t) ∙ sym c.in_ok-refusal.ensures ∙ ap (option_map refusal_of) c.in-Some.is
 
 pub read_alone-requires : goal.read_alone-requires
@@ -37,9 +35,7 @@ read_alone-requires c =
     let L = language_in c.args.language.now in
     let d = c.args.premise.now in
     let t = option_map (λ x. x.now) c.args.behind in
-    let n0 : c.in_ok-all.all.items ≡ names_of L = c.in_ok-all.ensures in
-    let n1 : c.in_ok-names.names ≡ c.deref.result.now = c.in_ok-names.ensures in
-    let n : c.in_ok-names.names ≡ names_of L = cc in
+    let n : c.args.names.now ≡ names_of L = c.requires.names in
     let e : premise_refusal S (names_of L) d t ≡ None =
     (λ i. premise_refusal S (sym n i) d t) ∙ sym c.in_ok-refusal.ensures ∙ ap (option_map refusal_of) c.in_default.is in
     let v = question-valid S L d t c.requires.premise (readable-behind c.args.behind c.requires.behind) e in
@@ -53,9 +49,7 @@ read_behind-requires c =
     let L = language_in c.args.language.now in
     let d = c.args.premise.now in
     let t = option_map (λ x. x.now) c.args.behind in
-    let n0 : c.in_ok-all.all.items ≡ names_of L = c.in_ok-all.ensures in
-    let n1 : c.in_ok-names.names ≡ c.deref.result.now = c.in_ok-names.ensures in
-    let n : c.in_ok-names.names ≡ names_of L = cc in
+    let n : c.args.names.now ≡ names_of L = c.requires.names in
     let e : premise_refusal S (names_of L) d t ≡ None =
     (λ i. premise_refusal S (sym n i) d t) ∙ sym c.in_ok-refusal.ensures ∙ ap (option_map refusal_of) c.in_default.is in
     let v = question-valid S L d t c.requires.premise (readable-behind c.args.behind c.requires.behind) e in
@@ -68,15 +62,13 @@ returns-clause-reads c =
     let L = language_in c.args.language.now in
     let d = c.args.premise.now in
     let t = option_map (λ x. x.now) c.args.behind in
-    let n0 : c.in_ok-all.all.items ≡ names_of L = c.in_ok-all.ensures in
-    let n1 : c.in_ok-names.names ≡ c.deref.result.now = c.in_ok-names.ensures in
-    let n : c.in_ok-names.names ≡ names_of L = cc in
+    let n : c.args.names.now ≡ names_of L = c.requires.names in
     let e : premise_refusal S (names_of L) d t ≡ None =
     (λ i. premise_refusal S (sym n i) d t) ∙ sym c.in_ok-refusal.ensures ∙ ap (option_map refusal_of) c.in_default.is in
     let v = question-valid S L d t c.requires.premise (readable-behind c.args.behind c.requires.behind) e in
     let r : option_map premise_of (Some c.in-Some-2.asked) ≡ option_map (premise_reading S (names_of L) []) (headed d) =
     sym (ap (option_map premise_of) c.in-Some-2.is) ∙ c.in_ok-asked.ensures ∙ (λ i. option_map (premise_reading S (n i) []) (headed d)) in
-    let bound : premise_names S c.in_ok-names.names (headed d) ≡ names_bound (bound_by_premise S (names_of L) (headed d)) =
+    let bound : premise_names S c.args.names.now (headed d) ≡ names_bound (bound_by_premise S (names_of L) (headed d)) =
     ap (λ (xs : List (List ℕ)). premise_names S xs (headed d)) n ∙ names.premise-names S (names_of L) (headed d) in
     record {
       passes = e;

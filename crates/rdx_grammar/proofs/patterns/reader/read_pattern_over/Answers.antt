@@ -12,41 +12,35 @@ use Rattle.rdx_grammar.specs.Reading.{reading}
 use Rattle.rdx_grammar.specs.Refusal.{refusal_of}
 use Rattle.rdx_grammar.specs.declared.patterns.position.Position.TheVariants.{Query}
 use Rattle.rdx_grammar.proofs.KnownReadings.{pattern_well_formed}
-use Rattle.rdx_grammar.proofs.patterns.reader.read_pattern.Goals as goal
+use Rattle.rdx_grammar.proofs.patterns.reader.read_pattern_over.Goals as goal
 
 pub check_with_crosses-requires : goal.check_with_crosses-requires
 check_with_crosses-requires c =
     let L = language_in c.args.language.now in
     let d = c.args.d.now in
-    let n0 : c.in_ok-all.all.items ≡ names_of L = c.in_ok-all.ensures in
-    let m : c.in_ok-names.names ≡ c.deref.result.now = c.in_ok-names.ensures in
-    let n : c.in_ok-names.names ≡ names_of L = cc in
-    let r : option_map refusal_of c.in_ok-refusal.field-0 ≡ pattern_refusal c.in_ok-names.names d = c.in_ok-refusal.ensures in
+    let n : c.args.names.now ≡ names_of L = c.requires.names in
+    let r : option_map refusal_of c.in_ok-refusal.field-0 ≡ pattern_refusal c.args.names.now d = c.in_ok-refusal.ensures in
     let o : pattern_refusal (names_of L) d ≡ None = ap (λ xs. pattern_refusal xs d) (sym n) ∙ sym r ∙ ap (option_map refusal_of) c.in_default.is in
     let e : pattern_of c.in_ok-pattern.pattern ≡ reading (names_of L) Query d = c.in_ok-pattern.ensures ∙ ap (λ xs. reading xs Query d) n in
-    let a : c.deref-2.result.now ≡ ends_in d = c.deref-2.ensures.value ∙ c.in_ok-asked.ensures in
-    let f : c.deref-3.result.now ≡ known_ends (names_of L) (ends_in d) = c.deref-3.ensures.value ∙ c.in_ok-ends.ensures ∙ λ i. known_ends (n i) (a i) in
+    let a : c.deref.result.now ≡ ends_in d = c.deref.ensures.value ∙ c.in_ok-asked.ensures in
+    let f : c.deref-2.result.now ≡ known_ends (names_of L) (ends_in d) = c.deref-2.ensures.value ∙ c.in_ok-ends.ensures ∙ λ i. known_ends (n i) (a i) in
     ap (λ (es : List (List ℕ)). is_well_formed_in (with_crosses_to L es) (pattern_of c.in_ok-pattern.pattern)) f
     ∙ ap (is_well_formed_in (crossed_for (ends_in d) L)) e
-    ∙ pattern_well_formed L (ends_in d) d c.requires (λ x i. i) o
+    ∙ pattern_well_formed L (ends_in d) d c.requires.readable (λ x i. i) o
 
 pub returns-in-Some-clause-reads : goal.returns-in-Some-clause-reads
 returns-in-Some-clause-reads c =
     let ns = names_of (language_in c.args.language.now) in
-    let n0 : c.in_ok-all.all.items ≡ ns = c.in_ok-all.ensures in
-    let m : c.in_ok-names.names ≡ c.deref.result.now = c.in_ok-names.ensures in
-    let n : c.in_ok-names.names ≡ ns = cc in
-    let r : option_map refusal_of c.in_ok-refusal.field-0 ≡ pattern_refusal c.in_ok-names.names c.args.d.now = c.in_ok-refusal.ensures in
+    let n : c.args.names.now ≡ ns = c.requires.names in
+    let r : option_map refusal_of c.in_ok-refusal.field-0 ≡ pattern_refusal c.args.names.now c.args.d.now = c.in_ok-refusal.ensures in
     ap (λ xs. pattern_refusal xs c.args.d.now) (sym n) ∙ sym r ∙ ap (option_map refusal_of) c.in-Some.is
 
 pub returns-clause-reads : goal.returns-clause-reads
 returns-clause-reads c =
     let d = c.args.d.now in
     let ns = names_of (language_in c.args.language.now) in
-    let n0 : c.in_ok-all.all.items ≡ ns = c.in_ok-all.ensures in
-    let m : c.in_ok-names.names ≡ c.deref.result.now = c.in_ok-names.ensures in
-    let n : c.in_ok-names.names ≡ ns = cc in
-    let r : option_map refusal_of c.in_ok-refusal.field-0 ≡ pattern_refusal c.in_ok-names.names d = c.in_ok-refusal.ensures in
+    let n : c.args.names.now ≡ ns = c.requires.names in
+    let r : option_map refusal_of c.in_ok-refusal.field-0 ≡ pattern_refusal c.args.names.now d = c.in_ok-refusal.ensures in
     let e : pattern_in c.in_ok-check_with_crosses.field-0 ≡ reading ns Query d =
     c.in_ok-check_with_crosses.ensures.pattern ∙ c.in_ok-pattern.ensures ∙ ap (λ xs. reading xs Query d) n in
     (ap (λ xs. pattern_refusal xs d) (sym n) ∙ sym r ∙ ap (option_map refusal_of) c.in_default.is, e)
@@ -55,28 +49,24 @@ pub returns-clause-well_formed : goal.returns-clause-well_formed
 returns-clause-well_formed c =
     let L = language_in c.args.language.now in
     let d = c.args.d.now in
-    let n0 : c.in_ok-all.all.items ≡ names_of L = c.in_ok-all.ensures in
-    let m : c.in_ok-names.names ≡ c.deref.result.now = c.in_ok-names.ensures in
-    let n : c.in_ok-names.names ≡ names_of L = cc in
-    let r : option_map refusal_of c.in_ok-refusal.field-0 ≡ pattern_refusal c.in_ok-names.names d = c.in_ok-refusal.ensures in
+    let n : c.args.names.now ≡ names_of L = c.requires.names in
+    let r : option_map refusal_of c.in_ok-refusal.field-0 ≡ pattern_refusal c.args.names.now d = c.in_ok-refusal.ensures in
     let o : pattern_refusal (names_of L) d ≡ None = ap (λ xs. pattern_refusal xs d) (sym n) ∙ sym r ∙ ap (option_map refusal_of) c.in_default.is in
     let e : pattern_in c.in_ok-check_with_crosses.field-0 ≡ reading (names_of L) Query d =
     c.in_ok-check_with_crosses.ensures.pattern ∙ c.in_ok-pattern.ensures ∙ ap (λ xs. reading xs Query d) n in
-    let a : c.deref-2.result.now ≡ ends_in d = c.deref-2.ensures.value ∙ c.in_ok-asked.ensures in
-    let f : c.deref-3.result.now ≡ known_ends (names_of L) (ends_in d) = c.deref-3.ensures.value ∙ c.in_ok-ends.ensures ∙ λ i. known_ends (n i) (a i) in
+    let a : c.deref.result.now ≡ ends_in d = c.deref.ensures.value ∙ c.in_ok-asked.ensures in
+    let f : c.deref-2.result.now ≡ known_ends (names_of L) (ends_in d) = c.deref-2.ensures.value ∙ c.in_ok-ends.ensures ∙ λ i. known_ends (n i) (a i) in
     let g : language_in c.check_with_crosses.new.language ≡ crossed_for (ends_in d) L =
     c.in_ok-check_with_crosses.ensures.added ∙ ap (λ (es : List (List ℕ)). with_crosses_to L es) f in
     ap (λ (M : Language). is_well_formed_in M (pattern_in c.in_ok-check_with_crosses.field-0)) g
     ∙ ap (λ (p : Pattern). is_well_formed_in (crossed_for (ends_in d) L) p) e
-    ∙ pattern_well_formed L (ends_in d) d c.requires (λ x i. i) o
+    ∙ pattern_well_formed L (ends_in d) d c.requires.readable (λ x i. i) o
 
 pub returns-clause-gains : goal.returns-clause-gains
 returns-clause-gains c =
     let L = language_in c.args.language.now in
     let d = c.args.d.now in
-    let n0 : c.in_ok-all.all.items ≡ names_of L = c.in_ok-all.ensures in
-    let m : c.in_ok-names.names ≡ c.deref.result.now = c.in_ok-names.ensures in
-    let n : c.in_ok-names.names ≡ names_of L = cc in
-    let a : c.deref-2.result.now ≡ ends_in d = c.deref-2.ensures.value ∙ c.in_ok-asked.ensures in
-    let f : c.deref-3.result.now ≡ known_ends (names_of L) (ends_in d) = c.deref-3.ensures.value ∙ c.in_ok-ends.ensures ∙ λ i. known_ends (n i) (a i) in
+    let n : c.args.names.now ≡ names_of L = c.requires.names in
+    let a : c.deref.result.now ≡ ends_in d = c.deref.ensures.value ∙ c.in_ok-asked.ensures in
+    let f : c.deref-2.result.now ≡ known_ends (names_of L) (ends_in d) = c.deref-2.ensures.value ∙ c.in_ok-ends.ensures ∙ λ i. known_ends (n i) (a i) in
     c.in_ok-check_with_crosses.ensures.added ∙ ap (λ (es : List (List ℕ)). with_crosses_to L es) f
