@@ -94,16 +94,6 @@ pub record Merges (a b left right merged : Binding) : Type 0 where
   pub in_right : (p : Pair) → In p right → In p b
   pub joined : (c : Binding) → IsJoin left right c → IsJoin a b (merged ++ c)
 
--- at the start all is left
-pub merges-start : (a b merged : Binding) → HasAscendingNames a → HasAscendingNames b → merged ≡ [] → Merges a b a b merged
-merges-start a b merged h k e = record {
-  left_ascends = h;
-  right_ascends = k;
-  in_left = λ p i. i;
-  in_right = λ p i. i;
-  joined = λ c j. subst (λ (m : Binding). IsJoin a b (m ++ c)) (sym e) j;
-}
-
 module _ (a b left right merged : Binding) (p q : Pair) (l r : Binding) (e : left ≡ p ∷ l) (f : right ≡ q ∷ r) where
   -- what is left of the left side ascends
   left_asc : Merges a b left right merged → HasAscendingNames (p ∷ l)

@@ -29,8 +29,6 @@ mod single;
 mod sorting;
 mod splits;
 pub mod spots;
-#[cfg(test)]
-mod tests;
 pub mod trail;
 pub mod turn_matches;
 pub mod turn_spots;

@@ -2,6 +2,10 @@ pub mod Pieces
 pub mod Numbers
 pub mod Lines
 pub mod Rows
+pub mod OneRow
+pub mod OneFile
 pub mod OneText
+pub mod OneOutcome
 pub mod SomeText
+pub mod WordExamples
 pub mod WorkedExamples

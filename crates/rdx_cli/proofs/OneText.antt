@@ -1,9 +1,9 @@
 -- A file has one transcript.
 use Rattle.std.proofs.Common.{◌≡◌, ℕ, List, [], ◌++◌, ap, sym, ◌∙◌, subst, codes, decimal, arith}
 use Rattle.rdx_grammar.specs.Refusal.{Refusal}
-use Rattle.rdx_query.specs.Answering.{Writes}
+use Rattle.rdx_query.specs.Writing.{Writes}
 use Rattle.rdx_query.specs.File.{IsFileRefusal}
-use Rattle.rdx_query.specs.Workload as file
+use Rattle.rdx_answer.specs.Workload as file
 use Rattle.rdx_query.specs.Laws.{OneText, OneRefusal, NeverBothTextAndRefusal}
 use Rattle.rdx_sexp.specs.Laws.{OneReading, OneFault, DataOrFault}
 use Rattle.rdx_sexp.specs.Sexp.{Sexp}

@@ -2,7 +2,7 @@
 use Rattle.std.proofs.Common.{ℕ, ◌≤◌, List, [], length, inl, inr, refl}
 use Rattle.std.proofs.lemmas.Bool.{cases_lt}
 use Rattle.rdx_query.specs.Laws.{SomeTextOrRefusal}
-use Rattle.rdx_query.specs.Workload as file
+use Rattle.rdx_answer.specs.Workload as file
 use Rattle.rdx_sexp.specs.Laws.{NeverNeither}
 use Rattle.rdx_sexp.specs.Sexp.{Sexp}
 use Rattle.rdx_cli.specs.Laws.{HasTranscript}

@@ -6,7 +6,7 @@ use Rattle.std.proofs.lemmas.Str.{chars_from_encodes}
 use Rattle.std.specs.Prelude.{Bool, true, false, Option, Some, None, is_none, decimal}
 use Rattle.rdx_base.specs.declared.place.Span.{Span}
 use Rattle.rdx_sexp.specs.Begin.{body}
-use Rattle.rdx_sexp.specs.Examples.{place, columns, CommentsAlone, WrongBracket}
+use Rattle.rdx_sexp.specs.Examples.{place, columns, CommentsAlone, NoText, WrongBracket}
 use Rattle.rdx_sexp.specs.Grammar.{Many, one_leaf, one_list, many_none, many_more}
 use Rattle.rdx_sexp.specs.Lex.{Step, first_lexeme}
 use Rattle.rdx_sexp.specs.Lexeme.{Lexeme}
@@ -14,19 +14,19 @@ use Rattle.rdx_sexp.specs.Reads.{Lexes, lexes_end, lexes_more, Reads}
 use Rattle.rdx_sexp.specs.Refusal.{refusal}
 use Rattle.rdx_sexp.specs.Sexp.{Sexp, integer, symbol, leaf, list, sexps}
 use Rattle.rdx_sexp.specs.Text.{Text}
-use Rattle.rdx_sexp.specs.declared.fault.ReadKind.TheVariants.{WrongClose}
+use Rattle.rdx_sexp.specs.declared.fault.ReadKind.TheVariants.{NotUtf8, WrongClose}
 use Rattle.rdx_grammar.specs.declared.shape.fault.DefKind.TheVariants.{UnknownLanguage}
 use Rattle.rdx_grammar.specs.Refusal.{named as named_refusal}
-use Rattle.rdx_query.specs.Answering.{no_answers}
+use Rattle.rdx_answer.specs.Answering.{no_answers}
 use Rattle.rdx_query.specs.Definitions.{Defined}
 use Rattle.rdx_query.specs.Examples.{word, number, defines_L, asks, AnswersInOrder}
 use Rattle.rdx_query.specs.Examples.{form as spanned}
 use Rattle.rdx_query.specs.Forms.{form_refusal, form_definition}
 use Rattle.rdx_query.specs.Known.{Known, empty_program, nothing_in, with_definition}
 use Rattle.rdx_query.specs.File.{Accepts, by_check, accepts_none, accepts_definition, accepts_query, accepts_passed, refuses_here}
-use Rattle.rdx_cli.specs.Examples.{QueriesAreAnswered, CommentsAreAnswered, FormIsRefused, BracketIsRefused}
-use Rattle.rdx_cli.specs.Refusals.{read_line, form_line}
-use Rattle.rdx_cli.specs.Transcript.{AreData, at_fault, unread, refused, answered}
+use Rattle.rdx_cli.specs.Examples.{QueriesAreAnswered, CommentsAreAnswered, FormIsRefused, BracketIsRefused, NoTextIsRefused, LongFileIsRefused}
+use Rattle.rdx_cli.specs.Refusals.{refusal_line, form_line}
+use Rattle.rdx_cli.specs.Transcript.{AreData, too_long, at_fault, unread, refused, answered}
 
 -- ---- data
 
@@ -227,14 +227,24 @@ form_is_refused =
 
 -- ---- no data
 
--- the line with the place printed
-read_line_is : codes "refused F3 WrongClose at 1:2\n" ≡ read_line (refusal WrongClose (place 1 2))
-read_line_is =
+-- the line of a refusal at the second column, with the place printed
+line_at : (kind : List ℕ) →
+    (codes "refused " ++ kind ++ codes " at " ++ codes "1" ++ codes ":" ++ codes "2") ++ [] ++ codes "\n" ≡ refusal_line kind (place 1 2) None
+line_at kind =
     let one : codes "1" ≡ decimal 1 = sym (decimal_digit 1 (omega arith)) in
     let two : codes "2" ≡ decimal 2 = sym (decimal_digit 2 (omega arith)) in
-    λ i. (codes "refused " ++ codes "F3 WrongClose" ++ codes " at " ++ one i ++ codes ":" ++ two i) ++ [] ++ codes "\n"
+    λ i. (codes "refused " ++ kind ++ codes " at " ++ one i ++ codes ":" ++ two i) ++ [] ++ codes "\n"
 
 pub bracket_is_refused : WrongBracket → BracketIsRefused
 bracket_is_refused wrong_bracket =
     let size : length (codes "(]") ≡ 2 = refl in
-    unread (at_fault (omega (arith, size)) (refusal WrongClose (place 1 2)) wrong_bracket read_line_is) refl
+    unread (at_fault (omega (arith, size)) (refusal WrongClose (place 1 2)) wrong_bracket (line_at (codes "F3 WrongClose"))) refl
+
+pub no_text_is_refused : NoText → NoTextIsRefused
+no_text_is_refused no_text =
+    let file : List ℕ = 41 ∷ 255 ∷ [] in
+    let size : length file ≡ 2 = refl in
+    unread (at_fault (omega (arith, size)) (refusal NotUtf8 (place 1 2)) no_text (line_at (codes "F1 NotUtf8"))) refl
+
+pub long_file_is_refused : LongFileIsRefused
+long_file_is_refused bytes long = unread (too_long long refl) refl

@@ -1,8 +1,11 @@
--- Worked examples: small files, with what `run` writes for them and the verdict. They are proved, as the clauses of `laws::worked_examples`.
-use Rattle.std.specs.Prelude.{[], codes}
+-- Worked examples: files, with what `run` writes for them and the verdict, and words of the command line. They are proved, as the clauses of
+-- `laws::worked_examples`.
+use Rattle.std.specs.Prelude.{ℕ, ◌<◌, List, [], ◌∷◌, length, codes}
 use Rattle.rdx_cli.specs.Transcript.{IsTranscript}
 use Rattle.rdx_cli.specs.declared.transcript.Verdict.TheVariants.{Done, Refused}
-use Rattle.rdx_cli.specs.Words.{run}
+use Rattle.rdx_cli.specs.Words.{run, step, workload, ReadsAs, FitsNoRow}
+
+-- ---- files
 
 -- A file with a language and two queries, which are answered in their order: `any_x` comes before `any_y`, whatever the order in the pattern,
 -- and the second query binds nothing.
@@ -22,3 +25,43 @@ FormIsRefused = IsTranscript run (codes "(redex-match M e (term 1))") (codes "re
 -- a file that is no data has the line of its first fault, at its place: `(]`
 abbrev pub BracketIsRefused : Type 0
 BracketIsRefused = IsTranscript run (codes "(]") (codes "refused F3 WrongClose at 1:2\n") Refused
+
+-- a file that is no text has the line of its first byte that is no UTF-8: 255, behind a closing bracket, which is no fault then
+abbrev pub NoTextIsRefused : Type 0
+NoTextIsRefused = IsTranscript run (41 ∷ 255 ∷ []) (codes "refused F1 NotUtf8 at 1:2\n") Refused
+
+-- a file of more than 1,048,576 bytes has the line of its length, whatever stands in it
+abbrev pub LongFileIsRefused : Type 0
+LongFileIsRefused = (bytes : List ℕ) → 1_048_576 < length bytes → IsTranscript run bytes (codes "refused F9 TooLong\n") Refused
+
+-- ---- words that are a row of the table
+
+-- `step` alone is the row without choices
+abbrev pub StepAlone : Type 0
+StepAlone = ReadsAs (codes "step" ∷ []) (step [])
+
+-- the most tests that may be asked for: `workload 2000`
+abbrev pub MostTests : Type 0
+MostTests = ReadsAs (codes "workload" ∷ codes "2000" ∷ []) (workload 2000)
+
+-- ---- words that are none
+
+-- no words at all
+abbrev pub NoWords : Type 0
+NoWords = FitsNoRow []
+
+-- behind `run` no word may stand: `run run`
+abbrev pub WordsBehindRun : Type 0
+WordsBehindRun = FitsNoRow (codes "run" ∷ codes "run" ∷ [])
+
+-- a number has no zero in front: `step 01`
+abbrev pub ZeroInFront : Type 0
+ZeroInFront = FitsNoRow (codes "step" ∷ codes "01" ∷ [])
+
+-- there is one test at least: `workload 0`
+abbrev pub NoTests : Type 0
+NoTests = FitsNoRow (codes "workload" ∷ codes "0" ∷ [])
+
+-- and 2,000 at most: `workload 2001`
+abbrev pub TooManyTests : Type 0
+TooManyTests = FitsNoRow (codes "workload" ∷ codes "2001" ∷ [])

@@ -1,8 +1,21 @@
 -- What follows from the definitions, stated for the contracts of the module of laws.
-use Rattle.std.specs.Prelude.{◌≡◌, ℕ, List}
+use Rattle.std.specs.Prelude.{◌≡◌, ℕ, List, Some}
+use Rattle.std.specs.declared.option.Option.{Option}
+use Rattle.rdx_cli.specs.Ends.{Transcribes}
+use Rattle.rdx_cli.specs.Reading.{IsRead}
 use Rattle.rdx_cli.specs.Transcript.{IsTranscript}
 use Rattle.rdx_cli.specs.declared.transcript.Verdict.{Verdict}
-use Rattle.rdx_cli.specs.Words.{Row}
+use Rattle.rdx_cli.specs.Words.{Row, ReadsAs}
+
+-- words are one row of the table at most
+abbrev pub OneRow : Type 0
+OneRow = (words : List (List ℕ)) (row other : Row) → ReadsAs words row → ReadsAs words other → row ≡ other
+
+-- where a source tells what it has left, one file may be read from it, and that leaves one rest
+abbrev pub OneFile : Type 0
+OneFile =
+    (all bytes other : List ℕ) (rest last : Option (List ℕ)) →
+    IsRead (Some all) rest bytes → IsRead (Some all) last other → (bytes ≡ other) × (rest ≡ last)
 
 -- the file has a transcript by this row
 pub record HasTranscript (row : Row) (bytes : List ℕ) : Type 0 where
@@ -18,3 +31,9 @@ SomeTranscript = (row : Row) (bytes : List ℕ) → HasTranscript row bytes
 abbrev pub OneTranscript : Type 0
 OneTranscript = (row : Row) (bytes text other : List ℕ) (verdict last : Verdict) →
     IsTranscript row bytes text verdict → IsTranscript row bytes other last → (text ≡ other) × (verdict ≡ last)
+
+-- where a source tells what it has left, words ask for one text and one verdict at most, and leave one rest of the source
+abbrev pub OneOutcome : Type 0
+OneOutcome =
+    (words : List (List ℕ)) (all text other : List ℕ) (rest last : Option (List ℕ)) (verdict end : Verdict) →
+    Transcribes words (Some all) rest text verdict → Transcribes words (Some all) last other end → (rest ≡ last) × (text ≡ other) × (verdict ≡ end)

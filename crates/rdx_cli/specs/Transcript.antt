@@ -4,9 +4,9 @@ use Rattle.rdx_sexp.specs.Reads.{Reads, FirstFault}
 use Rattle.rdx_sexp.specs.Sexp.{Sexp}
 use Rattle.rdx_sexp.specs.declared.fault.ReadRefusal.{ReadRefusal}
 use Rattle.rdx_grammar.specs.Refusal.{Refusal}
-use Rattle.rdx_query.specs.Answering.{Writes}
+use Rattle.rdx_query.specs.Writing.{Writes}
 use Rattle.rdx_query.specs.File.{IsFileRefusal}
-use Rattle.rdx_query.specs.Workload as file
+use Rattle.rdx_answer.specs.Workload as file
 use Rattle.rdx_cli.specs.Refusals.{read_line, form_line}
 use Rattle.rdx_cli.specs.declared.transcript.Verdict.{Verdict}
 use Rattle.rdx_cli.specs.declared.transcript.Verdict.TheVariants.{Done, Unmet, Refused}

@@ -1,6 +1,16 @@
 //! Laws of the definitions: functions that do nothing, whose contracts are the laws.
 ghost use Rattle.rdx_cli.specs.Examples as example;
-ghost use Rattle.rdx_cli.specs.Laws.{OneTranscript, SomeTranscript};
+ghost use Rattle.rdx_cli.specs.Laws.{OneFile, OneOutcome, OneRow, OneTranscript, SomeTranscript};
+
+/// Words are one row of the table at most.
+pub fn one_row()
+    ensures { OneRow }
+{}
+
+/// Where a source tells what it has left, one file may be read from it, and that leaves one rest.
+pub fn one_file()
+    ensures { OneFile }
+{}
 
 /// For each row of the table a file has one transcript and one verdict at most.
 pub fn one_transcript()
@@ -14,6 +24,16 @@ pub fn one_transcript()
     rdx_query::laws::never_both_text_and_refusal();
 }
 
+/// Where a source tells what it has left, words ask for one text and one verdict at most, and leave
+/// one rest of the source.
+pub fn one_outcome()
+    ensures { OneOutcome }
+{
+    one_row();
+    one_file();
+    one_transcript();
+}
+
 /// For each row of the table each file has a transcript.
 pub fn some_transcript()
     ensures { SomeTranscript }
@@ -22,12 +42,21 @@ pub fn some_transcript()
     rdx_query::laws::some_text_or_refusal();
 }
 
-/// What some small files write, as the definitions have it.
+/// What some files write, and what some words ask for, as the definitions have it.
 pub fn worked_examples()
     ensures queries_are_answered { example.QueriesAreAnswered }
     ensures comments_are_answered { example.CommentsAreAnswered }
     ensures form_is_refused { example.FormIsRefused }
     ensures bracket_is_refused { example.BracketIsRefused }
+    ensures no_text_is_refused { example.NoTextIsRefused }
+    ensures long_file_is_refused { example.LongFileIsRefused }
+    ensures step_alone { example.StepAlone }
+    ensures most_tests { example.MostTests }
+    ensures no_words { example.NoWords }
+    ensures words_behind_run { example.WordsBehindRun }
+    ensures zero_in_front { example.ZeroInFront }
+    ensures no_tests { example.NoTests }
+    ensures too_many_tests { example.TooManyTests }
 {
     rdx_sexp::laws::worked_examples();
     rdx_query::laws::worked_examples();

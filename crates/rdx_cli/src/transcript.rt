@@ -1,6 +1,6 @@
 // The transcript of a file, made in memory.
 ghost use Rattle.std.specs.Prelude.{◌≡◌, ◌≤◌, ◌++◌, IfOk, codes, decimal, drop, length};
-ghost use Rattle.rdx_query.specs.Views.{choices_of};
+ghost use Rattle.rdx_answer.specs.Views.{choices_of};
 ghost use Rattle.rdx_cli.specs.Inside.Rows.{IsFit, Writes};
 ghost use Rattle.rdx_cli.specs.Transcript.{RunWrites, WorkloadWrites, last_line, verdict_of};
 

@@ -13,7 +13,7 @@ use Rattle.rdx_grammar.proofs.Booleans.{and_true}
 use Rattle.rdx_defs.specs.Bound.{Bound}
 use Rattle.rdx_defs.specs.HostHeads.{HostHead, quoting, applying, all_of, some_of, miscounted, count, operation_head, host_head}
 use Rattle.rdx_defs.specs.Inside.Reach.{reach, reach_among, reach_in, reach_in_all}
-use Rattle.rdx_defs.specs.Operations.{operation_named, takes}
+use Rattle.rdx_delta.specs.Operations.{operation_named, takes}
 use Rattle.rdx_defs.specs.Scope.{Scope}
 use Rattle.rdx_defs.specs.TemplateHeads.{TemplateHead, filling, evaluating, splicing, calling, listing, is_pair, is_called, template_head}
 use Rattle.rdx_defs.specs.TemplateReading.{with_template, filled_by, hosted, quoted, template_reading, templates_among, host_reading, hosts_behind}

@@ -2,7 +2,7 @@
 use Rattle.std.specs.Prelude.{ℕ, suc, ◌==◌, Option, Some, None, codes, bytes_eq, List, if◌then◌else◌}
 use Rattle.rdx_sexp.specs.Sexp.{symbol, Sexps, leaf, nil, cons}
 use Rattle.rdx_lang.specs.declared.operation.HostOp.{HostOp}
-use Rattle.rdx_defs.specs.Operations.{operation_named, takes}
+use Rattle.rdx_delta.specs.Operations.{operation_named, takes}
 
 -- the kinds of lists
 pub data HostHead : Type 0 where

@@ -1,7 +1,6 @@
 pub mod Earliest
 pub mod Bound
 pub mod Scope
-pub mod Operations
 pub mod HostHeads
 pub mod TemplateHeads
 pub mod TemplateShapes

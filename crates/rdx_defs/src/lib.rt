@@ -20,7 +20,6 @@ mod extras;
 mod judgements;
 pub mod laws;
 mod metafunctions;
-mod operations;
 mod relations;
 mod scope;
 mod scopes;
@@ -33,7 +32,6 @@ pub use judgements::{
     read_premise_over,
 };
 pub use metafunctions::{metafunction_name, read_metafunction, read_metafunction_over};
-pub use operations::operation_text;
 pub use relations::{read_relation, read_relation_over, relation_ends};
 pub use scope::Scope;
 pub use scopes::{judgement_languages, scope_of};

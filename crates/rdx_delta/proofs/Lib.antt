@@ -1,3 +1,4 @@
+pub mod HostWords
 pub mod Ranges
 pub mod Arguments
 pub mod Tables

@@ -3,7 +3,8 @@ use Rattle.std.proofs.Common.{◌≡◌, ℕ, zero, suc, ◌<◌, Option, Some, 
 use Rattle.rdx_lang.specs.declared.operation.HostOp.{HostOp}
 use Rattle.rdx_lang.specs.declared.operation.HostOp.TheVariants.{Add, Sub, Mul, Quotient, Remainder, Add1, Sub1, Eq, Lt, Le, Gt, Ge, IsZero, Equal, Not}
 use Rattle.rdx_delta.specs.declared.refusal.TableRefusal.{TableRefusal}
-use Rattle.rdx_delta.specs.Table.{operations, times, wrong, or_else, first_wrong, table_refusal}
+use Rattle.rdx_delta.specs.Operations.{operations}
+use Rattle.rdx_delta.specs.Table.{times, wrong, or_else, first_wrong, table_refusal}
 
 -- of two refusals neither is there
 neither : (r s : Option TableRefusal) → or_else r s ≡ None → (r ≡ None) × (s ≡ None)

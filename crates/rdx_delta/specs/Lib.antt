@@ -1,8 +1,10 @@
+pub mod Operations
 pub mod Reply
 pub mod Delta
 pub mod View
 pub mod Does
 pub mod Table
 pub mod Entries
+pub mod Examples
 pub mod Inside
 pub mod Model

@@ -2,12 +2,9 @@
 use Rattle.std.specs.Prelude.{ℕ, zero, suc, ◌==◌, Bool, Option, Some, None, List, [], ◌∷◌, count_by}
 use Rattle.rdx_lang.specs.declared.operation.HostOp.{HostOp}
 use Rattle.rdx_lang.specs.declared.operation.HostOp.TheVariants.{Add, Sub, Mul, Quotient, Remainder, Add1, Sub1, Eq, Lt, Le, Gt, Ge, IsZero, Equal, Not}
+use Rattle.rdx_delta.specs.Operations.{operations}
 use Rattle.rdx_delta.specs.declared.refusal.TableRefusal.{TableRefusal}
 use Rattle.rdx_delta.specs.declared.refusal.TableRefusal.TheVariants.{Twice, Missing}
-
--- the operations in their order
-abbrev pub operations : List HostOp
-operations = Add ∷ Sub ∷ Mul ∷ Quotient ∷ Remainder ∷ Add1 ∷ Sub1 ∷ Eq ∷ Lt ∷ Le ∷ Gt ∷ Ge ∷ IsZero ∷ Equal ∷ Not ∷ []
 
 -- the place of an operation in the order, from 0
 abbrev pub place : HostOp → ℕ

@@ -7,7 +7,9 @@
 //!
 //! A [`HostEntry`] is an operation with a function that is proved to do it, and a [`HostTable`] has
 //! one entry for each operation. So who asks a table knows what it answers, whatever functions it
-//! was made of. The functions of this crate are [`host_add`] to [`host_not`].
+//! was made of. The functions of this crate are [`host_add`] to [`host_not`]. How an operation is
+//! written, and how many arguments it takes, is in `specs/Operations.antt` ([`operation_named`],
+//! [`operation_text`], [`takes`]). Worked examples are proved ([`laws`]).
 #![tactic(auto)]
 
 mod answer;
@@ -16,6 +18,8 @@ mod comparison;
 mod entry;
 mod equality;
 mod integers;
+pub mod laws;
+mod operations;
 mod refusal;
 mod table;
 #[cfg(test)]
@@ -28,5 +32,6 @@ pub use arithmetic::{
 pub use comparison::{host_eq, host_ge, host_gt, host_is_zero, host_le, host_lt};
 pub use entry::HostEntry;
 pub use equality::{host_equal, host_not};
+pub use operations::{operation_named, operation_text, takes};
 pub use refusal::TableRefusal;
 pub use table::HostTable;

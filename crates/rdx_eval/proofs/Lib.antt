@@ -24,3 +24,6 @@ pub mod Examples
 pub mod CallExamples
 pub mod JudgementExamples
 pub mod FreshExamples
+pub mod ClauseExamples
+pub mod FreshLaws
+pub mod HeldPremises

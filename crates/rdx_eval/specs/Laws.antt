@@ -1,17 +1,18 @@
 -- What follows from the definitions, stated for the contracts of the module of laws.
-use Rattle.std.specs.Prelude.{◌≡◌, ℕ, ◌+◌, List}
-use Rattle.rdx_term.specs.Tree.{Tree}
-use Rattle.rdx_lang.specs.Bindings.{Binding}
+use Rattle.std.specs.Prelude.{◌≡◌, ◌≢◌, ◌↔◌, ℕ, ◌+◌, ◌<◌, ◌^◌, Bool, true, List, [], ◌∷◌, ◌++◌, length, Some, if◌then◌else◌}
+use Rattle.rdx_term.specs.Tree.{Tree, symbol}
+use Rattle.rdx_lang.specs.Bindings.{Binding, one, no_names, value_at}
 use Rattle.rdx_lang.specs.Edges.{IsFree}
 use Rattle.rdx_lang.specs.Members.{In}
-use Rattle.rdx_lang.specs.Patterns.{Language}
-use Rattle.rdx_lang.specs.Programs.{Extra, Premise, Program}
+use Rattle.rdx_lang.specs.Patterns.{wild, Language}
+use Rattle.rdx_lang.specs.Programs.{Extra, fresh, Premise, Program}
 use Rattle.rdx_lang.specs.Templates.{Template}
 use Rattle.rdx_eval.specs.Answers.{Answer, value, fault, Fault, undefined, ambiguous, spent, not_context, too_deep, too_large, lengths_differ, outside, overflow, divide_by_zero}
 use Rattle.rdx_eval.specs.Extending.{Extend, Meets}
-use Rattle.rdx_eval.specs.Fresh.{Avoided}
+use Rattle.rdx_eval.specs.Fresh.{Avoided, avoiding, symbols, symbols_of, fresh_symbol}
 use Rattle.rdx_eval.specs.Heights.{calls_at}
-use Rattle.rdx_eval.specs.Instantiation.{Makes}
+use Rattle.rdx_eval.specs.Instantiation.{Makes, MakeList}
+use Rattle.rdx_eval.specs.Judgements.{Holds}
 
 -- at most one answer
 abbrev pub Once : {A : Type 0} → (Answer A → Type 0) → Type 0
@@ -102,3 +103,71 @@ ValuesStay = (P : Program) (n k : ℕ) (f : List ℕ) (a : Tree) → Keeps ((cal
 -- and so do the outputs of a judgement
 abbrev pub OutputsStay : Type 0
 OutputsStay = (P : Program) (n k : ℕ) (j : List ℕ) (a : Tree) → Keeps ((calls_at P n).outputs_of j a) ((calls_at P (n + k)).outputs_of j a)
+
+-- ---- fresh names
+
+-- what a name that is bound freshly avoids: the symbols of the whole term, and those that earlier such names stand for
+abbrev pub avoided : Avoided → Binding → List (List ℕ)
+avoided a b = symbols a.whole ++ symbols_of a.names b
+
+-- The symbol that it stands for is none of them, where they are fewer than 10 ^ 64: a decimal has 64 digits at most, so that names without end
+-- could be all the variants there are.
+abbrev pub FreshIsFree : Type 0
+FreshIsFree = (a : Avoided) (b : Binding) (x : List ℕ) → length (avoided a b) < 10 ^ 64 → ¬ In (fresh_symbol a b x) (avoided a b)
+
+-- c is one of the bindings that extras make of some, where w is the whole term
+pub record IsMade (L : Language) (P : Program) (n : ℕ) (w : Tree) (es : List Extra) (c : Binding) : Type 0 where
+  pub before : List Binding
+  pub made : List Binding
+  pub extended : Extend L (calls_at P n) (avoiding w) es before (value made)
+  pub among : In c made
+
+-- the symbols of the term are so few, together with the extras
+abbrev pub AreFew : Tree → List Extra → Type 0
+AreFew w es = length (symbols w) + length es < 10 ^ 64
+
+-- x stands in c for a symbol that stands nowhere in the term w
+pub record IsFreshIn (w : Tree) (c : Binding) (x : List ℕ) : Type 0 where
+  pub taken : List ℕ
+  pub bound : value_at c x ≡ Some (one (symbol taken))
+  pub nowhere : ¬ In taken (symbols w)
+
+-- in each binding that extras make, a fresh name stands for a symbol that stands nowhere in the whole term, whatever extras come behind it
+abbrev pub FreshStandsNowhere : Type 0
+FreshStandsNowhere =
+    (L : Language) (P : Program) (n : ℕ) (w : Tree) (es : List Extra) (c : Binding) (x : List ℕ) → AreFew w es → IsMade L P n w es c
+    → In (fresh x) es → IsFreshIn w c x
+
+-- and two fresh names stand for two symbols; so no binding is made where one name is bound freshly twice
+abbrev pub FreshDiffer : Type 0
+FreshDiffer =
+    (L : Language) (P : Program) (n : ℕ) (w : Tree) (es fs gs : List Extra) (c : Binding) (x y : List ℕ)
+    → AreFew w (es ++ fresh x ∷ fs ++ fresh y ∷ gs) → IsMade L P n w (es ++ fresh x ∷ fs ++ fresh y ∷ gs) c
+    → value_at c x ≢ value_at c y
+
+-- ---- judgements and premises
+
+-- the premise that asks a judgement for any outputs
+abbrev pub asking : List ℕ → List Template → Premise
+asking j ts = record { judgement = j; inputs = ts; outputs = wild }
+
+-- A judgement holds of inputs exactly where that premise is met: by the binding of no name, which no output changes. Else no binding meets it.
+abbrev pub HoldsExactlyIfMet : Type 0
+HoldsExactlyIfMet =
+    (L : Language) (P : Program) (n : ℕ) (j : List ℕ) (ts : List Template) (a : Tree) (v : Bool)
+    → MakeList (calls_at P n) no_names ts (value a)
+    → (Holds (calls_at P n) j a (value v) ↔ Meets L (calls_at P n) (asking j ts) (value (if v then no_names ∷ [] else [])))
+
+-- and it has a fault exactly where that premise has it
+abbrev pub HasSameFault : Type 0
+HasSameFault =
+    (L : Language) (P : Program) (n : ℕ) (j : List ℕ) (ts : List Template) (a : Tree) (f : Fault)
+    → MakeList (calls_at P n) no_names ts (value a)
+    → (Holds (calls_at P n) j a (fault f) ↔ Meets L (calls_at P n) (asking j ts) (fault f))
+
+-- where a premise is met, whatever the outputs have to match, its judgement holds
+abbrev pub MetHolds : Type 0
+MetHolds =
+    (L : Language) (P : Program) (n : ℕ) (q : Premise) (a : Tree) (b : Binding) (bs : List Binding)
+    → MakeList (calls_at P n) no_names q.inputs (value a) → Meets L (calls_at P n) q (value (b ∷ bs))
+    → Holds (calls_at P n) q.judgement a (value true)

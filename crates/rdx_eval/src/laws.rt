@@ -1,7 +1,8 @@
 //! Laws of evaluation: functions that do nothing, whose contracts are the laws.
-ghost use Rattle.rdx_eval.specs.Laws.{OneValue, SomeValue, OneOutputs, SomeOutputs, ValuesStay, OutputsStay, OneTerm, SomeTerm, OneExtension, SomeExtension, OneMeeting, SomeMeeting};
+ghost use Rattle.rdx_eval.specs.Laws.{OneValue, SomeValue, OneOutputs, SomeOutputs, ValuesStay, OutputsStay, OneTerm, SomeTerm, OneExtension, SomeExtension, OneMeeting, SomeMeeting, FreshIsFree, FreshStandsNowhere, FreshDiffer, HoldsExactlyIfMet, HasSameFault, MetHolds};
 ghost use Rattle.rdx_eval.specs.CallExamples.{RemainderOfNegative, CutTowardZero, WrongKind, ByZero, AndStops, AndGivesTheLast, NothingToFail, OrStops, NothingHolds, FalseTakesAway, ZeroIsTrue, SpentAtNone, NotThere};
 ghost use Rattle.rdx_eval.specs.JudgementExamples.{SpentJudgement, NoJudgement, NoRule, AllRules, NotMet, LaterFault};
+ghost use Rattle.rdx_eval.specs.ClauseExamples.{OneClause, FirstDecides, NextIsTried, NoneTakes, ConditionHolds, ConditionFails, FaultStops, ConditionChooses, TwoLeast, MarksCount, SameOfBoth, WhereTwice, NeverEnds, SpentAtOne, AnsweredAtTwo, PremiseBinds, TwoOutputs, ContextMadeFirst, PartBeforeFilling, PathGoesOn};
 ghost use Rattle.rdx_eval.specs.FreshExamples.{ItselfWhereFree, PassesTheTaken, StringsAreFree, TwoDiffer, OthersAreFree, MarksNumbers};
 ghost use Rattle.rdx_eval.specs.Examples.{OneTurn, TwoLengths, OtherWayRound, NoTurn, SideBySide, InnermostTurns, TurnsInTurns, Unbound, NoContext, ContextFirst, WhereBinds, WhereMeets};
 
@@ -44,6 +45,22 @@ pub fn one_extension()
 pub fn one_meeting()
     ensures one { OneMeeting }
     ensures some { SomeMeeting }
+{}
+
+/// A name that is bound freshly stands for a symbol that is none of those it avoids, where they are
+/// fewer than 10^64: it stands nowhere in the whole term, and two such names stand for two symbols.
+pub fn fresh_is_fresh()
+    ensures free { FreshIsFree }
+    ensures nowhere { FreshStandsNowhere }
+    ensures differ { FreshDiffer }
+{}
+
+/// A judgement holds of inputs exactly where the premise is met that asks it for any outputs, and
+/// has the faults of that premise; and where any premise is met, its judgement holds.
+pub fn holds_is_met()
+    ensures holds { HoldsExactlyIfMet }
+    ensures fault { HasSameFault }
+    ensures met { MetHolds }
 {}
 
 /// Worked examples: what the definitions say of small templates, bindings and extras.
@@ -99,4 +116,29 @@ pub fn worked_fresh_names()
     ensures two_differ { TwoDiffer }
     ensures others_are_free { OthersAreFree }
     ensures marks_numbers { MarksNumbers }
+{}
+
+/// Worked examples: which clause of a metafunction makes the value, and of which bindings; calls in
+/// calls; the output of a judgement with a premise; and which fault of `in-hole` is told.
+pub fn worked_clauses()
+    ensures one_clause { OneClause }
+    ensures first_decides { FirstDecides }
+    ensures next_is_tried { NextIsTried }
+    ensures none_takes { NoneTakes }
+    ensures condition_holds { ConditionHolds }
+    ensures condition_fails { ConditionFails }
+    ensures fault_stops { FaultStops }
+    ensures condition_chooses { ConditionChooses }
+    ensures two_least { TwoLeast }
+    ensures marks_count { MarksCount }
+    ensures same_of_both { SameOfBoth }
+    ensures where_twice { WhereTwice }
+    ensures never_ends { NeverEnds }
+    ensures spent_at_one { SpentAtOne }
+    ensures answered_at_two { AnsweredAtTwo }
+    ensures premise_binds { PremiseBinds }
+    ensures two_outputs { TwoOutputs }
+    ensures context_made_first { ContextMadeFirst }
+    ensures part_before_filling { PartBeforeFilling }
+    ensures path_goes_on { PathGoesOn }
 {}

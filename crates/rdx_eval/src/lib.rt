@@ -21,8 +21,6 @@ mod room;
 mod scope;
 mod stop;
 mod stopping;
-#[cfg(test)]
-mod tests;
 mod turns;
 mod values;
 

@@ -1,9 +1,9 @@
 // Looking up what a program has by names.
 ghost use Rattle.std.specs.Prelude.{◌≡◌, IfOk, map};
 ghost use Rattle.rdx_lang.specs.Checked.{language_in};
-ghost use Rattle.rdx_lang.specs.Model.Places.{FindsPlaces};
+ghost use Rattle.rdx_lang.specs.Model.Places.{FindsPlaces, place_in};
 ghost use Rattle.rdx_lang.specs.ProgramView.{judgement_of, metafunction_of, program_of, relation_of};
-ghost use Rattle.rdx_eval.specs.Model.Places.{name_of_function, name_of_judgement, name_of_language, name_of_relation, place_in};
+ghost use Rattle.rdx_eval.specs.Model.Places.{name_of_function, name_of_judgement, name_of_language, name_of_relation};
 
 use rdx_lang::{CheckedLang, Judgement, Metafunction, Program, Relation};
 use rdx_term::{Name, NoMemory};

@@ -27,10 +27,6 @@ begins_with_dots x = starts_with nat_eq x (codes "...")
 abbrev pub is_ellipsis : List ℕ → Bool
 is_ellipsis x = bytes_eq x (codes "...") || (starts_with nat_eq x (codes "..._") && not (starts_with nat_eq x (codes "..._!_")))
 
--- the inherited alternatives of an extension
-abbrev pub is_inherited : List ℕ → Bool
-is_inherited x = bytes_eq x (codes "....")
-
 -- the words that mean something else in patterns or definitions
 abbrev pub kept_words : List (List ℕ)
 kept_words =

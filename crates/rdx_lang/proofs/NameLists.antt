@@ -80,7 +80,7 @@ add_names-ascends [] ys a = a
 add_names-ascends (x ∷ xs) ys a = with_name-ascends x (add_names xs ys) (add_names-ascends xs ys a)
 
 -- each name is of one of the lists
-add_names-sound : (xs ys : List (List ℕ)) (z : List ℕ) → In z (add_names xs ys) → In z xs ⊎ In z ys
+pub add_names-sound : (xs ys : List (List ℕ)) (z : List ℕ) → In z (add_names xs ys) → In z xs ⊎ In z ys
 add_names-sound [] ys z h = inr h
 add_names-sound (x ∷ xs) ys z h = of_first (with_name-sound x (add_names xs ys) z h) (add_names-sound xs ys z)
   where

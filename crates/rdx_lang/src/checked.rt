@@ -85,6 +85,7 @@ impl CheckedPat {
     ghost use Rattle.std.specs.Prelude.{◌≡◌, IsTrue, IsFalse, IfOk, IfSome, IfNone};
     ghost use Rattle.rdx_lang.specs.Checked.{language_in, pattern_in};
     ghost use Rattle.rdx_lang.specs.PatternView.{pattern_of};
+    ghost use Rattle.rdx_lang.specs.Patterns as patterns;
     ghost use Rattle.rdx_lang.specs.WellFormed.{is_well_formed_in};
 
     /// The pattern, where each nonterminal in it is one of the language's, each of its names has one
@@ -106,6 +107,31 @@ impl CheckedPat {
         } else {
             Ok(None)
         }
+    }
+
+    /// The pattern, of which it is known that it is well formed in the language, so that nothing is
+    /// looked at.
+    pub fn known(language: &CheckedLang, pat: Pat) -> CheckedPat
+        requires { IsTrue (is_well_formed_in (language_in language.now) (pattern_of pat)) }
+        ensures same { pattern_in result ≡ pattern_of pat }
+        ensures well_formed { IsTrue (is_well_formed_in (language_in language.now)
+            (pattern_in result)) }
+    {
+        CheckedPat { pat }
+    }
+
+    /// The pattern as one that binds nothing outside of itself; it is well formed wherever the
+    /// pattern is.
+    pub fn close(&self, alloc: Global) -> Result<CheckedPat, NoMemory>
+        ensures same { IfOk result (λ c. pattern_in c ≡ patterns.closed (pattern_in self.now)) }
+        ensures well_formed { (L : patterns.Language)
+            → IsTrue (is_well_formed_in L (pattern_in self.now))
+            → IfOk result (λ c. IsTrue (is_well_formed_in L (pattern_in c))) }
+    {
+        let inner = self.pat.share(alloc)?;
+        Ok(CheckedPat {
+            pat: Pat::Closed(Box::new(alloc, inner)?),
+        })
     }
 
     /// The same pattern once more; its names and terms are shared.

@@ -45,7 +45,7 @@ use Rattle.rdx_query.specs.LanguageForms.{base_name, named_base, name_taken_at, 
 use Rattle.rdx_query.specs.Laws.{AreAccepted, AreRefused}
 use Rattle.rdx_query.specs.MatchForms.{QueryParts, query_parts, query_refusal, query_over}
 use Rattle.rdx_query.specs.MetafunctionForms.{function_names, function_refusal_by, defined_function}
-use Rattle.rdx_query.specs.Queries.{Query, matches, whether, splits, reducts, tagged, stepper, test_equal, test_step, test_run, test_match, test_holds, test_results}
+use Rattle.rdx_answer.specs.Queries.{Query, matches, whether, splits, reducts, tagged, stepper, test_equal, test_step, test_run, test_match, test_holds, test_results}
 use Rattle.rdx_query.specs.RelationForms.{relation_names, cases_refusal_over, bad_relation_at}
 use Rattle.rdx_query.specs.StepForms.{StepParts, step_parts, steps_refusal}
 use Rattle.rdx_query.specs.TestForms.{EqualParts, LeadingParts, equal_parts, leading_parts, equal_refusal, leading_refusal}

@@ -16,8 +16,8 @@ use Rattle.rdx_query.specs.Definitions.{Defined, language, metafunction, judgeme
 use Rattle.rdx_query.specs.File.{Defines, Accepts, accepts_none, accepts_definition, accepts_query, accepts_passed, known_before}
 use Rattle.rdx_grammar.specs.Ends.{known_ends, crossed_for}
 use Rattle.rdx_query.specs.Known.{Known, known_as, with_definition}
-use Rattle.rdx_query.specs.Queries.{Query, NamesKnown}
-use Rattle.rdx_query.specs.Views.{AllNamesKnown}
+use Rattle.rdx_answer.specs.Queries.{Query, NamesKnown}
+use Rattle.rdx_answer.specs.Views.{AllNamesKnown}
 use Rattle.rdx_query.proofs.DefinedJudgements.{judgements_in, HasMode, no-mode, defines-moded, asks-moded, passed-moded}
 use Rattle.rdx_query.proofs.KnownLanguages.{KnowAll, defines-knows}
 use Rattle.rdx_query.proofs.NamesKnown.{IsGrounded, IsAwaited, awaited-more, awaited-known, LanguagesKnown, languages_known-nothing, languages_known-more, JudgementsKnown, judgements_known-nothing, judgements_known-more, judgement-more, judgement-new, asks-awaited, defines-known}

@@ -23,7 +23,7 @@ use Rattle.rdx_query.specs.JudgementForms.{form_names, judgement_by, defined_jud
 use Rattle.rdx_query.specs.Known.{Known}
 use Rattle.rdx_query.specs.LanguageForms.{plain_language, extended_language}
 use Rattle.rdx_query.specs.MetafunctionForms.{defined_function}
-use Rattle.rdx_query.specs.Queries.{Query}
+use Rattle.rdx_answer.specs.Queries.{Query}
 
 -- ---- which forms define a judgement
 

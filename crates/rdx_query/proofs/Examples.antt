@@ -1,8 +1,7 @@
 -- The worked examples hold.
 use Rattle.std.proofs.Common.{◌≡◌, ◌⊎◌, ℕ, pos, List, [], ◌∷◌, ◌++◌, Some, None, map, inl, inr, refl, ap, sym, ◌∙◌, subst, codes, arith}
 use Rattle.std.specs.Str.{chars}
-use Rattle.std.specs.Prelude.{decimal, true, false}
-use Rattle.std.proofs.lemmas.Fmt.{decimal_digit}
+use Rattle.std.specs.Prelude.{true, false}
 use Rattle.rdx_base.specs.declared.place.Span.{Span}
 use Rattle.std.specs.declared.cmp.Ordering.{Ordering}
 use Rattle.rdx_term.specs.Items.{put_at}
@@ -36,16 +35,17 @@ use Rattle.rdx_eval.specs.Making.{listed, filled, filled_no_context}
 use Rattle.rdx_defs.specs.Scope.{Scope}
 use Rattle.rdx_reduce.specs.Relations.{AreSteps}
 use Rattle.rdx_reduce.specs.Steps.{Step, RuleSteps}
-use Rattle.rdx_query.proofs.PrintedExamples.{digit_1, digit_2, digit_3}
-use Rattle.rdx_query.specs.AnswerText.{answers_text, matches_text, splits_text, value_line, reducts_text, steps_text, fault_line}
-use Rattle.rdx_query.specs.Answering.{HostValue, over_value, over_fault, no_answers, more_answers}
+use Rattle.rdx_answer.proofs.PrintedExamples.{digit_0, digit_1, digit_2, digit_3}
+use Rattle.rdx_answer.specs.AnswerText.{answers_text, matches_text, splits_text, value_line, reducts_text, steps_text, fault_line}
+use Rattle.rdx_answer.specs.Answering.{HostValue, over_value, over_fault, no_answers, more_answers}
+use Rattle.rdx_answer.specs.Examples.{marked_pair}
 use Rattle.rdx_query.specs.Definitions.{language}
-use Rattle.rdx_query.specs.Examples.{defines_L, marked_pair, AnswersInOrder, WholeAnswer, Inherited, OneSplit, FilledTerm, FaultAnswered, OneReductTwoSteps, PremiseMet, OutputsListed, FirstRefusedForm, EarlierLanguagesOnly, TakenName, HostExpression, OtherForm, Sum, Wanted, OtherModule, KnownBefore, FewItems, LeftRecursion}
+use Rattle.rdx_query.specs.Examples.{defines_L, AnswersInOrder, WholeAnswer, Inherited, OneSplit, FilledTerm, FaultAnswered, OneReductTwoSteps, PremiseMet, OutputsListed, FirstRefusedForm, EarlierLanguagesOnly, TakenName, HostExpression, OtherForm, Sum, Wanted, OtherModule, KnownBefore, FewItems, LeftRecursion}
 use Rattle.rdx_query.specs.File.{Defines, by_check, by_recursion, accepts_none, accepts_definition, accepts_query, accepts_passed, refuses_here, refuses_behind_definition}
-use Rattle.rdx_query.specs.HoldsAnswers.{FindsMet, whether_found, ValuesOf, values_of, values_found}
+use Rattle.rdx_answer.specs.HoldsAnswers.{FindsMet, whether_found, ValuesOf, values_of, values_found}
 use Rattle.rdx_query.specs.Known.{empty_program, nothing_in}
-use Rattle.rdx_query.specs.Queries.{matches, whether, splits, value as itself, holds, reducts, tagged}
-use Rattle.rdx_query.specs.StepAnswers.{reducts_in, AreReducts, named_steps, reducts_found, steps_found}
+use Rattle.rdx_answer.specs.Queries.{matches, whether, splits, value as itself, holds, reducts, tagged}
+use Rattle.rdx_answer.specs.StepAnswers.{reducts_in, AreReducts, named_steps, reducts_found, steps_found}
 
 -- ---- languages with one nonterminal e, whose alternatives are literals
 
@@ -281,13 +281,9 @@ first_printed = λ i. codes "match" ++ codes " " ++ digit_1 i ++ codes "\n"
 second_printed : codes "match 1\n  -\n" ≡ matches_text ([] ∷ [])
 second_printed = λ i. codes "match" ++ codes " " ++ digit_1 i ++ codes "\n" ++ (codes "  " ++ codes "-" ++ codes "\n" ++ [])
 
--- the places 0 and 1 of paths
-zero_digit : codes "0" ≡ decimal 0
-zero_digit = sym (decimal_digit 0 (omega arith))
-
 split_printed : codes "splits 1\n  (hole hole) at [0] is 1 with any = hole\n" ≡ splits_text (split ∷ [])
 split_printed = λ i. codes "splits" ++ codes " " ++ digit_1 i ++ codes "\n"
-    ++ (codes "  " ++ (codes "(hole hole)" ++ (codes " at [" ++ (zero_digit i ++ []) ++ codes "]") ++ codes " is " ++ digit_1 i ++ codes " with " ++ codes "any = hole") ++ codes "\n" ++ [])
+    ++ (codes "  " ++ (codes "(hole hole)" ++ (codes " at [" ++ (digit_0 i ++ []) ++ codes "]") ++ codes " is " ++ digit_1 i ++ codes " with " ++ codes "any = hole") ++ codes "\n" ++ [])
 
 -- ---- what host expressions make
 
@@ -449,7 +445,7 @@ filled_term s = record {
 }
 
 fault_printed : codes "fault NotContext 0\n" ≡ fault_line (not_context 0)
-fault_printed = λ i. codes "fault " ++ (codes "NotContext " ++ zero_digit i) ++ codes "\n"
+fault_printed = λ i. codes "fault " ++ (codes "NotContext " ++ digit_0 i) ++ codes "\n"
 
 one_printed : codes "value 1\n" ≡ value_line (tree.integer (pos 1))
 one_printed = λ i. codes "value " ++ digit_1 i ++ codes "\n"

@@ -18,8 +18,9 @@ use Rattle.rdx_query.specs.Inside.Defining.{IsFormFault}
 use Rattle.rdx_grammar.specs.Inside.Among.{AreAmong}
 use Rattle.rdx_query.specs.Inside.Steps.{Step, step_defines, step_asks, step_passes}
 use Rattle.rdx_query.specs.Known.{Known, nothing_in, with_definition}
-use Rattle.rdx_query.specs.Queries.{Query}
-use Rattle.rdx_query.specs.Views.{AllNamesKnown, IsFileFault}
+use Rattle.rdx_answer.specs.Queries.{Query}
+use Rattle.rdx_answer.specs.Views.{AllNamesKnown}
+use Rattle.rdx_query.specs.Views.{IsFileFault}
 use Rattle.rdx_grammar.proofs.Rests.{drop-at}
 use Rattle.rdx_query.proofs.AskedNames.{fit-before, can_answer}
 

@@ -26,12 +26,12 @@ use Rattle.rdx_query.proofs.FoundByName.{language-stays}
 -- ---- the cross nonterminals of one language
 
 -- a nonterminal that is none of them was there before
-plain-before : (L : Language) (zs : List (List ℕ)) (x : List ℕ) → IsTrue (is_among (Nt x) (defined (with_crosses_to L zs))) → IsTrue (is_among (Nt x) (defined L))
+pub plain-before : (L : Language) (zs : List (List ℕ)) (x : List ℕ) → IsTrue (is_among (Nt x) (defined (with_crosses_to L zs))) → IsTrue (is_among (Nt x) (defined L))
 plain-before L zs x h =
     plain_names-among x (defined L) (subst (λ (ns : List (List ℕ)). In x ns) (plain_names_stay L zs) (in-plain_names x (defined (with_crosses_to L zs)) h))
 
 -- so a language has all that a file asks for
-is_crossed : (ys : List (List ℕ)) (L : Language) (y : List ℕ) → In y ys → IsCrossedTo (crossed_for ys L) y
+pub is_crossed : (ys : List (List ℕ)) (L : Language) (y : List ℕ) → In y ys → IsCrossedTo (crossed_for ys L) y
 is_crossed ys L y i h x k =
     let zs = known_ends (names_of L) ys in
     let e : IsTrue (kinds.is_among (names_of L) y) = is_among-names y (defined L) ∙ plain-before L zs y h in

@@ -7,9 +7,9 @@ use Rattle.rdx_query.specs.File.{Asks}
 use Rattle.rdx_query.specs.Inside.KnownView.{known_of}
 use Rattle.rdx_query.specs.Inside.Steps.{Step, step_defines, step_asks, step_passes, StepsBy, IsAdded, AddsBy, PassesBy}
 use Rattle.rdx_query.specs.Known.{Known}
-use Rattle.rdx_query.specs.Queries as model
-use Rattle.rdx_query.specs.Views.{query_of}
-use Rattle.rdx_query.specs.declared.file.Query.{Query}
+use Rattle.rdx_answer.specs.Queries as model
+use Rattle.rdx_answer.specs.Views.{query_of}
+use Rattle.rdx_answer.specs.declared.queries.Query.{Query}
 use Rattle.rdx_query.specs.declared.known.Known as code_known
 
 -- what is added is a step

@@ -22,7 +22,7 @@ use Rattle.rdx_grammar.specs.declared.shape.fault.DefFault.{DefFault}
 use Rattle.rdx_query.specs.DefineParts.{DefineParts, define_parts}
 use Rattle.rdx_query.specs.Ends.{define_ends, form_ends}
 use Rattle.rdx_query.specs.Inside.Fitting.{IsCrossedTo, AreCrossed}
-use Rattle.rdx_query.proofs.Contexts.{member_at}
+use Rattle.rdx_answer.proofs.Contexts.{member_at}
 use Rattle.rdx_query.proofs.FormParts.{define-items}
 
 -- ---- a language
@@ -44,7 +44,7 @@ crossed-once L y c e =
     crosses_once L y (λ x h. c n x h)
 
 -- that has those to all of these
-crossed-same : (L : Language) (ys zs : List (List ℕ)) → ((y : List ℕ) → In y zs → IsCrossedTo L y) → AreAmong ys zs → crossed_for ys L ≡ L
+pub crossed-same : (L : Language) (ys zs : List (List ℕ)) → ((y : List ℕ) → In y zs → IsCrossedTo L y) → AreAmong ys zs → crossed_for ys L ≡ L
 crossed-same L ys zs c a = known-nothing L (names_of L) ys (λ y i e. crossed-once L y (c y (a y i)) e)
 
 -- so it stays, whatever was read

@@ -26,7 +26,7 @@ use Rattle.rdx_grammar.specs.Ends.{ends_in}
 use Rattle.rdx_grammar.specs.Inside.Among.{AreAmong}
 use Rattle.rdx_query.specs.HoldsForms.{HoldsParts, holds_parts, holds_among, lone_parts, lone_among, asked_names, unfound, unfound_for, asked_unknown_at, holds_refusal, asked_premise, holds_by, holds_over, holds_test_by}
 use Rattle.rdx_query.specs.Known.{Known, judgement_language}
-use Rattle.rdx_query.specs.Queries.{holds, test_holds}
+use Rattle.rdx_answer.specs.Queries.{holds, test_holds}
 use Rattle.rdx_query.specs.Inside.Asking.{IsHoldsFit, HoldsAskedBy, IsHolding, IsHoldsTest}
 use Rattle.rdx_query.specs.Inside.Earlier.{number, earlier, IsFaultAt, IsRefusedBy, IsUnless}
 use Rattle.rdx_query.proofs.CheckNumbers.{or_none, HasNumber, Checks, AreChecks, refused, merge, merged}

@@ -20,7 +20,7 @@ use Rattle.rdx_query.proofs.CheckNumbers.{or_none, Checks, AreChecks, refused, u
 use Rattle.rdx_query.proofs.FormParts.{unbuilt_at-built}
 
 -- no name stands under too few ellipses where none is bound
-no_shallow : (ps : List TemplatePart) → shallow_parts [] ps ≡ []
+pub no_shallow : (ps : List TemplatePart) → shallow_parts [] ps ≡ []
 no_shallow [] = refl
 no_shallow (single n d ∷ ps) = no_shallow ps
 no_shallow (repeated d ∷ ps) = no_shallow ps

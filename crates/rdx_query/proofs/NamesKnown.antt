@@ -48,7 +48,7 @@ use Rattle.rdx_query.specs.Known.{Known, empty_program, extended_by, known_as, w
 use Rattle.rdx_query.specs.LanguageForms.{named_base, name_taken_at, unknown_at, unknown_by, plain_language, extended_language}
 use Rattle.rdx_query.specs.MatchForms.{QueryParts, query_parts, query_shape_at, checked_parts, query_host, bad_query_at, query_escape_at, query_refusal, query_over}
 use Rattle.rdx_query.specs.MetafunctionForms.{function_taken_at, defined_function}
-use Rattle.rdx_query.specs.Queries.{Query, matches, whether, splits, value, holds, reducts, tagged, stepper, test_equal, test_step, test_run, test_match, test_holds, test_results, KnowsRelation, KnowsJudgement, NamesKnown}
+use Rattle.rdx_answer.specs.Queries.{Query, matches, whether, splits, value, holds, reducts, tagged, stepper, test_equal, test_step, test_run, test_match, test_holds, test_results, KnowsRelation, KnowsJudgement, NamesKnown}
 use Rattle.rdx_query.specs.RelationForms.{define_shape_at, bad_relation_at, cases_refusal, relation_names, relation_language}
 use Rattle.rdx_query.specs.StepForms.{StepParts, step_parts, steps_shape_at, checked_steps, steps_host, unknown_relation_at, unknown_relation_by, steps_refusal}
 use Rattle.rdx_query.specs.TestForms.{EqualParts, LeadingParts, equal_parts, leading_parts, hosts_shape_at, bad_hosts_at, undriven_hosts_at, hosts_escape_at, unknown_tested_at, leading_refusal}

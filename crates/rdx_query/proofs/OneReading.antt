@@ -12,7 +12,7 @@ use Rattle.rdx_query.specs.File.{Defines, Asks, IsPassedOver, IsRefusedForm, by_
 use Rattle.rdx_query.specs.FormKinds.{FormKind, defines, asks, passes, to_come, form_kind}
 use Rattle.rdx_query.specs.Forms.{form_refusal, late_refusal, form_definition, form_query, definition_by_kind, query_by_kind, is_passed_kind}
 use Rattle.rdx_query.specs.Known.{Known, with_definition}
-use Rattle.rdx_query.specs.Queries.{Query}
+use Rattle.rdx_answer.specs.Queries.{Query}
 use Rattle.rdx_lang.proofs.FirstRecursive.{first_recursive-same, first_recursive-free}
 
 -- ---- forms

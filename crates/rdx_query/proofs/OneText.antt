@@ -25,23 +25,24 @@ use Rattle.rdx_eval.proofs.OneAnswer.{once-then, once-gather, once-single, once-
 use Rattle.rdx_reduce.specs.Laws.{OneStepping}
 use Rattle.rdx_reduce.specs.Relations.{StepsOver, AreSteps}
 use Rattle.rdx_reduce.specs.Steps.{Step}
-use Rattle.rdx_query.specs.AnswerText.{matches_text, whether_text, splits_text, reducts_text, fault_line}
+use Rattle.rdx_answer.specs.AnswerText.{matches_text, whether_text, splits_text, reducts_text, fault_line}
 use Rattle.rdx_eval.specs.Judgements.{are_some}
 use Rattle.rdx_run.specs.Laws.{OneRun, OneWalk}
 use Rattle.rdx_run.specs.Runs as run
 use Rattle.rdx_run.specs.Runs.{RunEnd, Runs, most_steps}
 use Rattle.rdx_run.specs.Walks.{Walk, Walks}
-use Rattle.rdx_query.specs.Answering.{HostValue, HostValues, Over, over_value, over_fault, OverEach, over_values, over_first_fault, IsValueAnswer, IsAnswer, AreAnswers, no_answers, more_answers, counts_behind, Writes}
+use Rattle.rdx_answer.specs.Answering.{HostValue, HostValues, Over, over_value, over_fault, OverEach, over_values, over_first_fault, IsValueAnswer, IsAnswer, AreAnswers, no_answers, more_answers, counts_behind}
+use Rattle.rdx_query.specs.Writing.{Writes}
 use Rattle.rdx_query.specs.Known.{Known}
 use Rattle.rdx_query.specs.File.{known_before}
-use Rattle.rdx_query.specs.HoldsAnswers.{FindsMet, WritesWhether, whether_found, question_faulted, IsHoldsAnswer, ValuesOf, values_of, bindings_faulted, WritesValues, values_found, values_faulted, IsValuesAnswer, IsPremiseAnswer}
-use Rattle.rdx_query.specs.MatchAnswers.{Finds, FindsSplits, IsMatchesAnswer, IsWhetherAnswer, IsSplitsAnswer}
-use Rattle.rdx_query.specs.Queries.{Query, matches, whether, splits, value, holds, reducts, tagged, stepper, test_equal, test_step, test_run, test_match, test_holds, test_results}
-use Rattle.rdx_query.specs.StepAnswers.{reducts_in, WritesReducts, reducts_found, reducts_faulted, WritesSteps, steps_found, steps_faulted, IsReductsAnswer, IsTaggedAnswer}
-use Rattle.rdx_query.specs.StepperAnswers.{walk_text, is_done, IsStepperAnswer}
-use Rattle.rdx_query.specs.TestAnswers.{ComparesSteps, steps_compared, steps_faulted as no_steps_compared, ComparesEnd, rest_compared, run_fails, run_branches, run_is_bound, IsStepTestAnswer, IsRunTestAnswer, IsMatchTestAnswer, WritesVerdict, verdict_found, question_faulted as no_verdict, IsHoldsTestAnswer, IsResultsAnswer}
-use Rattle.rdx_query.specs.Tests.{Compares, Counts, no_tests, verdict_line, as_wanted}
-use Rattle.rdx_query.proofs.Compared.{compares-once}
+use Rattle.rdx_answer.specs.HoldsAnswers.{FindsMet, WritesWhether, whether_found, question_faulted, IsHoldsAnswer, ValuesOf, values_of, bindings_faulted, WritesValues, values_found, values_faulted, IsValuesAnswer, IsPremiseAnswer}
+use Rattle.rdx_answer.specs.MatchAnswers.{Finds, FindsSplits, IsMatchesAnswer, IsWhetherAnswer, IsSplitsAnswer}
+use Rattle.rdx_answer.specs.Queries.{Query, matches, whether, splits, value, holds, reducts, tagged, stepper, test_equal, test_step, test_run, test_match, test_holds, test_results}
+use Rattle.rdx_answer.specs.StepAnswers.{reducts_in, WritesReducts, reducts_found, reducts_faulted, WritesSteps, steps_found, steps_faulted, IsReductsAnswer, IsTaggedAnswer}
+use Rattle.rdx_answer.specs.StepperAnswers.{walk_text, is_done, IsStepperAnswer}
+use Rattle.rdx_answer.specs.TestAnswers.{ComparesSteps, steps_compared, steps_faulted as no_steps_compared, ComparesEnd, rest_compared, run_fails, run_branches, run_is_bound, IsStepTestAnswer, IsRunTestAnswer, IsMatchTestAnswer, WritesVerdict, verdict_found, question_faulted as no_verdict, IsHoldsTestAnswer, IsResultsAnswer}
+use Rattle.rdx_answer.specs.Tests.{Compares, Counts, no_tests, verdict_line, as_wanted}
+use Rattle.rdx_answer.proofs.Compared.{compares-once}
 use Rattle.rdx_query.proofs.OneReading.{accepts-one}
 
 -- what two answers have in common

@@ -25,24 +25,24 @@ use Rattle.rdx_eval.proofs.SomeAnswer.{some-then, some-gather, some-single, some
 use Rattle.rdx_reduce.specs.Laws.{SomeStepping}
 use Rattle.rdx_reduce.specs.Relations.{StepsOver, AreSteps}
 use Rattle.rdx_reduce.specs.Steps.{Step}
-use Rattle.rdx_query.specs.AnswerText.{answers_text, holds_text, value_line, matches_text, whether_text, splits_text, reducts_text, steps_text, fault_line, branches_line, bound_line}
+use Rattle.rdx_answer.specs.AnswerText.{answers_text, holds_text, value_line, matches_text, whether_text, splits_text, reducts_text, steps_text, fault_line, branches_line, bound_line}
 use Rattle.rdx_run.specs.Laws.{SomeRun, SomeWalk}
 use Rattle.rdx_run.specs.Runs as run
 use Rattle.rdx_run.specs.Runs.{RunEnd, most_steps}
-use Rattle.rdx_query.specs.Answering.{HostValue, HostValues, Over, over_value, over_fault, OverEach, over_values, over_first_fault, IsValueAnswer, IsAnswer, AreAnswers, no_answers, more_answers, counts_behind}
+use Rattle.rdx_answer.specs.Answering.{HostValue, HostValues, Over, over_value, over_fault, OverEach, over_values, over_first_fault, IsValueAnswer, IsAnswer, AreAnswers, no_answers, more_answers, counts_behind}
 use Rattle.rdx_query.specs.File.{known_before}
-use Rattle.rdx_query.specs.HoldsAnswers.{FindsMet, WritesWhether, whether_found, question_faulted, ValuesOf, values_of, bindings_faulted, WritesValues, values_found, values_faulted, IsPremiseAnswer}
+use Rattle.rdx_answer.specs.HoldsAnswers.{FindsMet, WritesWhether, whether_found, question_faulted, ValuesOf, values_of, bindings_faulted, WritesValues, values_found, values_faulted, IsPremiseAnswer}
 use Rattle.rdx_query.specs.Laws.{AreAccepted, AreRefused, DoWrite}
-use Rattle.rdx_query.specs.MatchAnswers.{Finds, FindsSplits, IsMatchesAnswer, IsWhetherAnswer, IsSplitsAnswer}
-use Rattle.rdx_query.specs.Queries.{Query, matches, whether, splits, value, holds, reducts, tagged, stepper, test_equal, test_step, test_run, test_match, test_holds, test_results, NamesKnown, KnowsJudgement, KnowsRelation}
-use Rattle.rdx_query.specs.StepAnswers.{reducts_in, named_steps, AreReducts, WritesReducts, reducts_found, reducts_faulted, WritesSteps, steps_found, steps_faulted, IsReductsAnswer, IsTaggedAnswer}
-use Rattle.rdx_query.specs.StepperAnswers.{walk_text, is_done, IsStepperAnswer}
-use Rattle.rdx_query.specs.TestAnswers.{ComparesSteps, steps_compared, steps_faulted as no_steps_compared, ComparesEnd, rest_compared, run_fails, run_branches, run_is_bound, IsStepTestAnswer, IsRunTestAnswer, IsMatchTestAnswer, WritesVerdict, verdict_found, question_faulted as no_verdict, IsHoldsTestAnswer}
-use Rattle.rdx_query.specs.Tests.{Compares, Counts, no_tests, verdict_line, as_wanted, results_line}
-use Rattle.rdx_query.specs.Views.{AllNamesKnown}
+use Rattle.rdx_answer.specs.MatchAnswers.{Finds, FindsSplits, IsMatchesAnswer, IsWhetherAnswer, IsSplitsAnswer}
+use Rattle.rdx_answer.specs.Queries.{Query, matches, whether, splits, value, holds, reducts, tagged, stepper, test_equal, test_step, test_run, test_match, test_holds, test_results, NamesKnown, KnowsJudgement, KnowsRelation}
+use Rattle.rdx_answer.specs.StepAnswers.{reducts_in, named_steps, AreReducts, WritesReducts, reducts_found, reducts_faulted, WritesSteps, steps_found, steps_faulted, IsReductsAnswer, IsTaggedAnswer}
+use Rattle.rdx_answer.specs.StepperAnswers.{walk_text, is_done, IsStepperAnswer}
+use Rattle.rdx_answer.specs.TestAnswers.{ComparesSteps, steps_compared, steps_faulted as no_steps_compared, ComparesEnd, rest_compared, run_fails, run_branches, run_is_bound, IsStepTestAnswer, IsRunTestAnswer, IsMatchTestAnswer, WritesVerdict, verdict_found, question_faulted as no_verdict, IsHoldsTestAnswer}
+use Rattle.rdx_answer.specs.Tests.{Compares, Counts, no_tests, verdict_line, as_wanted, results_line}
+use Rattle.rdx_answer.specs.Views.{AllNamesKnown}
 use Rattle.rdx_query.proofs.AcceptedOrRefused.{accepted_or_refused}
 use Rattle.rdx_query.proofs.AskedNames.{fit-before, can_answer}
-use Rattle.rdx_query.proofs.Compared.{compares-some}
+use Rattle.rdx_answer.proofs.Compared.{compares-some}
 use Rattle.rdx_query.proofs.FoundByName.{language-among}
 
 -- the bindings that are found

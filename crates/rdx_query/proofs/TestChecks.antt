@@ -23,7 +23,7 @@ use Rattle.rdx_defs.specs.TemplateRefusal.{host_refusal}
 use Rattle.rdx_defs.specs.TemplateShapes.{host_shapes}
 use Rattle.rdx_query.specs.HostForms.{parts_of_host, host_of_datum, host_shape_at, bad_host_at, undriven_host_at, host_escape_at}
 use Rattle.rdx_query.specs.Known.{Known}
-use Rattle.rdx_query.specs.Queries.{test_equal}
+use Rattle.rdx_answer.specs.Queries.{test_equal}
 use Rattle.rdx_query.specs.StepForms.{unknown_relation_by}
 use Rattle.rdx_query.specs.TestForms.{EqualParts, LeadingParts, equal_parts, leading_parts, hosts_shape_at, bad_hosts_at, undriven_hosts_at, hosts_escape_at, unknown_tested_at, test_refusal_over, equal_refusal, leading_refusal}
 use Rattle.rdx_query.specs.Inside.Asking.{AreReadable, hosts_refusal, ReadsHosts, IsEqualFit, IsSame, IsLeadingFit, IsLeading}

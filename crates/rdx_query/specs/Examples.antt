@@ -1,14 +1,10 @@
 -- Worked examples: short files, with the text that they write or their refusal. They are proved, as the clauses of `laws::worked_examples`.
-use Rattle.std.specs.Prelude.{◌≡◌, ℕ, Bool, true, false, pos, List, [], ◌∷◌, Option, Some, None, codes}
+use Rattle.std.specs.Prelude.{ℕ, Bool, true, false, pos, List, [], ◌∷◌, codes}
 use Rattle.rdx_base.specs.declared.place.Span.{Span}
 use Rattle.rdx_sexp.specs.Sexp.{Sexp, symbol, integer, text, keyword, leaf, list, sexps}
-use Rattle.rdx_term.specs.Tree as tree
-use Rattle.rdx_term.specs.Tree.{Tree}
-use Rattle.rdx_lang.specs.Bindings.{Value, one, many, len, values}
 use Rattle.rdx_grammar.specs.Refusal.{unnamed, named, named_at}
 use Rattle.rdx_grammar.specs.declared.shape.fault.DefKind.TheVariants.{Shape, RacketEscape, UnknownLanguage, Duplicate, LeftRecursive}
-use Rattle.rdx_query.specs.AnswerText.{value_text, pair_text}
-use Rattle.rdx_query.specs.Answering.{Writes}
+use Rattle.rdx_query.specs.Writing.{Writes}
 use Rattle.rdx_query.specs.File.{IsFileRefusal}
 
 -- what the data of a file write where it is only run
@@ -148,43 +144,6 @@ OutputsListed = (s : Span) →
     ∷ defines_J s (word s (codes "I") ∷ word s (codes "O") ∷ []) (rule 3 ∷ rule 2 ∷ [])
     ∷ form s (word s (codes "judgment-holds") ∷ about_J s (number s 1 ∷ word s (codes "any") ∷ []) ∷ word s (codes "any") ∷ []) ∷ [])
     (codes "answers 2\n  2\n  3\n") true
-
--- ---- how values are printed
-
--- the list of two terms, with this mark
-abbrev pub marked_pair : Option ℕ → Tree → Tree → Tree
-marked_pair m t u = tree.list m (tree.cons t (tree.cons u tree.nil))
-
--- a context with two holes has the path of its own hole behind it
-abbrev pub OwnHole : Type 0
-OwnHole = value_text (one (marked_pair (Some 1) tree.hole tree.hole)) ≡ codes "(hole hole) at [1]"
-
--- one with one hole has not, and neither has a list with two holes and no mark, which is no context
-abbrev pub OneHole : Type 0
-OneHole = value_text (one (marked_pair (Some 0) tree.hole (tree.truth true))) ≡ codes "(hole #t)"
-
-abbrev pub NoOwnHole : Type 0
-NoOwnHole = value_text (one (marked_pair None tree.hole tree.hole)) ≡ codes "(hole hole)"
-
--- one integer
-abbrev pub one_integer : ℕ → Value
-one_integer n = one (tree.integer (pos n))
-
--- the sequence of these values
-abbrev pub sequence : List Value → Value
-sequence vs = many (values vs)
-
--- a sequence stands in square brackets, as does each sequence in it, and one of no values too
-abbrev pub NestedSequences : Type 0
-NestedSequences = value_text (sequence (sequence (one_integer 1 ∷ one_integer 2 ∷ []) ∷ sequence [] ∷ [])) ≡ codes "[[1 2] []]"
-
--- a context with two holes has its path behind it in a sequence too
-abbrev pub OwnHoleInSequence : Type 0
-OwnHoleInSequence = value_text (sequence (one (marked_pair (Some 1) tree.hole tree.hole) ∷ one_integer 3 ∷ [])) ≡ codes "[(hole hole) at [1] 3]"
-
--- a length is a number
-abbrev pub LengthInDecimal : Type 0
-LengthInDecimal = pair_text (codes "..._a", len 2) ≡ codes "..._a = 2"
 
 -- ---- why files are refused
 

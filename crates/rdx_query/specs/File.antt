@@ -12,7 +12,7 @@ use Rattle.rdx_query.specs.Definitions.{Defined, language, IsSound}
 use Rattle.rdx_query.specs.Ends.{file_ends}
 use Rattle.rdx_query.specs.Forms.{form_refusal, late_refusal, form_definition, form_query, is_passed}
 use Rattle.rdx_query.specs.Known.{Known, nothing_in, with_definition}
-use Rattle.rdx_query.specs.Queries.{Query}
+use Rattle.rdx_answer.specs.Queries.{Query}
 
 -- the form is accepted, and defines x
 pub record Defines (K : Known) (d : Sexp) (x : Defined) : Type 0 where

@@ -17,7 +17,7 @@ use Rattle.rdx_query.specs.LanguageForms.{plain_refusal, plain_language, extensi
 use Rattle.rdx_query.specs.MatchForms.{query_parts, query_refusal, match_query}
 use Rattle.rdx_query.specs.MetafunctionForms.{function_refusal, defined_function}
 use Rattle.rdx_query.specs.PassedForms.{wants_refusal, offers_refusal}
-use Rattle.rdx_query.specs.Queries.{Query, matches, whether, splits, reducts, tagged, stepper, test_step, test_run, test_match, test_results}
+use Rattle.rdx_answer.specs.Queries.{Query, matches, whether, splits, reducts, tagged, stepper, test_step, test_run, test_match, test_results}
 use Rattle.rdx_query.specs.StepForms.{step_parts, steps_refusal, steps_query}
 use Rattle.rdx_query.specs.TestForms.{equal_parts, leading_parts, equal_refusal, leading_refusal, equal_query, leading_query, results_refusal}
 

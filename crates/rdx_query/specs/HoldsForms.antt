@@ -17,7 +17,7 @@ use Rattle.rdx_defs.specs.StandChecks.{shape_at, bad_name_at, bad_place_at, dept
 use Rattle.rdx_defs.specs.Stands.{Stand, names_bound, bound_by_premise}
 use Rattle.rdx_defs.specs.TemplateReading.{template_reading}
 use Rattle.rdx_query.specs.Known.{Known, judgement_language, or_empty}
-use Rattle.rdx_query.specs.Queries.{Query, holds, test_holds}
+use Rattle.rdx_answer.specs.Queries.{Query, holds, test_holds}
 
 -- ---- the parts
 

@@ -11,7 +11,7 @@ use Rattle.rdx_defs.specs.TemplateReading.{host_reading}
 use Rattle.rdx_defs.specs.TemplateRefusal.{host_refusal}
 use Rattle.rdx_defs.specs.TemplateShapes.{host_shapes}
 use Rattle.rdx_query.specs.Known.{Known}
-use Rattle.rdx_query.specs.Queries.{Query, value}
+use Rattle.rdx_answer.specs.Queries.{Query, value}
 
 -- what stands in a host expression
 abbrev pub parts_of_host : Known → Sexp → List TemplatePart

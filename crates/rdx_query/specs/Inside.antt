@@ -10,8 +10,3 @@ pub mod Passing
 pub mod Steps
 pub mod Fitting
 pub mod Closing
-pub mod Appending
-pub mod Counting
-pub mod Comparing
-pub mod Contexts
-pub mod Whether

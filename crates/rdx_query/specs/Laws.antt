@@ -1,15 +1,35 @@
 -- What follows from the definitions, stated for the contracts of the module of laws.
-use Rattle.std.specs.Prelude.{◌≡◌, ◌⊎◌, ℕ, Bool, List}
+use Rattle.std.specs.Prelude.{◌≡◌, ◌⊎◌, ℕ, Bool, List, IsTrue}
 use Rattle.rdx_sexp.specs.Sexp.{Sexp}
-use Rattle.rdx_lang.specs.Programs.{Program}
+use Rattle.rdx_sexp.specs.Size.{IsOfFileSize}
+use Rattle.rdx_lang.specs.Members.{In}
+use Rattle.rdx_lang.specs.Programs.{Program, Relation, Rule}
+use Rattle.rdx_lang.specs.Valid.{is_valid}
 use Rattle.rdx_grammar.specs.Refusal.{Refusal}
-use Rattle.rdx_query.specs.Answering.{Writes}
+use Rattle.rdx_query.specs.Writing.{Writes}
 use Rattle.rdx_query.specs.File.{IsFile, IsFileRefusal}
-use Rattle.rdx_query.specs.Queries.{Query}
+use Rattle.rdx_reduce.specs.ClosureLaws.{LeavesAName}
+use Rattle.rdx_answer.specs.Queries.{Query}
+use Rattle.rdx_query.specs.ValidQueries.{are_valid_queries}
 
 -- data that are accepted define the same and ask the same, however their forms are read
 abbrev pub OneMeaning : Type 0
 OneMeaning = (ds : List Sexp) (P Q : Program) (qs rs : List Query) → IsFile ds P qs → IsFile ds Q rs → (P ≡ Q) × (qs ≡ rs)
+
+-- where the data of a file of at most 1,048,576 bytes are accepted, the metafunctions, judgements and relations that they define are valid, and what
+-- they define goes by different names; a metafunction or a judgement may be defined behind its use. Of the languages themselves this says nothing
+abbrev pub AcceptedIsValid : Type 0
+AcceptedIsValid = (ds : List Sexp) (P : Program) (qs : List Query) → IsOfFileSize ds → IsFile ds P qs → IsTrue (is_valid P)
+
+-- and so is each query: what it names is defined, in the end
+abbrev pub AcceptedQueriesAreValid : Type 0
+AcceptedQueriesAreValid = (ds : List Sexp) (P : Program) (qs : List Query) → IsOfFileSize ds → IsFile ds P qs → IsTrue (are_valid_queries P qs)
+
+-- and each rule of a relation leaves the name of a context free, as the laws of closures ask
+abbrev pub AcceptedLeaveNames : Type 0
+AcceptedLeaveNames =
+    (ds : List Sexp) (P : Program) (qs : List Query) (R : Relation) (r : Rule) → IsOfFileSize ds → IsFile ds P qs → In R P.relations
+    → In r R.rules → LeavesAName r
 
 -- by the same choices data write one text at most, and all that they state is met or not
 abbrev pub OneText : Type 0

@@ -4,7 +4,6 @@ pub mod Ends
 pub mod Known
 pub mod FormKinds
 pub mod LanguageForms
-pub mod Queries
 pub mod HostForms
 pub mod MatchForms
 pub mod HoldsForms
@@ -18,16 +17,9 @@ pub mod JudgementForms
 pub mod PassedForms
 pub mod Forms
 pub mod File
-pub mod AnswerText
-pub mod MatchAnswers
-pub mod HoldsAnswers
-pub mod StepAnswers
-pub mod StepperAnswers
-pub mod Tests
-pub mod TestAnswers
-pub mod Answering
-pub mod Workload
+pub mod Writing
 pub mod Views
+pub mod ValidQueries
 pub mod Laws
 pub mod Examples
 pub mod Inside

@@ -16,7 +16,7 @@ use Rattle.rdx_defs.specs.TemplateOccurrences.{TemplatePart}
 use Rattle.rdx_query.specs.HostForms.{parts_of_host, host_of_datum, host_shape_at, bad_host_at, undriven_host_at, host_escape_at}
 use Rattle.rdx_query.specs.Known.{Known}
 use Rattle.rdx_query.specs.LanguageForms.{named_base, unknown_at}
-use Rattle.rdx_query.specs.Queries.{Query}
+use Rattle.rdx_answer.specs.Queries.{Query}
 
 -- ---- the parts
 

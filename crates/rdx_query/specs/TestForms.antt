@@ -10,7 +10,7 @@ use Rattle.rdx_grammar.specs.Unbuilt.{unbuilt_at}
 use Rattle.rdx_grammar.specs.declared.shape.fault.DefKind.TheVariants.{Shape}
 use Rattle.rdx_query.specs.HostForms.{parts_of_host, host_of_datum, host_shape_at, bad_host_at, undriven_host_at, host_escape_at}
 use Rattle.rdx_query.specs.Known.{Known}
-use Rattle.rdx_query.specs.Queries.{Query, test_equal}
+use Rattle.rdx_answer.specs.Queries.{Query, test_equal}
 use Rattle.rdx_query.specs.StepForms.{unknown_relation_by}
 
 -- ---- the parts

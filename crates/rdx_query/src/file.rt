@@ -3,60 +3,20 @@ ghost use Rattle.rdx_sexp.specs.Size.{IsOfFileSize};
 ghost use Rattle.std.specs.Prelude.{◌≡◌, IfOk, IfErr};
 ghost use Rattle.rdx_query.specs.File.{IsFile, known_before};
 ghost use Rattle.rdx_query.specs.Inside.KnownView.{known_of};
-ghost use Rattle.rdx_query.specs.Views.{AllNamesKnown, IsFileFault, program_in, queries_of};
+ghost use Rattle.rdx_answer.specs.Views.{AllNamesKnown, program_in, queries_of};
+ghost use Rattle.rdx_query.specs.Views.{IsFileFault};
 
 use crate::ends::file_ends;
 use crate::forms::read_form;
 use crate::known::Known;
 use crate::tables::Tables;
+use rdx_answer::CheckedFile;
 use rdx_defs::{judgement_languages, scope_of};
 use rdx_grammar::DefFault;
-use rdx_lang::{CheckedPat, HostExpr, Premise, Program, Template};
+use rdx_lang::Program;
 use rdx_sexp::Datum;
 use rdx_term::{Name, NoMemory};
 use std::alloc::Global;
-
-/// What a file asks.
-#[derive(Drop)]
-pub enum Query {
-    /// The bindings by which the pattern matches a term, in the language of this name.
-    Match(Name, CheckedPat, HostExpr),
-    /// Whether there are some.
-    Whether(Name, CheckedPat, HostExpr),
-    /// What the pattern splits the term into.
-    Decompose(Name, CheckedPat, HostExpr),
-    /// The term itself.
-    Value(HostExpr),
-    /// Whether the premise is met, or what the template makes of each binding that meets it.
-    Holds(Premise, Option<Template>),
-    /// The terms to which the relation of this name leads from the term.
-    Reducts(Name, HostExpr),
-    /// The steps that it takes from the term, each with the name of its rule.
-    Tagged(Name, HostExpr),
-    /// The terms at which one comes from the term by the choices with which the file is run.
-    Stepper(Name, HostExpr),
-    /// A test that two host expressions make the same, marks forgotten.
-    TestEqual(HostExpr, HostExpr),
-    /// A test that the terms to which the relation of this name leads from the term are those that
-    /// the others make.
-    TestStep(Name, HostExpr, Vec<HostExpr>),
-    /// A test that the run from the term ends in the one that the others make.
-    TestRun(Name, HostExpr, Vec<HostExpr>),
-    /// A test that the pattern matches the term, or that it does not, in the language of this name.
-    TestMatch(Name, CheckedPat, HostExpr, bool),
-    /// A test that the premise is met.
-    TestHolds(Premise),
-    /// How many tests passed and failed since this was asked last.
-    TestResults,
-}
-
-/// A file that was accepted.
-#[derive(Drop)]
-pub struct CheckedFile {
-    pub program: Program,
-    /// The queries, in the file's order.
-    pub queries: Vec<Query>,
-}
 
 // What is known before the first of these forms.
 fn nothing_known(alloc: Global, forms: &[Datum]) -> Result<Known, NoMemory>

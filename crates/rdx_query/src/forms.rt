@@ -12,7 +12,7 @@ ghost use Rattle.rdx_query.specs.Inside.KindViews.{definition_kind_of, passed_ki
 ghost use Rattle.rdx_query.specs.Inside.KnownView.{known_of};
 ghost use Rattle.rdx_query.specs.Inside.Steps.{AddsBy, AsksQuery, PassesBy, StepsBy};
 ghost use Rattle.rdx_query.specs.Known.{with_definition};
-ghost use Rattle.rdx_query.specs.Views.{query_of};
+ghost use Rattle.rdx_answer.specs.Views.{query_of};
 
 use crate::Query;
 use crate::define_forms::define_relation;

@@ -1,10 +1,18 @@
 //! Laws of the definitions: functions that do nothing, whose contracts are the laws.
-ghost use Rattle.rdx_query.specs.Laws.{OneMeaning, OneText, OneRefusal, NeverBothAcceptedAndRefused, NeverBothTextAndRefusal, NeverNeither, SomeTextOrRefusal};
+ghost use Rattle.rdx_query.specs.Laws.{OneMeaning, AcceptedIsValid, AcceptedQueriesAreValid, AcceptedLeaveNames, OneText, OneRefusal, NeverBothAcceptedAndRefused, NeverBothTextAndRefusal, NeverNeither, SomeTextOrRefusal};
 ghost use Rattle.rdx_query.specs.Examples as example;
 
 /// The data of a file define one program and ask one list of queries at most.
 pub fn one_meaning()
     ensures { OneMeaning }
+{}
+
+/// The program of a file is valid, where its data are accepted, and so are its queries; and each rule
+/// of a relation leaves the name of a context free.
+pub fn accepted_is_valid()
+    ensures program { AcceptedIsValid }
+    ensures queries { AcceptedQueriesAreValid }
+    ensures contexts { AcceptedLeaveNames }
 {}
 
 /// The data of a file write one text at most, by the same choices.
@@ -63,12 +71,6 @@ pub fn worked_examples()
     ensures one_reduct_two_steps { example.OneReductTwoSteps }
     ensures premise_met { example.PremiseMet }
     ensures outputs_listed { example.OutputsListed }
-    ensures own_hole { example.OwnHole }
-    ensures one_hole { example.OneHole }
-    ensures no_own_hole { example.NoOwnHole }
-    ensures nested_sequences { example.NestedSequences }
-    ensures own_hole_in_sequence { example.OwnHoleInSequence }
-    ensures length_in_decimal { example.LengthInDecimal }
     ensures first_refused_form { example.FirstRefusedForm }
     ensures earlier_languages_only { example.EarlierLanguagesOnly }
     ensures taken_name { example.TakenName }

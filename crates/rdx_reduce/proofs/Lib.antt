@@ -5,3 +5,9 @@ pub mod SomeAnswer
 pub mod Examples
 pub mod ContextNames
 pub mod ClosureExamples
+pub mod ContextBindings
+pub mod SameTemplates
+pub mod Reached
+pub mod AlongExtras
+pub mod TakenSteps
+pub mod ClosureLaws

@@ -1,12 +1,15 @@
 -- Worked examples: what closures make of relations of one rule. They are proved, as the clauses of `laws::worked_closures`.
 use Rattle.std.specs.Prelude.{◌≡◌, ℕ, List, [], ◌∷◌, Option, Some, None, codes}
-use Rattle.rdx_lang.specs.Closures.{context_closure, compatible_closure}
-use Rattle.rdx_lang.specs.Examples.{int}
+use Rattle.rdx_lang.specs.Closures.{closed_rule, context_closure, compatible_closure}
+use Rattle.rdx_lang.specs.Examples.{int, list_of_two, seq_of_two, any, number, E, Numbers, Contexts}
 use Rattle.rdx_lang.specs.Patterns as pattern
-use Rattle.rdx_lang.specs.Patterns.{Pattern, wild, nt, named, in_hole, closed}
+use Rattle.rdx_lang.specs.Patterns.{Pattern, wild, hole, nt, named, in_hole, closed}
 use Rattle.rdx_lang.specs.Programs.{Relation}
 use Rattle.rdx_lang.specs.Templates.{Template, lit, var, fill}
 use Rattle.rdx_lang.specs.declared.pattern.Ref.TheVariants.{Cross}
+use Rattle.rdx_eval.specs.Answers.{value}
+use Rattle.rdx_eval.specs.FreshExamples.{x, x1, fresh_x}
+use Rattle.rdx_reduce.specs.Examples.{leads_where, step, TakeIn}
 
 -- ---- rules and relations of the examples
 
@@ -45,3 +48,30 @@ ClosureOfClosure =
     → context_closure q z (context_closure p y (alone x None (pattern.lit (int 1)) (lit (int 2))))
     ≡ alone z None (around (codes "context1") q (around (codes "context") p (pattern.lit (int 1))))
     (inside (codes "context1") (inside (codes "context") (lit (int 2))))
+
+-- ---- steps of closures
+
+-- the closure by `(hole any)` of `(--> 1 2)`
+abbrev pub at_first : Relation
+at_first = context_closure (seq_of_two hole any) (codes "y") (alone (codes "x") None (pattern.lit (int 1)) (lit (int 2)))
+
+-- it takes a step where the pattern splits, and nowhere else: `(1 1)` to `(2 1)` alone
+abbrev pub StepsInside : Type 0
+StepsInside = TakeIn Numbers at_first.rules (list_of_two (int 1) (int 1)) (value (step 0 (list_of_two (int 2) (int 1)) ∷ []))
+
+-- the relation's own step from 1 is none of the closure's, since the pattern does not split 1
+abbrev pub NoStepAtTop : Type 0
+NoStepAtTop = TakeIn Numbers at_first.rules (int 1) (value [])
+
+-- fresh names avoid what stands around the part, too: `(--> 1 x (fresh x))` takes 1 to `x`, and its closure by `(hole any)` takes `(1 x)` to `(x1 x)`
+abbrev pub FreshAvoidsContext : Type 0
+FreshAvoidsContext =
+    TakeIn Numbers (leads_where (pattern.lit (int 1)) (var (codes "x") 0) fresh_x ∷ []) (int 1) (value (step 0 x ∷ []))
+    × TakeIn Numbers (closed_rule (seq_of_two hole any) (leads_where (pattern.lit (int 1)) (var (codes "x") 0) fresh_x) ∷ []) (list_of_two (int 1) x)
+    (value (step 0 (list_of_two x1 x) ∷ []))
+
+-- where E is `hole`, `(E any)` or `(any E)`, the closure by E of `(--> number_1 0)` takes one step from `(1 2)` in each place
+abbrev pub StepsInEachPlace : Type 0
+StepsInEachPlace =
+    TakeIn Contexts (context_closure (nt E) (codes "y") (alone (codes "x") None (named (codes "number_1") number) (lit (int 0)))).rules
+    (list_of_two (int 1) (int 2)) (value (step 0 (list_of_two (int 0) (int 2)) ∷ step 0 (list_of_two (int 1) (int 0)) ∷ []))

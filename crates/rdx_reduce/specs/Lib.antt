@@ -2,6 +2,8 @@ pub mod Steps
 pub mod Relations
 pub mod StepView
 pub mod Laws
+pub mod TakenSteps
+pub mod ClosureLaws
 pub mod Examples
 pub mod ClosureExamples
 pub mod Model

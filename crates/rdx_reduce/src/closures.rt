@@ -39,19 +39,6 @@ fn are_few_contexts(pattern: &Pat, most: usize) -> bool {
     }
 }
 
-// The pattern, which is well formed in the language.
-fn checked(alloc: Global, language: &CheckedLang, pattern: Pat) -> Result<CheckedPat, NoMemory>
-    requires { IsTrue (is_well_formed_in (language_in language.now) (pattern_of pattern)) }
-    ensures same { IfOk result (λ c. pattern_in c ≡ pattern_of pattern) }
-    ensures formed { IfOk result
-        (λ c. IsTrue (is_well_formed_in (language_in language.now) (pattern_in c))) }
-{
-    match CheckedPat::new(alloc, language, pattern)? {
-        Some(pattern) => Ok(pattern),
-        None => unreachable!(),
-    }
-}
-
 // The name `context`.
 fn context(alloc: Global) -> Result<Name, NoMemory>
     ensures { IfOk result (λ x. x ≡ codes "context") }
@@ -120,7 +107,7 @@ fn closed_rule(
     let pattern = pattern_in_context(alloc, &context, by.pat(), rule.pattern.pat())?;
     Ok(Rule {
         name: rule.share_name()?,
-        pattern: checked(alloc, language, pattern)?,
+        pattern: CheckedPat::known(language, pattern),
         extras: rule.share_extras(alloc)?,
         result: template_in_context(alloc, &context, &rule.result)?,
     })
@@ -193,6 +180,6 @@ pub fn compatible_closure(
         IsTrue (model.has_well_formed_patterns (language_in language.now) (relation_of r))) }
 {
     let contexts = Pat::Nt(Ref::Cross(e.share()?, e.share()?));
-    let by = checked(alloc, language, contexts)?;
+    let by = CheckedPat::known(language, contexts);
     context_closure(alloc, relation, name, language, &by)
 }

@@ -1,7 +1,10 @@
 //! Laws of steps: functions that do nothing, whose contracts are the laws.
-ghost use Rattle.rdx_reduce.specs.ClosureExamples.{NameStays, NameIsTaken, ClosureOfClosure};
-ghost use Rattle.rdx_reduce.specs.Examples.{OneStep, StepByEach, OnceForTwo, FaultAlone};
+ghost use Rattle.rdx_reduce.specs.ClosureLaws.{MatchesInContext, ContextIsJoined, StepsInContext, KeepsOwnSteps, ClosureLists};
+ghost use Rattle.rdx_reduce.specs.ClosureExamples.{NameStays, NameIsTaken, ClosureOfClosure, StepsInside, NoStepAtTop, FreshAvoidsContext, StepsInEachPlace};
+ghost use Rattle.rdx_reduce.specs.Examples.{OneStep, StepByEach, OnceForTwo, FaultAlone, RulesInOrder, MarksCount, FirstFault};
+ghost use Rattle.rdx_reduce.specs.Examples.{ConditionHolds, ConditionFails, WhereFails};
 ghost use Rattle.rdx_reduce.specs.Laws.{OneStepping, SomeStepping};
+ghost use Rattle.rdx_reduce.specs.TakenSteps.{ListsTaken};
 
 /// The rules of a relation have one listing of their steps from a term, or one fault, where the
 /// program's languages are free of left recursion.
@@ -10,12 +13,36 @@ pub fn one_stepping()
     ensures some { SomeStepping }
 {}
 
+/// Where there is no fault, the steps that are listed are exactly those that the rules take, one by
+/// one.
+pub fn taken_steps()
+    ensures { ListsTaken }
+{}
+
+/// The rule of a closure matches where the closing pattern splits off a context and the rule
+/// matches the part, and takes the steps of a valid rule there. So where there is no fault, the
+/// steps of a closure are exactly those that the rules of the relation take inside of contexts. The
+/// name of the context has to be none that a rule binds.
+pub fn closures_step_inside()
+    ensures matches { MatchesInContext }
+    ensures joined { ContextIsJoined }
+    ensures steps { StepsInContext }
+    ensures own { KeepsOwnSteps }
+    ensures lists { ClosureLists }
+{}
+
 /// Worked examples: the steps of small rules from small terms.
 pub fn worked_examples()
     ensures one_step { OneStep }
     ensures step_by_each { StepByEach }
     ensures once_for_two { OnceForTwo }
     ensures fault_alone { FaultAlone }
+    ensures rules_in_order { RulesInOrder }
+    ensures marks_count { MarksCount }
+    ensures first_fault { FirstFault }
+    ensures condition_holds { ConditionHolds }
+    ensures condition_fails { ConditionFails }
+    ensures where_fails { WhereFails }
 {}
 
 /// Worked examples: what closures make of relations of one rule.
@@ -23,4 +50,8 @@ pub fn worked_closures()
     ensures name_stays { NameStays }
     ensures name_is_taken { NameIsTaken }
     ensures closure_of_closure { ClosureOfClosure }
+    ensures steps_inside { StepsInside }
+    ensures no_step_at_top { NoStepAtTop }
+    ensures fresh_avoids_context { FreshAvoidsContext }
+    ensures steps_in_each_place { StepsInEachPlace }
 {}

@@ -3,3 +3,4 @@ pub mod OneEnd
 pub mod Leading
 pub mod SomeEnd
 pub mod Turning
+pub mod Examples

@@ -1,6 +1,7 @@
 use Rattle.std.proofs.Common.{◌≡◌, Some, None, [], ◌∷◌, ◌∙◌, ap}
 use Rattle.rdx_delta.specs.Entries.{operations_in}
-use Rattle.rdx_delta.specs.Table.{operations, table_refusal}
+use Rattle.rdx_delta.specs.Operations.{operations}
+use Rattle.rdx_delta.specs.Table.{table_refusal}
 use Rattle.rdx_cli.proofs.main.Goals as goal
 
 pub unreachable-requires : goal.unreachable-requires

@@ -1,9 +1,7 @@
 -- The places of shortcuts by their new arrows.
 use Rattle.std.specs.Prelude.{ℕ, List, [], ◌∷◌, Option, Some, None, nat_lt, if◌then◌else◌}
-use Rattle.std.specs.BTreeMap.{BTreeMap, get_by}
+use Rattle.std.specs.BTreeMap.{BTreeMap}
 use Rattle.std.specs.Borrow.{Bor}
-use Rattle.std.specs.Cmp.Lexicographic.{slice_cmp}
-use Rattle.std.specs.Ordering.{nat_cmp}
 use Rattle.rdx_sexp.specs.Sexp.{Sexp}
 use Rattle.rdx_lang.specs.Model.Places as places
 use Rattle.rdx_grammar.specs.Kinds.{is_among}
@@ -14,13 +12,9 @@ use Rattle.rdx_defs.specs.Shorthand.{Shortcut}
 abbrev pub place_from : ℕ → List ℕ → List Shortcut → Option ℕ
 place_from = places.place_from (λ (s : Shortcut). text_of s.new)
 
--- the place that a map has at a text
-abbrev pub place_in : BTreeMap (Bor (List ℕ)) ℕ → List ℕ → Option ℕ
-place_in m x = get_by (λ k. slice_cmp nat_cmp x k.now) m
-
 -- each new arrow of these is found with its place, and no other text
 abbrev pub FindsPlaces : BTreeMap (Bor (List ℕ)) ℕ → ℕ → List Shortcut → Type 0
-FindsPlaces m = places.FindsPlaces (λ (s : Shortcut). text_of s.new) (place_in m)
+FindsPlaces m = places.FindsPlaces (λ (s : Shortcut). text_of s.new) (places.place_in m)
 
 -- the place, if it is below the limit
 abbrev pub below : ℕ → Option ℕ → Option ℕ

@@ -5,7 +5,6 @@ ghost use Rattle.rdx_term.specs.Spelling.{is_name};
 ghost use Rattle.rdx_lang.specs.Checked.{language_in, pattern_in};
 ghost use Rattle.rdx_lang.specs.PatternView.{items_of, slot_of};
 ghost use Rattle.rdx_lang.specs.ProgramView.{judgement_of, judgement_rule_of, judgement_rules_of};
-ghost use Rattle.rdx_lang.specs.WellFormed.{is_well_formed_in};
 ghost use Rattle.rdx_grammar.specs.Parts.{text_of};
 ghost use Rattle.rdx_defs.specs.ExtraReading.{items_reading};
 ghost use Rattle.rdx_defs.specs.Inside.Branches as inside;
@@ -26,7 +25,7 @@ use crate::judgements::forms::{
 };
 use crate::stands::checks::label;
 use crate::stands::names::{input_names, rule_names};
-use crate::stands::readings::{checked, read_extras, read_patterns, read_templates};
+use crate::stands::readings::{read_extras, read_patterns, read_templates};
 use rdx_grammar::{Names, Position, readings, symbol_name};
 use rdx_lang::{CheckedLang, CheckedPat, Item, JRule, Judgement, Pat};
 use rdx_sexp::Datum;
@@ -137,7 +136,7 @@ fn read_contract(
         return Ok(None);
     };
     let pattern = Pat::Seq(closed_patterns(alloc, names, contract.arguments)?);
-    Ok(Some(checked(alloc, language, pattern)?))
+    Ok(Some(CheckedPat::known(language, pattern)))
 }
 
 /// The judgement of this name and this mode that a form with these parts stands for.

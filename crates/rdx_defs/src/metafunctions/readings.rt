@@ -15,7 +15,7 @@ ghost use Rattle.rdx_defs.specs.Scope.{scope_of};
 use crate::Scope;
 use crate::branches::{Branch, Outline};
 use crate::metafunctions::forms::{ContractForm, MetafunctionForm};
-use crate::stands::readings::{checked, read_branch};
+use crate::stands::readings::read_branch;
 use rdx_grammar::{Names, Position, readings, symbol_name};
 use rdx_lang::{CheckedLang, CheckedPat, Clause, Item, Metafunction, Pat};
 use rdx_sexp::Datum;
@@ -108,8 +108,8 @@ fn read_contract(
     let value = readings::read_datum(alloc, names, Position::Query, contract.value)?;
     let value = Pat::Closed(Box::new(alloc, value)?);
     Ok((
-        checked(alloc, language, arguments)?,
-        checked(alloc, language, value)?,
+        CheckedPat::known(language, arguments),
+        CheckedPat::known(language, value),
     ))
 }
 

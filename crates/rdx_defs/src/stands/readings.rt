@@ -1,10 +1,9 @@
 // The patterns and the extras of cases and clauses.
-ghost use Rattle.std.specs.Prelude.{◌≡◌, ◌++◌, ◌∷◌, [], IfOk, IsSome, IsTrue, Some, map};
+ghost use Rattle.std.specs.Prelude.{◌≡◌, ◌++◌, ◌∷◌, [], IfOk, IsSome, Some, map};
 ghost use Rattle.rdx_lang.specs.Checked.{language_in, pattern_in};
 ghost use Rattle.rdx_lang.specs.PatternView.{items_of, just, pattern_of, slot_of};
 ghost use Rattle.rdx_lang.specs.ProgramView.{extras_of, premise_of};
 ghost use Rattle.rdx_lang.specs.TemplateView.{template_of};
-ghost use Rattle.rdx_lang.specs.WellFormed.{is_well_formed_in};
 ghost use Rattle.rdx_grammar.specs.Reading.{reading};
 ghost use Rattle.rdx_grammar.specs.declared.patterns.position.Position.TheVariants as positions;
 ghost use Rattle.rdx_defs.specs.Arguments.{data_at, patterns_in, templates_in};
@@ -46,21 +45,6 @@ fn takes_pattern(alloc: Global, names: &Names, takes: Takes<'_>) -> Result<Pat, 
     }
 }
 
-/// The pattern, which is well formed in the language.
-pub(crate) fn checked(
-    alloc: Global,
-    language: &CheckedLang,
-    pattern: Pat,
-) -> Result<CheckedPat, NoMemory>
-    requires { IsTrue (is_well_formed_in (language_in language.now) (pattern_of pattern)) }
-    ensures { IfOk result (λ c. pattern_in c ≡ pattern_of pattern) }
-{
-    match CheckedPat::new(alloc, language, pattern)? {
-        Some(pattern) => Ok(pattern),
-        None => unreachable!(),
-    }
-}
-
 /// The pattern of what is taken, over a language with these nonterminals.
 pub(crate) fn read_takes(
     alloc: Global,
@@ -72,7 +56,7 @@ pub(crate) fn read_takes(
     ensures { IfOk result (λ c. pattern_in c ≡ taken_reading names.now (takes_of takes.entry)) }
 {
     let pattern = takes_pattern(alloc, names, takes)?;
-    checked(alloc, language, pattern)
+    Ok(CheckedPat::known(language, pattern))
 }
 
 // Adds an item for an argument, if it is a pattern.
@@ -129,7 +113,7 @@ pub(crate) fn read_patterns(
         pattern_in c ≡ list_reading names.now (patterns_in (arguments_of arguments.entry))) }
 {
     let pattern = Pat::Seq(read_items(alloc, names, arguments)?);
-    checked(alloc, language, pattern)
+    Ok(CheckedPat::known(language, pattern))
 }
 
 /// The templates among arguments, where these names are bound.

@@ -4,7 +4,7 @@ ghost use Rattle.rdx_sexp.specs.Sexp.{sexps};
 ghost use Rattle.rdx_defs.specs.HostHeads as model;
 ghost use Rattle.rdx_defs.specs.Inside.HeadViews.{host_head_view};
 
-use crate::operations::{operation_named, takes};
+use rdx_delta::{operation_named, takes};
 use rdx_lang::HostOp;
 use rdx_sexp::{Datum, Form};
 

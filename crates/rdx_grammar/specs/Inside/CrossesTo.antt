@@ -1,5 +1,5 @@
 -- Cross nonterminals to several ends, each end once.
-use Rattle.std.specs.Prelude.{ℕ, List, [], ◌∷◌, ◌++◌, bytes_eq, take, if◌then◌else◌}
+use Rattle.std.specs.Prelude.{ℕ, List, [], ◌∷◌, ◌++◌, bytes_eq, if◌then◌else◌}
 use Rattle.std.specs.List.{list_any}
 use Rattle.rdx_lang.specs.Crosses.{new_crosses}
 use Rattle.rdx_lang.specs.Patterns.{Definition, Language}
@@ -16,7 +16,3 @@ crosses_after ds seen (y ∷ ys) = (if list_any (bytes_eq y) seen then [] else n
 -- the language with these definitions behind its own
 abbrev pub with_definitions : Language → List Definition → Language
 with_definitions L ds = record L { nonterminals = L.nonterminals ++ ds }
-
--- the language with so many of its definitions alone, the first ones
-abbrev pub first_definitions : ℕ → Language → Language
-first_definitions n L = record L { nonterminals = take n L.nonterminals }

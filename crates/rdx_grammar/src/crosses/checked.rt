@@ -4,10 +4,9 @@ ghost use Rattle.rdx_lang.specs.Checked.{language_in, pattern_in};
 ghost use Rattle.rdx_lang.specs.Crosses as model;
 ghost use Rattle.rdx_lang.specs.Edges.{IsFree};
 ghost use Rattle.rdx_lang.specs.PatternView.{definition_of, pattern_of};
-ghost use Rattle.rdx_lang.specs.Ranks.{AreRanks};
 ghost use Rattle.rdx_lang.specs.WellFormed.{is_well_formed_in, IsWellFormed};
 ghost use Rattle.rdx_grammar.specs.Ends.{crossed_for};
-ghost use Rattle.rdx_grammar.specs.Inside.CrossesTo.{with_definitions, first_definitions};
+ghost use Rattle.rdx_grammar.specs.Inside.CrossesTo.{with_definitions};
 
 use crate::crosses::adding::new_crosses;
 use crate::patterns::{Names, known_ends};
@@ -25,13 +24,13 @@ fn without_nonterminals(alloc: Global, name: Name) -> CheckedLang {
     CheckedLang::new(Language { name, nts }, Ranks { of })
 }
 
-// The language with these definitions behind its own and with ranks for all, and the ranks that it
-// had. Where there is no memory, it is the one that was given.
+// The language with these definitions behind its own and with ranks for all. Where there is no
+// memory, it is the one that was given.
 fn with_added(
     alloc: Global,
     language: CheckedLang,
     mut added: Vec<(Ref, Vec<Pat>)>,
-) -> (CheckedLang, Result<Ranks, NoMemory>)
+) -> (CheckedLang, Result<(), NoMemory>)
     requires well_formed { IsWellFormed
         (with_definitions (language_in language) (map definition_of added.items)) }
     requires free { IsFree
@@ -39,8 +38,6 @@ fn with_added(
     ensures added { OnOk result.1 (language_in result.0
         ≡ with_definitions (language_in language) (map definition_of added.items)) }
     ensures same { OnErr result.1 (language_in result.0 ≡ language_in language) }
-    ensures well_formed { IsWellFormed (language_in language) }
-    ensures ranked { IfOk result.1 (λ ranks. AreRanks (language_in language) ranks.of.items) }
 {
     let (mut whole, ranks) = language.into_parts();
     let count = whole.nts.len();
@@ -48,7 +45,7 @@ fn with_added(
         return (CheckedLang::new(whole, ranks), Err(NoMemory));
     }
     match rdx_leftrec::check(alloc, &whole) {
-        Ok(new) => (CheckedLang::new(whole, new), Ok(ranks)),
+        Ok(new) => (CheckedLang::new(whole, new), Ok(())),
         Err(LeftRec::NoMemory) => {
             whole.nts.truncate(count);
             (CheckedLang::new(whole, ranks), Err(NoMemory))
@@ -70,6 +67,9 @@ pub fn add_crosses_of(
 {
     ranks_fall();
     crosses_stay();
+    if ends.is_empty() {
+        return Ok(());
+    }
     let added = new_crosses(alloc, language.language(), ends)?;
     if added.is_empty() {
         return Ok(());
@@ -78,66 +78,11 @@ pub fn add_crosses_of(
     let old = mem::replace(language, nothing);
     let (new, result) = with_added(alloc, old, added);
     *language = new;
-    result?;
-    Ok(())
+    result
 }
 
-// The pattern, checked in the language.
-fn checked(alloc: Global, language: &CheckedLang, pat: Pat) -> Result<CheckedPat, NoMemory>
-    requires { IsTrue (is_well_formed_in (language_in language.now) (pattern_of pat)) }
-    ensures { IfOk result (λ c. pattern_in c ≡ pattern_of pat) }
-{
-    match CheckedPat::new(alloc, language, pat)? {
-        Some(pat) => Ok(pat),
-        None => unreachable!(),
-    }
-}
-
-// The language without the definitions behind the first ones, with these ranks.
-fn cut(language: CheckedLang, count: usize, ranks: Ranks) -> CheckedLang
-    requires well_formed { IsWellFormed (first_definitions count (language_in language)) }
-    requires ranked { AreRanks (first_definitions count (language_in language)) ranks.of.items }
-    ensures { language_in result ≡ first_definitions count (language_in language) }
-{
-    let (mut whole, _) = language.into_parts();
-    whole.nts.truncate(count);
-    CheckedLang::new(whole, ranks)
-}
-
-// The language with these definitions behind its own and with ranks for all, and the pattern,
-// checked in it. Where there is no memory, the language is the one that was given.
-fn with_checked(
-    alloc: Global,
-    language: CheckedLang,
-    added: Vec<(Ref, Vec<Pat>)>,
-    pat: Pat,
-) -> (CheckedLang, Result<CheckedPat, NoMemory>)
-    requires well_formed { IsWellFormed
-        (with_definitions (language_in language) (map definition_of added.items)) }
-    requires free { IsFree
-        (with_definitions (language_in language) (map definition_of added.items)) }
-    requires fits { IsTrue (is_well_formed_in
-        (with_definitions (language_in language) (map definition_of added.items))
-        (pattern_of pat)) }
-    ensures added { OnOk result.1 (language_in result.0
-        ≡ with_definitions (language_in language) (map definition_of added.items)) }
-    ensures same { OnErr result.1 (language_in result.0 ≡ language_in language) }
-    ensures pattern { IfOk result.1 (λ c. pattern_in c ≡ pattern_of pat) }
-{
-    let count = language.language().nts.len();
-    let (whole, ranks) = with_added(alloc, language, added);
-    let ranks = match ranks {
-        Ok(ranks) => ranks,
-        Err(NoMemory) => return (whole, Err(NoMemory)),
-    };
-    match checked(alloc, &whole, pat) {
-        Ok(pat) => (whole, Ok(pat)),
-        Err(NoMemory) => (cut(whole, count, ranks), Err(NoMemory)),
-    }
-}
-
-/// Gives the language all cross nonterminals to each of these, and checks the pattern in it. Where
-/// there is no memory, the language stays.
+/// Gives the language all cross nonterminals to each of these; the pattern is well formed in it then.
+/// Where there is no memory, the language stays.
 pub(crate) fn check_with_crosses(
     alloc: Global,
     language: &mut CheckedLang,
@@ -151,20 +96,8 @@ pub(crate) fn check_with_crosses(
     ensures same { OnErr result (language_in language.new ≡ language_in language.old) }
     ensures pattern { IfOk result (λ c. pattern_in c ≡ pattern_of pat) }
 {
-    ranks_fall();
-    crosses_stay();
-    if ends.is_empty() {
-        return checked(alloc, language, pat);
-    }
-    let added = new_crosses(alloc, language.language(), ends)?;
-    if added.is_empty() {
-        return checked(alloc, language, pat);
-    }
-    let nothing = without_nonterminals(alloc, language.language().name.share()?);
-    let old = mem::replace(language, nothing);
-    let (new, result) = with_checked(alloc, old, added, pat);
-    *language = new;
-    result
+    add_crosses_of(alloc, language, ends)?;
+    Ok(CheckedPat::known(language, pat))
 }
 
 // The one name once more.

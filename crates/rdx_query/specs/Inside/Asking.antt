@@ -22,7 +22,7 @@ use Rattle.rdx_grammar.specs.declared.shape.fault.DefFault.{DefFault}
 use Rattle.rdx_query.specs.HoldsForms.{HoldsParts, holds_parts, lone_parts, holds_refusal, holds_query, holds_test_query}
 use Rattle.rdx_query.specs.Known.{Known}
 use Rattle.rdx_query.specs.MatchForms.{QueryParts, query_parts, query_refusal, match_query}
-use Rattle.rdx_query.specs.Queries.{Query, holds, test_equal, test_holds}
+use Rattle.rdx_answer.specs.Queries.{Query, holds, test_equal, test_holds}
 use Rattle.rdx_query.specs.StepForms.{StepParts, step_parts, steps_refusal, steps_query}
 use Rattle.rdx_query.specs.TestForms.{EqualParts, LeadingParts, equal_parts, leading_parts, equal_refusal, leading_refusal, equal_query, leading_query}
 use Rattle.rdx_query.specs.Inside.Earlier.{earlier, IsFaultAt}

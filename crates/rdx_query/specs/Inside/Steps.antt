@@ -5,10 +5,10 @@ use Rattle.rdx_grammar.specs.declared.shape.fault.DefFault.{DefFault}
 use Rattle.rdx_query.specs.Definitions.{Defined}
 use Rattle.rdx_query.specs.File.{Defines, Asks, IsPassedOver}
 use Rattle.rdx_query.specs.Known.{Known, with_definition}
-use Rattle.rdx_query.specs.Queries.{Query}
-use Rattle.rdx_query.specs.Views.{query_of}
+use Rattle.rdx_answer.specs.Queries.{Query}
+use Rattle.rdx_answer.specs.Views.{query_of}
 use Rattle.rdx_query.specs.Inside.Defining.{IsFormFault}
-use Rattle.rdx_query.specs.declared.file.Query as code_query
+use Rattle.rdx_answer.specs.declared.queries.Query as code_query
 
 -- behind K and the queries qs the form is accepted, and J and rs are those with what it adds
 pub data Step (K : Known) (qs : List Query) (d : Sexp) (J : Known) (rs : List Query) : Type 0 where

@@ -1,3 +1,4 @@
+use Rattle.rdx_cli.proofs.WordExamples as words
 use Rattle.rdx_cli.proofs.WorkedExamples as examples
 use Rattle.rdx_cli.proofs.laws.worked_examples.Goals as goal
 
@@ -12,3 +13,30 @@ returns-clause-form_is_refused c = examples.form_is_refused
 
 pub returns-clause-bracket_is_refused : goal.returns-clause-bracket_is_refused
 returns-clause-bracket_is_refused c = examples.bracket_is_refused c.worked_examples.ensures.wrong_bracket
+
+pub returns-clause-no_text_is_refused : goal.returns-clause-no_text_is_refused
+returns-clause-no_text_is_refused c = examples.no_text_is_refused c.worked_examples.ensures.no_text
+
+pub returns-clause-long_file_is_refused : goal.returns-clause-long_file_is_refused
+returns-clause-long_file_is_refused c bytes h = examples.long_file_is_refused bytes h
+
+pub returns-clause-step_alone : goal.returns-clause-step_alone
+returns-clause-step_alone c = words.step_alone
+
+pub returns-clause-most_tests : goal.returns-clause-most_tests
+returns-clause-most_tests c = words.most_tests
+
+pub returns-clause-no_words : goal.returns-clause-no_words
+returns-clause-no_words c = words.no_words
+
+pub returns-clause-words_behind_run : goal.returns-clause-words_behind_run
+returns-clause-words_behind_run c = words.words_behind_run
+
+pub returns-clause-zero_in_front : goal.returns-clause-zero_in_front
+returns-clause-zero_in_front c = words.zero_in_front
+
+pub returns-clause-no_tests : goal.returns-clause-no_tests
+returns-clause-no_tests c = words.no_tests
+
+pub returns-clause-too_many_tests : goal.returns-clause-too_many_tests
+returns-clause-too_many_tests c = words.too_many_tests

@@ -1,9 +1,10 @@
 use Rattle.std.proofs.Common.{◌∙◌, List, sym, subst}
 use Rattle.rdx_grammar.specs.Refusal.{refusal_of}
-use Rattle.rdx_query.specs.Answering.{AreAnswers}
+use Rattle.rdx_answer.specs.Answering.{AreAnswers}
 use Rattle.rdx_query.specs.File.{IsFile, IsFileRefusal}
-use Rattle.rdx_query.specs.Tests.{no_tests}
-use Rattle.rdx_query.specs.Views.{IsFileFault, choices_of, program_in, queries_of}
+use Rattle.rdx_answer.specs.Tests.{no_tests}
+use Rattle.rdx_answer.specs.Views.{choices_of, program_in, queries_of}
+use Rattle.rdx_query.specs.Views.{IsFileFault}
 use Rattle.rdx_sexp.specs.Sexp.{Sexp}
 use Rattle.rdx_cli.specs.Inside.Contents.{AreContents}
 use Rattle.rdx_cli.specs.Transcript.{IsUnread, unread, refused, answered}

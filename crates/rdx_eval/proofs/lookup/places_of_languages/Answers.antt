@@ -2,10 +2,10 @@ use Rattle.std.proofs.Common.{arith, ◌≡◌, ◌∙◌, ◌+◌, ◌-◌, ◌
 use Rattle.std.proofs.lemmas.Grind.{common_steps}
 use Rattle.std.proofs.lemmas.Map.Text.{btree_map_updates_str}
 use Rattle.rdx_lang.specs.Checked.{language_in}
-use Rattle.rdx_lang.specs.Model.Places.{FindsPlaces}
+use Rattle.rdx_lang.specs.Model.Places.{FindsPlaces, place_in}
 use Rattle.rdx_lang.proofs.FirstPlaces.{places-next}
 use Rattle.rdx_lang.proofs.Rest.{rest_at}
-use Rattle.rdx_eval.specs.Model.Places.{name_of_language, place_in}
+use Rattle.rdx_eval.specs.Model.Places.{name_of_language}
 use Rattle.rdx_eval.proofs.lookup.places_of_languages.Goals as goal
 
 pub loop-place-preserved : goal.loop-place-preserved

@@ -1,7 +1,7 @@
 use Rattle.std.proofs.Common.{drop, map}
 use Rattle.rdx_lang.specs.ProgramView.{metafunction_of}
-use Rattle.rdx_lang.specs.Model.Places.{FindsPlaces}
-use Rattle.rdx_eval.specs.Model.Places.{name_of_function, place_in}
+use Rattle.rdx_lang.specs.Model.Places.{FindsPlaces, place_in}
+use Rattle.rdx_eval.specs.Model.Places.{name_of_function}
 use Rattle.rdx_eval.proofs.lookup.places_of_metafunctions.Given as goal
 
 abbrev pub invariant-loop-place : goal.invariant-loop-place

@@ -6,7 +6,7 @@ use Rattle.rdx_query.specs.File.{known_before}
 use Rattle.rdx_query.specs.Inside.Fitting.{IsFitting}
 use Rattle.rdx_query.specs.Inside.KnownView.{known_of}
 use Rattle.rdx_query.specs.Known.{Known}
-use Rattle.rdx_query.specs.Views.{query_of}
+use Rattle.rdx_answer.specs.Views.{query_of}
 use Rattle.rdx_query.proofs.FileRead.{SoFar, so_far-start, so_far-next, so_far-fault, so_far-end, file-named, form-readable, form-ends-among}
 use Rattle.rdx_query.proofs.FittingKnown.{fitting-nothing}
 use Rattle.rdx_query.proofs.file.check_file.Goals as goal

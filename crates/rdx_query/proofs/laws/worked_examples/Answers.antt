@@ -1,5 +1,4 @@
 use Rattle.rdx_query.proofs.Examples.{answers_in_order, whole_answer, inherited, one_split, filled_term, fault_answered, one_reduct_two_steps, premise_met, outputs_listed, first_refused_form, earlier_languages_only, taken_name, host_expression, other_form, sum, wanted, other_module, known_before, few_items, left_recursion}
-use Rattle.rdx_query.proofs.PrintedExamples.{own_hole, one_hole, no_own_hole, nested_sequences, own_hole_in_sequence, length_in_decimal}
 use Rattle.rdx_query.proofs.laws.worked_examples.Goals as goal
 
 pub returns-clause-answers_in_order : goal.returns-clause-answers_in_order
@@ -19,24 +18,6 @@ returns-clause-premise_met c = premise_met
 
 pub returns-clause-outputs_listed : goal.returns-clause-outputs_listed
 returns-clause-outputs_listed c = outputs_listed
-
-pub returns-clause-own_hole : goal.returns-clause-own_hole
-returns-clause-own_hole c = own_hole
-
-pub returns-clause-one_hole : goal.returns-clause-one_hole
-returns-clause-one_hole c = one_hole
-
-pub returns-clause-no_own_hole : goal.returns-clause-no_own_hole
-returns-clause-no_own_hole c = no_own_hole
-
-pub returns-clause-nested_sequences : goal.returns-clause-nested_sequences
-returns-clause-nested_sequences c = nested_sequences
-
-pub returns-clause-own_hole_in_sequence : goal.returns-clause-own_hole_in_sequence
-returns-clause-own_hole_in_sequence c = own_hole_in_sequence
-
-pub returns-clause-length_in_decimal : goal.returns-clause-length_in_decimal
-returns-clause-length_in_decimal c = length_in_decimal
 
 pub returns-clause-first_refused_form : goal.returns-clause-first_refused_form
 returns-clause-first_refused_form c = first_refused_form

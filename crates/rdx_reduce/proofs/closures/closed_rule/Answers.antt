@@ -9,8 +9,8 @@ use Rattle.rdx_lang.specs.WellFormed.{is_well_formed_in}
 use Rattle.rdx_lang.proofs.ClosedRules.{rule_in_context-well_formed}
 use Rattle.rdx_reduce.proofs.closures.closed_rule.Goals as goal
 
-pub checked-requires : goal.checked-requires
-checked-requires c =
+pub known-requires : goal.known-requires
+known-requires c =
     let L : Language = language_in c.args.language.now in
     let p : Pattern = pattern_in c.args.by.now in
     let r : Rule = rule_of c.args.rule.now in

@@ -2,10 +2,11 @@ use Rattle.std.proofs.Common.{◌≡◌, ◌∙◌, ◌+◌, ◌-◌, ◌<◌, �
 use Rattle.std.proofs.lemmas.Grind.{common_steps}
 use Rattle.std.proofs.lemmas.Map.Text.{btree_map_updates_str}
 use Rattle.std.specs.Prelude.{Some}
+use Rattle.rdx_lang.specs.Model.Places.{place_in}
 use Rattle.rdx_lang.proofs.FirstPlaces.{places-next}
 use Rattle.rdx_lang.proofs.Rest.{rest_at}
 use Rattle.rdx_grammar.specs.Parts.{text_of}
-use Rattle.rdx_defs.specs.Inside.Arrows.{FindsPlaces, place_in}
+use Rattle.rdx_defs.specs.Inside.Arrows.{FindsPlaces}
 use Rattle.rdx_defs.specs.Inside.ShortcutViews.{shortcut_of, shortcuts_in}
 use Rattle.rdx_defs.specs.Shorthand.{Shortcut}
 use Rattle.rdx_defs.proofs.shorthand.arrows.Arrows.new.Goals as goal

@@ -1,0 +1,6 @@
+-- What only clauses inside the crate cite.
+pub mod Appending
+pub mod Counting
+pub mod Comparing
+pub mod Contexts
+pub mod Whether

@@ -1,0 +1,13 @@
+pub mod Queries
+pub mod AnswerText
+pub mod MatchAnswers
+pub mod HoldsAnswers
+pub mod StepAnswers
+pub mod StepperAnswers
+pub mod Tests
+pub mod TestAnswers
+pub mod Answering
+pub mod Workload
+pub mod Examples
+pub mod Views
+pub mod Inside

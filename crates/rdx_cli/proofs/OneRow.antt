@@ -1,0 +1,39 @@
+-- Words are one row of the table.
+use Rattle.std.proofs.Common.{◌≡◌, ℕ, ◌<◌, List, [], ◌∷◌, map, decimal, refl, ap, arith}
+use Rattle.std.proofs.lemmas.Fmt.{decimal_injective}
+use Rattle.rdx_cli.specs.Words.{Row, run, step, workload, AreSmall, ReadsAs}
+
+-- numbers of nine digits at most are fixed by their decimals
+same_numbers : (ns ms : List ℕ) → AreSmall ns → AreSmall ms → map decimal ns ≡ map decimal ms → ns ≡ ms
+same_numbers [] [] a b e = refl
+same_numbers [] (m ∷ ms) a b e = absurd cc
+same_numbers (n ∷ ns) [] a b e = absurd cc
+same_numbers (n ∷ ns) (m ∷ ms) a b e =
+    let small : n < 1_000_000_000 = a.0 in
+    let other : m < 1_000_000_000 = b.0 in
+    let words : decimal n ≡ decimal m = cc in
+    let behind : map decimal ns ≡ map decimal ms = cc in
+    let first : n ≡ m = decimal_injective n m (omega arith) (omega arith) words in
+    let rest : ns ≡ ms = same_numbers ns ms a.1 b.1 behind in
+    cc
+
+pub one_row : (words : List (List ℕ)) (row other : Row) → ReadsAs words row → ReadsAs words other → row ≡ other
+one_row words run run a b = refl
+one_row words run (step ds) a b = let e = b.words_are in absurd cc
+one_row words run (workload m) a b = let e = b.words_are in absurd cc
+one_row words (step cs) run a b = let e = a.words_are in absurd cc
+one_row words (step cs) (step ds) a b =
+    let e = a.words_are in
+    let g = b.words_are in
+    let same : map decimal cs ≡ map decimal ds = cc in
+    ap step (same_numbers cs ds a.small b.small same)
+one_row words (step cs) (workload m) a b = let e = a.words_are in let g = b.words_are in absurd cc
+one_row words (workload n) run a b = let e = a.words_are in absurd cc
+one_row words (workload n) (step ds) a b = let e = a.words_are in let g = b.words_are in absurd cc
+one_row words (workload n) (workload m) a b =
+    let e = a.words_are in
+    let g = b.words_are in
+    let h = a.few in
+    let k = b.few in
+    let same : decimal n ≡ decimal m = cc in
+    ap workload (decimal_injective n m (omega arith) (omega arith) same)

@@ -1,0 +1,71 @@
+-- The worked examples of words.
+use Rattle.std.proofs.Common.{◌≡◌, ℕ, zero, suc, ◌<◌, ◌≤◌, List, [], ◌∷◌, ◌++◌, get_or, codes, decimal, refl, ap, sym, ◌∙◌, subst, arith}
+use Rattle.std.proofs.lemmas.Fmt.{decimal_digit, decimal_step, decimal_injective, first_decimal}
+use Rattle.rdx_cli.specs.Examples.{StepAlone, MostTests, NoWords, WordsBehindRun, ZeroInFront, NoTests, TooManyTests}
+use Rattle.rdx_cli.specs.Words.{run, step, workload, FitsNoRow}
+
+-- ---- decimals
+
+twenty : decimal 20 ≡ codes "20"
+twenty = decimal_step 20 (omega arith) (omega arith) ∙ ap (λ (l : List ℕ). l ++ codes "0") (decimal_digit 2 (omega arith))
+
+two_hundred : decimal 200 ≡ codes "200"
+two_hundred = decimal_step 200 (omega arith) (omega arith) ∙ ap (λ (l : List ℕ). l ++ codes "0") twenty
+
+two_thousand : decimal 2000 ≡ codes "2000"
+two_thousand = decimal_step 2000 (omega arith) (omega arith) ∙ ap (λ (l : List ℕ). l ++ codes "0") two_hundred
+
+one_more : decimal 2001 ≡ codes "2001"
+one_more = decimal_step 2001 (omega arith) (omega arith) ∙ ap (λ (l : List ℕ). l ++ codes "1") two_hundred
+
+-- ---- rows
+
+pub step_alone : StepAlone
+step_alone = record { words_are = refl; small = tt }
+
+pub most_tests : MostTests
+most_tests = record { words_are = ap (λ (l : List ℕ). codes "workload" ∷ l ∷ []) (sym two_thousand); some = omega arith; few = omega arith }
+
+-- ---- no rows
+
+pub no_words : NoWords
+no_words run h = absurd cc
+no_words (step cs) h = let e = h.words_are in absurd cc
+no_words (workload n) h = let e = h.words_are in absurd cc
+
+pub words_behind_run : WordsBehindRun
+words_behind_run run h = absurd cc
+words_behind_run (step cs) h = let e = h.words_are in absurd cc
+words_behind_run (workload n) h = let e = h.words_are in absurd cc
+
+-- no number is written with a zero in front
+zero_one : (n : ℕ) → n < 1_000_000_000 → decimal n ≡ codes "01" → ⊥
+zero_one zero small e = let zero_is = decimal_digit 0 (omega arith) in absurd cc
+zero_one (suc n) small e =
+    let above : 48 < get_or (decimal (suc n)) 0 0 = first_decimal (suc n) (omega arith) (omega arith) in
+    let below : 48 < 48 = subst (λ (ds : List ℕ). 48 < get_or ds 0 0) e above in
+    omega arith
+
+pub zero_in_front : ZeroInFront
+zero_in_front run h = absurd cc
+zero_in_front (step []) h = let e = h.words_are in absurd cc
+zero_in_front (step (n ∷ cs)) h = let e = h.words_are in let s = h.small.0 in zero_one n s cc
+zero_in_front (workload n) h = let e = h.words_are in absurd cc
+
+-- `workload` and a number below 1 or above 2,000 are no row
+not_tests : (word : List ℕ) (m : ℕ) → decimal m ≡ word → m < 1_000_000_000 → (1 ≤ m → m ≤ 2000 → ⊥) → FitsNoRow (codes "workload" ∷ word ∷ [])
+not_tests word m d small out run h = absurd cc
+not_tests word m d small out (step cs) h = let e = h.words_are in absurd cc
+not_tests word m d small out (workload n) h =
+    let e = h.words_are in
+    let some = h.some in
+    let few = h.few in
+    let same : decimal m ≡ decimal n = cc in
+    let number : m ≡ n = decimal_injective m n (omega arith) (omega arith) same in
+    out (omega arith) (omega arith)
+
+pub no_tests : NoTests
+no_tests = not_tests (codes "0") 0 (decimal_digit 0 (omega arith)) (omega arith) (λ some few. omega arith)
+
+pub too_many_tests : TooManyTests
+too_many_tests = not_tests (codes "2001") 2001 one_more (omega arith) (λ some few. omega arith)

@@ -1,0 +1,404 @@
+-- What an accepted form of a file asks is valid.
+use Rattle.std.proofs.Common.{◌≡◌, ◌∙◌, ℕ, Bool, true, false, List, [], ◌∷◌, Option, Some, None, map, refl, sym, ap, subst, if◌then◌else◌}
+use Rattle.std.specs.List.{list_all}
+use Rattle.std.specs.Prelude.{◌&&◌, is_some, option_map}
+use Rattle.rdx_sexp.specs.Sexp.{Sexp}
+use Rattle.rdx_lang.specs.Depths.{uses}
+use Rattle.rdx_lang.specs.Fitting.{fits}
+use Rattle.rdx_lang.specs.Modes.{Callable, fits_mode}
+use Rattle.rdx_lang.specs.Patterns.{Pattern, Language}
+use Rattle.rdx_lang.specs.Programs.{Mode, Premise, holds as held, language_named, relation_named}
+use Rattle.rdx_lang.specs.Scopes.{bound_by}
+use Rattle.rdx_lang.specs.Templates.{Host, Template}
+use Rattle.rdx_lang.specs.Valid.{is_valid_extra}
+use Rattle.rdx_grammar.proofs.Booleans.{and_both, and_true}
+use Rattle.rdx_grammar.proofs.Firsts.{none_or}
+use Rattle.rdx_grammar.proofs.KnownReadings.{pattern_well_formed}
+use Rattle.rdx_grammar.specs.Ends.{ends_in, crossed_for}
+use Rattle.rdx_grammar.specs.Inside.Among.{AreAmong}
+use Rattle.rdx_grammar.specs.Nonterminals.{names_of}
+use Rattle.rdx_grammar.specs.Occurrences.{occurrences}
+use Rattle.rdx_grammar.specs.Parts.{parts, text_of, is_symbol}
+use Rattle.rdx_grammar.specs.PatternRefusal.{keyword_at, bad_binder_at, bad_occurrence_at, depth_clash_at, escape_at, pattern_refusal}
+use Rattle.rdx_grammar.specs.Readable.{IsReadable}
+use Rattle.rdx_grammar.specs.Reading.{reading}
+use Rattle.rdx_grammar.specs.Refusal.{unnamed, named, or_else}
+use Rattle.rdx_grammar.specs.Unbuilt.{unbuilt_at}
+use Rattle.rdx_grammar.specs.declared.patterns.position.Position.TheVariants as position
+use Rattle.rdx_grammar.specs.declared.shape.fault.DefKind.TheVariants.{Shape, BadPattern, EllipsisDepth, EllipsisVariable}
+use Rattle.rdx_defs.specs.Earliest.{start, earliest}
+use Rattle.rdx_defs.specs.ExtraReading.{premise_reading}
+use Rattle.rdx_defs.specs.Headed.{Headed, headed}
+use Rattle.rdx_defs.specs.Inside.PartsHave.{IsReadableIn}
+use Rattle.rdx_defs.specs.JudgementRefusal.{lone_premise_stands, premise_refusal}
+use Rattle.rdx_defs.specs.Scope.{mode_of, callable, has_metafunction}
+use Rattle.rdx_defs.specs.StandChecks.{shape_at}
+use Rattle.rdx_defs.specs.StandRefusal.{stands_refusal}
+use Rattle.rdx_defs.specs.Stands.{names_bound, bound_by_premise}
+use Rattle.rdx_defs.specs.TemplateChecks.{bad_parts, shallow_parts, undriven_parts}
+use Rattle.rdx_defs.specs.TemplateOccurrences.{host_parts}
+use Rattle.rdx_defs.specs.TemplateReading.{template_reading}
+use Rattle.rdx_defs.specs.TemplateShapes.{host_shapes}
+use Rattle.rdx_defs.proofs.EarliestPlaces.{earliest-none}
+use Rattle.rdx_defs.proofs.PassedForms.{question-valid}
+use Rattle.rdx_defs.proofs.PassedStands.{host-uses}
+use Rattle.rdx_query.specs.File.{Asks}
+use Rattle.rdx_query.specs.FormKinds as kind
+use Rattle.rdx_query.specs.FormKinds.{FormKind, defines, asks, passes, to_come, form_kind}
+use Rattle.rdx_query.specs.Forms.{refusal_by_kind, query_by_kind}
+use Rattle.rdx_query.specs.HoldsForms.{HoldsParts, holds_among, holds_parts, lone_among, lone_parts, asked_language, language_or_empty, asked_names, unfound, unfound_for, asked_unknown_at, holds_refusal, asked_premise, holds_over, holds_by, holds_test_by}
+use Rattle.rdx_query.specs.HostForms.{parts_of_host, host_of_datum, host_shape_at, bad_host_at, undriven_host_at, host_escape_at}
+use Rattle.rdx_query.specs.Inside.Fitting.{AreCrossed}
+use Rattle.rdx_query.specs.Known.{Known, judgement_language}
+use Rattle.rdx_query.specs.LanguageForms.{named_base, unknown_at}
+use Rattle.rdx_query.specs.MatchForms.{QueryParts, query_parts, checked_parts, query_shape_at, bad_query_at, query_refusal, query_over}
+use Rattle.rdx_answer.specs.Queries.{Query, matches, whether, splits, value, reducts, tagged, stepper, test_equal, test_step, test_run, test_match, test_holds, test_results}
+use Rattle.rdx_query.specs.StepForms.{StepParts, step_parts, checked_steps, steps_shape_at, unknown_relation_at, unknown_relation_by, steps_refusal}
+use Rattle.rdx_query.specs.TestForms.{EqualParts, equal_parts, LeadingParts, leading_parts, hosts_shape_at, bad_hosts_at, undriven_hosts_at, unknown_tested_at, test_refusal_over, equal_refusal, leading_refusal}
+use Rattle.rdx_query.specs.ValidQueries.{Askable, is_valid_host, is_valid_pattern, is_valid_premise, fits_behind, is_valid_query}
+use Rattle.rdx_query.proofs.AcceptedForms.{image-of}
+use Rattle.rdx_query.proofs.ClauseStands.{of_lone_premise}
+use Rattle.rdx_query.proofs.FormParts.{unbuilt_at-built, parts-built, query-items, parts-readable}
+use Rattle.rdx_query.proofs.FoundByName.{relation-found}
+use Rattle.rdx_query.proofs.GainingNothing.{parts-ask}
+use Rattle.rdx_query.proofs.HostChecks.{no_shallow}
+use Rattle.rdx_query.proofs.StandNumbers.{nameless-refusal}
+use Rattle.rdx_query.proofs.ValidDefinitions.{built, read-over, read-in}
+
+-- ---- what may be asked where a form stands
+
+-- the language of this name, where there is one
+abbrev pub named_language : Known → Option (List ℕ) → Option Language
+named_language K None = None
+named_language K (Some l) = language_named K.program l
+
+-- judgements have the languages that their forms name in the whole file
+abbrev pub askable : Known → Askable
+askable K = record {
+  callable = callable K.scope;
+  languages = language_named K.program;
+  judged = λ x. named_language K (judgement_language K x);
+  relations = λ x. is_some (relation_named K.program x);
+}
+
+-- the template behind a premise, which sees the names of this
+abbrev behind_template : Known → Headed → Sexp → Template
+behind_template K q = template_reading K.scope (names_bound (bound_by_premise K.scope (asked_names K (Some q)) (Some q)))
+
+-- ---- host expressions
+
+-- one that no check refuses fits
+host-valid : (K : Known) (d : Sexp) → bad_host_at (parts_of_host K d) ≡ None → undriven_host_at K (parts_of_host K d) ≡ None
+    → is_valid_host (callable K.scope) (host_of_datum K d) ≡ true
+host-valid K d e f =
+    let ps = host_parts K.scope [] 0 d in
+    host-uses K.scope [] [] [] d refl
+    (record {
+      places = earliest-none start (unnamed BadPattern) (bad_parts ps) e;
+      depths = no_shallow ps;
+      driving = earliest-none start (unnamed EllipsisVariable) (undriven_parts K.scope [] ps) f;
+    })
+
+-- several
+hosts-valid : (K : Known) (hs : List Sexp) → bad_hosts_at K hs ≡ None → undriven_hosts_at K hs ≡ None
+    → list_all (is_valid_host (callable K.scope)) (map (host_of_datum K) hs) ≡ true
+hosts-valid K [] e f = refl
+hosts-valid K (h ∷ hs) e f =
+    let a = none_or (bad_host_at (parts_of_host K h)) (bad_hosts_at K hs) e in
+    let b = none_or (undriven_host_at K (parts_of_host K h)) (undriven_hosts_at K hs) f in
+    and_both (is_valid_host (callable K.scope) (host_of_datum K h)) (list_all (is_valid_host (callable K.scope)) (map (host_of_datum K) hs)) (host-valid K h a.0 b.0)
+    (hosts-valid K hs a.1 b.1)
+
+-- ---- relations
+
+-- a relation that is not unknown is there
+relation-there : (K : Known) (r : Sexp) → unknown_relation_by (relation_named K.program (text_of r)) r ≡ None
+    → is_some (relation_named K.program (text_of r)) ≡ true
+relation-there K r e = ap is_some (relation-found (relation_named K.program (text_of r)) r e).is
+
+-- ---- a form
+
+module _ (K : Known) (crossed : AreCrossed K.program.languages K.ends) (paired : (x : List ℕ) → judgement_language K x ≡ None → mode_of K.scope x ≡ None)
+    (d : Sexp) (readable : IsReadable d) (asked : AreAmong (ends_in d) K.ends) where
+  abbrev A : Askable
+  A = askable K
+
+  -- and called
+  abbrev C : Callable
+  C = callable K.scope
+
+  -- ---- patterns
+
+  -- the parts of a query are checked by its pattern and its host expression
+  shape-by : (b : Bool) (q : QueryParts) → query_shape_at d (if b then Some q else None) ≡ None → keyword_at (occurrences 0 q.pattern) ≡ None
+  shape-by true q e = (none_or (keyword_at (occurrences 0 q.pattern)) (host_shape_at q.host) e).0
+  shape-by false q e = absurd cc
+
+  -- what a query matches is well formed, and its host expression fits
+  query-valid : (q : QueryParts) → query_parts d ≡ Some q → query_refusal K d (Some q) ≡ None
+      → (is_valid_pattern (language_named K.program (text_of q.language)) (reading (names_of (named_base K (Some q.language))) position.Query q.pattern)
+      && is_valid_host C (host_of_datum K q.host)) ≡ true
+  query-valid q f r =
+      let B = named_base K (Some q.language) in
+      let ns = names_of B in
+      let os = occurrences 0 q.pattern in
+      let ps = parts_of_host K q.host in
+      let p = reading ns position.Query q.pattern in
+      let a = none_or (unbuilt_at d) _ r in
+      let b = none_or (query_shape_at d (checked_parts (Some q))) _ a.1 in
+      let c = none_or (unknown_at K (Some q.language)) _ b.1 in
+      let e = none_or (bad_binder_at os) _ c.1 in
+      let g = none_or (bad_query_at ns os ps) _ e.1 in
+      let h = none_or (depth_clash_at ns os) _ g.1 in
+      let i = none_or (undriven_host_at K ps) _ h.1 in
+      let escapes = none_or (escape_at os) (host_escape_at ps) (none_or _ None i.1).0 in
+      let bad = none_or (bad_occurrence_at ns os) (bad_host_at ps) g.0 in
+      let keys = shape-by (is_symbol q.language) q b.0 in
+      let items = query-items d q f in
+      let part = (parts-built d (items.head ∷ q.language ∷ q.pattern ∷ q.host ∷ []) items.are (built d a.0)).1.1.0 in
+      let u : unbuilt_at q.pattern ≡ None = unbuilt_at-built q.pattern part in
+      let passed : pattern_refusal ns q.pattern ≡ None =
+      λ y. or_else (u y) (or_else (keys y) (or_else (e.0 y) (or_else (bad.0 y) (or_else (h.0 y) (or_else (escapes.0 y) None))))) in
+      let es = ends_in q.pattern in
+      let among = (parts-ask K.ends d (items.head ∷ q.language ∷ q.pattern ∷ q.host ∷ []) items.are asked).1.1.0 in
+      let clear = (parts-readable d (items.head ∷ q.language ∷ q.pattern ∷ q.host ∷ []) items.are readable).1.1.0 in
+      let over = read-over K crossed q.language es c.0 among in
+      and_both (is_valid_pattern (language_named K.program (text_of q.language)) p) (is_valid_host C (host_of_datum K q.host))
+      (ap (λ (o : Option Language). is_valid_pattern o p) over ∙ pattern_well_formed B es q.pattern clear (λ y j. j) passed)
+      (host-valid K q.host bad.1 i.0)
+
+  -- whatever kind of query it is
+  match-valid : (make : List ℕ → Pattern → Host → Query)
+      → ((x : List ℕ) (p : Pattern) (h : Host) → is_valid_query A (make x p h) ≡ (is_valid_pattern (language_named K.program x) p && is_valid_host C h))
+      → (o : Option QueryParts) (q : Query) → query_parts d ≡ o → query_refusal K d o ≡ None → option_map (query_over K make) o ≡ Some q
+      → is_valid_query A q ≡ true
+  match-valid make same None q e r m = absurd cc
+  match-valid make same (Some c) q e r m =
+      let f : query_over K make c ≡ q = cc in
+      subst (λ (x : Query). is_valid_query A x ≡ true) f
+      (same (text_of c.language) (reading (names_of (named_base K (Some c.language))) position.Query c.pattern) (host_of_datum K c.host) ∙ query-valid c e r)
+
+  -- ---- premises
+
+  -- the language of a premise that is not refused
+  asked-over : (q : Headed) (o : Option (List ℕ)) (es : List (List ℕ)) → judgement_language K (text_of q.head) ≡ o
+      → asked_unknown_at K (Some q) ≡ None → AreAmong es K.ends
+      → (mode_of K.scope (text_of q.head) ≡ None → ⊥) → named_language K o ≡ Some (crossed_for es (language_or_empty K o))
+  asked-over q None es e u a m = absurd (m (paired (text_of q.head) e))
+  asked-over q (Some l) es e u a m =
+      read-in K crossed l es (by_language (language_named K.program l) (subst (λ (o : Option (List ℕ)). unfound_for K q.head o ≡ None) e u)) a
+    where
+      by_language : (o : Option Language) → unfound o q.head l ≡ None → is_some o ≡ true
+      by_language None f = absurd cc
+      by_language (Some L) f = refl
+
+  -- a premise fits no mode that is not there
+  no-mode : (L : Language) (q : Premise) → mode_of K.scope q.judgement ≡ None → is_valid_extra C L [] (held q) ≡ true → ⊥
+  no-mode L q e v =
+      let f = (and_true (fits_mode (mode_of K.scope q.judgement) q) _ v).0 in
+      let g : fits_mode None q ≡ true = ap (λ (o : Option Mode). fits_mode o q) (sym e) ∙ f in
+      absurd cc
+
+  -- the premise is valid, and the template behind it fits
+  record IsValidHeld (h : HoldsParts) (q : Headed) : Type 0 where
+    premise : is_valid_premise C (A.judged (text_of q.head)) (asked_premise K q) ≡ true
+    result : fits_behind C (asked_premise K q) (option_map (behind_template K q) h.result) ≡ true
+
+  -- both can be read, and ask for no more than the file does
+  record HoldsWithin (h : HoldsParts) : Type 0 where
+    premise : IsReadable h.premise
+    result : IsReadableIn h.result
+    asks : AreAmong (ends_in h.premise) K.ends
+
+  -- so they are, where no check refuses the form
+  held-valid : (h : HoldsParts) (q : Headed) → HoldsWithin h → headed h.premise ≡ Some q → holds_refusal K d (Some h) ≡ None → IsValidHeld h q
+  held-valid h q z e r =
+      let S = K.scope in
+      let ns = asked_names K (headed h.premise) in
+      let ss = lone_premise_stands S ns h.premise h.result in
+      let a = none_or (unbuilt_at d) _ r in
+      let b = none_or (shape_at ss) _ a.1 in
+      let c = none_or (asked_unknown_at K (headed h.premise)) _ b.1 in
+      let stands : stands_refusal S ns ss ≡ None = nameless-refusal S ns ss (of_lone_premise S ns h.premise h.result) ∙ (λ i. or_else (b.0 i) (c.1 i)) in
+      let l = asked_language K (Some q) in
+      let B = language_or_empty K l in
+      let es = ends_in h.premise in
+      let passed : premise_refusal S (names_of B) h.premise h.result ≡ None =
+      ap (λ (o : Option Headed). premise_refusal S (asked_names K o) h.premise h.result) (sym e) ∙ stands in
+      let v = question-valid S B h.premise h.result z.premise z.result passed in
+      let same : v.form ≡ q = some-same v.form q (sym v.is_form ∙ e) in
+      let p = asked_premise K q in
+      let M = crossed_for es B in
+      let valid : is_valid_extra C M [] (held p) ≡ true = subst (λ (g : Headed). is_valid_extra C M [] (held (premise_reading S (names_of B) [] g)) ≡ true) same v.valid in
+      let over = asked-over q l es refl (ap (asked_unknown_at K) (sym e) ∙ c.0) z.asks (λ n. no-mode M p n valid) in
+      record {
+        premise = ap (λ (o : Option Language). is_valid_premise C o p) over ∙ valid;
+        result = by_result h.result refl
+            (λ x f.
+            subst
+            (λ (g : Headed). fits (has_metafunction S) (bound_by (uses 0 (premise_reading S (names_of B) [] g).outputs)) 0
+            (template_reading S (names_bound (bound_by_premise S (names_of B) (Some g))) x) ≡ true)
+            same (v.result x f));
+      }
+    where
+      some-same : (f g : Headed) → (let o : Option Headed = Some f in o) ≡ Some g → f ≡ g
+      some-same f g e = cc
+
+      by_result : (o : Option Sexp) → h.result ≡ o
+          → ((x : Sexp) → h.result ≡ Some x
+          → fits (has_metafunction K.scope) (bound_by (uses 0 (asked_premise K q).outputs)) 0 (behind_template K q x) ≡ true)
+          → fits_behind C (asked_premise K q) (option_map (behind_template K q) o) ≡ true
+      by_result None f g = refl
+      by_result (Some x) f g = g x f
+
+  -- the parts of such forms
+  abbrev HoldsWithinIn : Option HoldsParts → Type 0
+  HoldsWithinIn None = Unit {0}
+  HoldsWithinIn (Some h) = HoldsWithin h
+
+  -- by the items of the form
+  holds-within : (o : Option (List Sexp)) → parts d ≡ o → HoldsWithinIn (holds_among o)
+  holds-within None e = tt
+  holds-within (Some []) e = tt
+  holds-within (Some (h ∷ [])) e = tt
+  holds-within (Some (h ∷ p ∷ [])) e =
+      let z = parts-readable d (h ∷ p ∷ []) e readable in
+      let a = parts-ask K.ends d (h ∷ p ∷ []) e asked in
+      record { premise = z.1.0; result = tt; asks = a.1.0 }
+  holds-within (Some (h ∷ p ∷ t ∷ [])) e =
+      let z = parts-readable d (h ∷ p ∷ t ∷ []) e readable in
+      let a = parts-ask K.ends d (h ∷ p ∷ t ∷ []) e asked in
+      record { premise = z.1.0; result = z.1.1.0; asks = a.1.0 }
+  holds-within (Some (h ∷ p ∷ t ∷ x ∷ xs)) e = tt
+
+  -- of a test
+  lone-within : (o : Option (List Sexp)) → parts d ≡ o → HoldsWithinIn (lone_among o)
+  lone-within None e = tt
+  lone-within (Some []) e = tt
+  lone-within (Some (h ∷ [])) e = tt
+  lone-within (Some (h ∷ p ∷ [])) e =
+      let z = parts-readable d (h ∷ p ∷ []) e readable in
+      let a = parts-ask K.ends d (h ∷ p ∷ []) e asked in
+      record { premise = z.1.0; result = tt; asks = a.1.0 }
+  lone-within (Some (h ∷ p ∷ t ∷ xs)) e = tt
+
+  -- what asks whether a premise is met, or what a template makes of its bindings
+  holds-valid : (o : Option HoldsParts) (q : Query) → HoldsWithinIn o → holds_refusal K d o ≡ None → holds_by K o ≡ Some q → is_valid_query A q ≡ true
+  holds-valid None q z r m = absurd cc
+  holds-valid (Some h) q z r m =
+      let i = image-of (holds_over K h.result) (headed h.premise) q m in
+      let v = held-valid h i.value z i.is r in
+      let p = asked_premise K i.value in
+      let t = option_map (behind_template K i.value) h.result in
+      subst (λ (x : Query). is_valid_query A x ≡ true) i.gives (and_both (is_valid_premise C (A.judged p.judgement) p) (fits_behind C p t) v.premise v.result)
+
+  -- and a test of one
+  holds_test-valid : (o : Option HoldsParts) (q : Query) → HoldsWithinIn o → holds_refusal K d o ≡ None → holds_test_by K o ≡ Some q
+      → is_valid_query A q ≡ true
+  holds_test-valid None q z r m = absurd cc
+  holds_test-valid (Some h) q z r m =
+      let i = image-of (λ g. test_holds (asked_premise K g)) (headed h.premise) q m in
+      subst (λ (x : Query). is_valid_query A x ≡ true) i.gives (held-valid h i.value z i.is r).premise
+
+  -- ---- steps
+
+  -- what asks for the steps of a relation
+  steps-valid : (make : List ℕ → Host → Query)
+      → ((x : List ℕ) (h : Host) → is_valid_query A (make x h) ≡ (A.relations x && is_valid_host C h))
+      → (o : Option StepParts) (q : Query) → steps_refusal K d o ≡ None
+      → option_map (λ (p : StepParts). make (text_of p.relation) (host_of_datum K p.host)) o ≡ Some q
+      → is_valid_query A q ≡ true
+  steps-valid make same None q r m = absurd cc
+  steps-valid make same (Some p) q r m =
+      let f : make (text_of p.relation) (host_of_datum K p.host) ≡ q = cc in
+      let ps = parts_of_host K p.host in
+      let a = none_or (unbuilt_at d) _ r in
+      let b = none_or (steps_shape_at d (checked_steps (Some p))) _ a.1 in
+      let c = none_or (bad_host_at ps) _ b.1 in
+      let e = none_or (unknown_relation_at K (Some p)) _ c.1 in
+      let g = none_or (undriven_host_at K ps) _ e.1 in
+      subst (λ (x : Query). is_valid_query A x ≡ true) f
+      (same (text_of p.relation) (host_of_datum K p.host)
+      ∙ and_both (A.relations (text_of p.relation)) (is_valid_host C (host_of_datum K p.host)) (relation-there K p.relation e.0) (host-valid K p.host c.0 g.0))
+
+  -- ---- tests
+
+  -- over such a name and these host expressions
+  record IsTested (r : Option Sexp) (hs : List Sexp) : Type 0 where
+    hosts : list_all (is_valid_host C) (map (host_of_datum K) hs) ≡ true
+    known : unknown_tested_at K r ≡ None
+
+  -- so it is, where no check refuses the form
+  tested : (r : Option Sexp) (hs : List Sexp) → test_refusal_over K d r hs ≡ None → IsTested r hs
+  tested r hs e =
+      let a = none_or (unbuilt_at d) _ e in
+      let b = none_or (hosts_shape_at hs) _ a.1 in
+      let c = none_or (bad_hosts_at K hs) _ b.1 in
+      let f = none_or (unknown_tested_at K r) _ c.1 in
+      let g = none_or (undriven_hosts_at K hs) _ f.1 in
+      record { hosts = hosts-valid K hs c.0 g.0; known = f.0 }
+
+  -- a test of two host expressions
+  equal-valid : (o : Option EqualParts) (q : Query) → equal_refusal K d o ≡ None
+      → option_map (λ (p : EqualParts). test_equal (host_of_datum K p.found) (host_of_datum K p.wanted)) o ≡ Some q → is_valid_query A q ≡ true
+  equal-valid None q r m = absurd cc
+  equal-valid (Some p) q r m =
+      let f : test_equal (host_of_datum K p.found) (host_of_datum K p.wanted) ≡ q = cc in
+      let t = tested None (p.found ∷ p.wanted ∷ []) r in
+      let h = host_of_datum K p.found in
+      let k = host_of_datum K p.wanted in
+      let a = and_true (is_valid_host C h) (is_valid_host C k && true) t.hosts in
+      subst (λ (x : Query). is_valid_query A x ≡ true) f
+      (and_both (is_valid_host C h) (is_valid_host C k) a.0 (and_true (is_valid_host C k) true a.1).0)
+
+  -- a test of a relation
+  leading-valid : (make : List ℕ → Host → List Host → Query)
+      → ((x : List ℕ) (h : Host) (ks : List Host) → is_valid_query A (make x h ks) ≡ (A.relations x && (is_valid_host C h && list_all (is_valid_host C) ks)))
+      → (o : Option LeadingParts) (q : Query) → leading_refusal K d o ≡ None
+      → option_map (λ (p : LeadingParts). make (text_of p.relation) (host_of_datum K p.from) (map (host_of_datum K) p.wanted)) o ≡ Some q
+      → is_valid_query A q ≡ true
+  leading-valid make same None q r m = absurd cc
+  leading-valid make same (Some p) q r m =
+      let f : make (text_of p.relation) (host_of_datum K p.from) (map (host_of_datum K) p.wanted) ≡ q = cc in
+      let t = tested (Some p.relation) (p.from ∷ p.wanted) r in
+      let h = host_of_datum K p.from in
+      let ks = map (host_of_datum K) p.wanted in
+      subst (λ (x : Query). is_valid_query A x ≡ true) f
+      (same (text_of p.relation) h ks
+      ∙ and_both (A.relations (text_of p.relation)) (is_valid_host C h && list_all (is_valid_host C) ks) (relation-there K p.relation t.known) t.hosts)
+
+  -- ---- all forms
+
+  -- by what the form does
+  by_kind : (k : FormKind) (q : Query) → refusal_by_kind K d k ≡ None → query_by_kind K d k ≡ Some q → is_valid_query A q ≡ true
+  by_kind (defines k) q r m = absurd cc
+  by_kind (passes k) q r m = absurd cc
+  by_kind to_come q r m = absurd cc
+  by_kind (asks kind.matches) q r m = match-valid matches (λ x p h. refl) (query_parts d) q refl r m
+  by_kind (asks kind.whether) q r m = match-valid whether (λ x p h. refl) (query_parts d) q refl r m
+  by_kind (asks kind.splits) q r m = match-valid splits (λ x p h. refl) (query_parts d) q refl r m
+  by_kind (asks kind.value) q r m =
+      let f : value (host_of_datum K d) ≡ q = cc in
+      let ps = host_parts K.scope [] 0 d in
+      let a = none_or (unbuilt_at d) _ r in
+      let b = (none_or _ None a.1).0 in
+      let c = none_or (option_map (unnamed Shape) (earliest start (host_shapes d))) _ b in
+      let e = none_or (option_map (unnamed BadPattern) (earliest start (bad_parts ps))) _ c.1 in
+      let g = none_or (option_map (named EllipsisDepth) (earliest start (shallow_parts [] ps))) _ e.1 in
+      let h = none_or (option_map (unnamed EllipsisVariable) (earliest start (undriven_parts K.scope [] ps))) _ g.1 in
+      subst (λ (x : Query). is_valid_query A x ≡ true) f (host-valid K d e.0 h.0)
+  by_kind (asks kind.holds) q r m = holds-valid (holds_parts d) q (holds-within (parts d) refl) r m
+  by_kind (asks kind.reducts) q r m = steps-valid reducts (λ x h. refl) (step_parts d) q r m
+  by_kind (asks kind.tagged) q r m = steps-valid tagged (λ x h. refl) (step_parts d) q r m
+  by_kind (asks kind.stepper) q r m = steps-valid stepper (λ x h. refl) (step_parts d) q r m
+  by_kind (asks kind.test_equal) q r m = equal-valid (equal_parts d) q r m
+  by_kind (asks kind.test_step) q r m = leading-valid test_step (λ x h ks. refl) (leading_parts d) q r m
+  by_kind (asks kind.test_run) q r m = leading-valid test_run (λ x h ks. refl) (leading_parts d) q r m
+  by_kind (asks kind.test_match) q r m = match-valid (λ x p h. test_match x p h true) (λ x p h. refl) (query_parts d) q refl r m
+  by_kind (asks kind.test_no_match) q r m = match-valid (λ x p h. test_match x p h false) (λ x p h. refl) (query_parts d) q refl r m
+  by_kind (asks kind.test_holds) q r m = holds_test-valid (lone_parts d) q (lone-within (parts d) refl) r m
+  by_kind (asks kind.test_results) q r m = let f : test_results ≡ q = cc in subst (λ (x : Query). is_valid_query A x ≡ true) f refl
+
+  -- what is asked is valid
+  pub query-is_valid : (q : Query) → Asks K d q → is_valid_query A q ≡ true
+  query-is_valid q a = by_kind (form_kind d) q a.passes a.means

@@ -1,6 +1,0 @@
--- What counts of the code stand for.
-use Rattle.rdx_query.specs.Tests as model
-use Rattle.rdx_query.specs.declared.counting.Counts.{Counts}
-
-abbrev pub counts_of : Counts → model.Counts
-counts_of c = record { passed = c.passed; failed = c.failed }

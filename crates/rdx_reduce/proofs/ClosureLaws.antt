@@ -1,0 +1,324 @@
+-- What closures do.
+use Rattle.std.proofs.Common.{◌≡◌, inl, inr, ℕ, zero, suc, Bool, true, List, [], ◌∷◌, Some, map, refl, sym, ◌∙◌, ap, subst, slice_get}
+use Rattle.std.proofs.lemmas.Bool.{and_parts}
+use Rattle.std.specs.List.{list_all}
+use Rattle.std.specs.Prelude.{◌↔◌, ◌&&◌}
+use Rattle.rdx_term.specs.Fill.{fill_of}
+use Rattle.rdx_term.specs.Limits.{KeepsLimits}
+use Rattle.rdx_term.specs.Tree.{Tree}
+use Rattle.rdx_term.specs.Tree.{hole as the_hole}
+use Rattle.rdx_lang.specs.Bindings.{Value, Binding, one_name, value_at}
+use Rattle.rdx_lang.specs.Bindings.{one as one_term}
+use Rattle.rdx_lang.specs.Closures.{context_name, closed_rule}
+use Rattle.rdx_lang.specs.Depths.{uses}
+use Rattle.rdx_lang.specs.Fitting.{fits}
+use Rattle.rdx_lang.specs.Join.{IsJoin}
+use Rattle.rdx_lang.specs.Members.{In, here, there}
+use Rattle.rdx_lang.specs.Modes.{Callable}
+use Rattle.rdx_lang.specs.Patterns.{Pattern, Language, named, in_hole, closed}
+use Rattle.rdx_lang.specs.Programs.{Rule}
+use Rattle.rdx_lang.specs.Rules.{Match, match_in_hole, split_named, split_closed}
+use Rattle.rdx_lang.specs.Scopes.{bound_by, case_uses, extras_uses}
+use Rattle.rdx_lang.specs.Templates.{Template, var, fill}
+use Rattle.rdx_lang.specs.Valid.{are_valid_extras, is_valid_rule}
+use Rattle.rdx_lang.specs.WellFormed.{is_well_formed_in}
+use Rattle.rdx_lang.proofs.Collecting.{listing_of}
+use Rattle.rdx_lang.proofs.Emptiness.{empty_splits_all}
+use Rattle.rdx_lang.proofs.JoinLaws.{one_join, unit_left, unit_left-only}
+use Rattle.rdx_lang.proofs.Joins.{joined_first, joined_last}
+use Rattle.rdx_lang.proofs.NameLaws.{match-ascends}
+use Rattle.rdx_lang.proofs.RuleSteps.{in_hole_inside, named_splits, closed_splits}
+use Rattle.rdx_lang.proofs.SplitLaws.{split-along, split-fills}
+use Rattle.rdx_eval.specs.Answers.{Answer, value, Then, goes}
+use Rattle.rdx_eval.specs.Calls.{Calls}
+use Rattle.rdx_eval.specs.Fresh.{avoiding}
+use Rattle.rdx_eval.specs.Heights.{calls_at}
+use Rattle.rdx_eval.specs.Instantiation.{Makes}
+use Rattle.rdx_eval.specs.Making.{IsFilled, filled}
+use Rattle.rdx_eval.specs.Turns.{term_or}
+use Rattle.rdx_eval.proofs.OneAnswer.{same_value}
+use Rattle.rdx_reduce.specs.ClosureLaws.{MatchesInside, MatchesInContext, LeavesAName, ContextIsJoined, TakesStepInside, StepsInContext, KeepsOwnSteps, IsTakenInside, ClosureLists}
+use Rattle.rdx_reduce.specs.Steps.{Step}
+use Rattle.rdx_reduce.specs.TakenSteps.{LeadTo, TakesStep, IsTaken}
+use Rattle.rdx_reduce.proofs.AlongExtras.{IsWithout, Differs, leads-along}
+use Rattle.rdx_reduce.proofs.ContextBindings.{IsUsed, used_first, used_last, bound-used, context-free, context-unbound, join_with_name, joined_name, other_name}
+use Rattle.rdx_reduce.proofs.Reached.{reached}
+use Rattle.rdx_reduce.proofs.SameTemplates.{inst-same}
+use Rattle.rdx_reduce.proofs.TakenSteps.{lists_taken}
+
+-- ---- matching in a context
+
+-- a pattern in a named context matches inside of it
+inside : (L : Language) (q : Pattern) (x : List ℕ) (p : Pattern) (t : Tree) (b : Binding) → Match L (in_hole (named x (closed q)) p) t b
+    → MatchesInside L q x p t b
+inside L q x p t b h =
+    let k = in_hole_inside h in
+    let n = named_splits k.split in
+    let c = closed_splits n.split in
+    let name : Binding = one_name x (one_term k.context) in
+    let e : k.outer ≡ name = unit_left-only (tt, tt) (subst (λ (a : Binding). IsJoin a name k.outer) c.1 n.joined) in
+    record {
+      context = k.context;
+      part = k.part;
+      forgotten = c.0.binding;
+      inner = k.inner;
+      split = c.0.split;
+      matched = k.matched;
+      joined = subst (λ (a : Binding). IsJoin a k.inner b) e k.joined;
+    }
+
+-- and what matches inside is matched
+outside : (L : Language) (q : Pattern) (x : List ℕ) (p : Pattern) (t : Tree) (b : Binding) → MatchesInside L q x p t b
+    → Match L (in_hole (named x (closed q)) p) t b
+outside L q x p t b m =
+    match_in_hole (split_named (split_closed m.split) (unit_left (one_name x (one_term m.context)) (tt, tt))) m.matched m.joined
+
+pub matches_in_context : MatchesInContext
+matches_in_context L q r t b = (inside L q (context_name r) r.pattern t b, outside L q (context_name r) r.pattern t b)
+
+pub context_is_joined : ContextIsJoined
+context_is_joined L r C s b leaves m =
+    join_with_name (context_name r) (one_term C) b (match-ascends m) (λ v i. context-unbound r leaves L s b v m i)
+
+-- ---- one name more
+
+-- c is b with the name x for v, which b does not bind
+record IsWider (x : List ℕ) (v : Value) (b c : Binding) : Type 0 where
+  less : IsWithout x b
+  joined : IsJoin (one_name x v) b c
+
+module _ (x : List ℕ) (v : Value) where
+  -- two bindings that don't bind x have no join that does
+  join_without : (b m d : Binding) → IsWithout x b → IsWithout x m → IsJoin b m d → IsWithout x d
+  join_without b m d k l j =
+      record { map = j.map; free = λ w i. elim (j.sound (x, w) i) [ inl p ↦ k.free w p | inr q ↦ l.free w q ] }
+
+  -- the join of b with m and one name more is that of c with m
+  join_wider : (b c m d : Binding) → IsWider x v b c → IsWithout x m → IsJoin b m d → (e : Binding) × IsWider x v d e × IsJoin c m e
+  join_wider b c m d h k j =
+      let less = join_without b m d h.less k j in
+      let e = join_with_name x v d less.map less.free in
+      let f = joined_first (one_name x v) b m d e.0 (tt, tt) h.less.map j e.1 in (
+        e.0,
+        record { less = less; joined = e.1 },
+        subst (λ (g : Binding). IsJoin g m e.0) (one_join (one_name x v) b f.0 c f.1 h.joined) f.2,
+      )
+
+  -- and the other way round
+  join_narrower : (b c m e : Binding) → IsWider x v b c → IsWithout x m → IsJoin c m e → (d : Binding) × IsWider x v d e × IsJoin b m d
+  join_narrower b c m e h k j =
+      let d = joined_last (one_name x v) b m c e h.less.map k.map h.joined j in
+      (d.0, record { less = join_without b m d.0 h.less k d.1; joined = d.2 }, d.1)
+
+  -- other names stand for the same
+  others_same : (b c : Binding) → IsWider x v b c → (y : List ℕ) → (y ≡ x → ⊥) → value_at c y ≡ value_at b y
+  others_same b c h = other_name x v b c h.less.map h.joined
+
+  -- b and c differ in x alone
+  wider_differs : Differs x (IsWider x v)
+  wider_differs = record {
+    same = λ b c h y n. sym (others_same b c h y n);
+    forth = join_wider;
+    back = λ b c m e h k j. let d = join_narrower b c m e h k j in (d.0, d.2);
+  }
+
+  -- and c and b do
+  narrower_differs : Differs x (λ c b. IsWider x v b c)
+  narrower_differs = record {
+    same = λ c b h y n. others_same b c h y n;
+    forth = λ c b m e h k j. join_narrower b c m e h k j;
+    back = λ c b m d h k j. let e = join_wider b c m d h k j in (e.0, e.2);
+  }
+
+-- ---- results in a context
+
+-- the context and what fills it, where the filled context is u
+record FilledWith (c t u : Tree) : Type 0 where
+  same : u ≡ fill_of c t
+  within : KeepsLimits (fill_of c t)
+
+-- what is filled is so
+filled_with : (c t u : Tree) → IsFilled c t (value u) → FilledWith c t u
+filled_with c t u (filled x k) = record { same = refl; within = k }
+
+-- the result of a closed rule: what the rule's result makes, in what the name of the context stands for
+record ResultParts (C : Calls) (b : Binding) (x : List ℕ) (s : Template) (u : Tree) : Type 0 where
+  inner : Tree
+  made : Makes C b s (value inner)
+  full : IsFilled (term_or x (value_at b x)) inner (value u)
+
+-- what it makes has these
+result_parts : (C : Calls) (b : Binding) (x : List ℕ) (s : Template) (u : Tree) → Makes C b (fill (var x 0) s) (value u) → ResultParts C b x s u
+result_parts C b x s u h =
+    let k = reached (λ a. a ≡ value (term_or x (value_at b x))) (λ c. Then (Makes C b s) (IsFilled c)) u h in
+    let l = reached (Makes C b s) (IsFilled k.between) u k.behind in
+    record {
+      inner = l.between;
+      made = l.before;
+      full = subst (λ (c : Tree). IsFilled c l.between (value u)) (sym (same_value k.between (term_or x (value_at b x)) k.before)) l.behind;
+    }
+
+-- ---- steps in a context
+
+module _ (L : Language) (C : Calls) (F : Callable) (q : Pattern) (r : Rule) (w t u : Tree) (valid : is_valid_rule F L r ≡ true)
+    (leaves : LeavesAName r) where
+  -- the extras and the result are valid behind the rule's pattern
+  parts_valid :
+      (are_valid_extras F L (uses 0 r.pattern) r.extras ≡ true)
+      × (fits F.functions (bound_by (case_uses r.pattern r.extras)) 0 r.result ≡ true)
+  parts_valid =
+      let result = fits F.functions (bound_by (case_uses r.pattern r.extras)) 0 r.result in
+      let extras = are_valid_extras F L (uses 0 r.pattern) r.extras in
+      and_parts extras result (and_parts (is_well_formed_in L r.pattern) (extras && result) valid).1
+
+  -- extras lead alike with the name of the context and without it
+  leads-alike : (T : Binding → Binding → Type 0) → Differs (context_name r) T → (b c d : Binding) → T b c → LeadTo L C (avoiding w) r.extras b d
+      → (e : Binding) × LeadTo L C (avoiding w) r.extras c e × T d e
+  leads-alike T differs b c d h k =
+      leads-along (context_name r) T differs L C F (uses 0 r.pattern) (avoiding w) r.extras b c d h
+      (λ i. context-free r leaves (used_first (context_name r) (uses 0 r.pattern) (extras_uses r.extras) i))
+      (λ i. context-free r leaves (used_last (context_name r) (uses 0 r.pattern) (extras_uses r.extras) i)) (λ i. elim i [ ]) parts_valid.0 k
+
+  -- so does the result make the same
+  makes-same : (v : Value) (b c : Binding) → IsWider (context_name r) v b c → Makes C c r.result ≡ Makes C b r.result
+  makes-same v b c h =
+      inst-same F.functions (bound_by (case_uses r.pattern r.extras)) c b
+      (λ y d k. others_same (context_name r) v b c h y
+      (λ e. context-free r leaves (subst (λ (z : List ℕ). IsUsed z (case_uses r.pattern r.extras)) e (bound-used y d (case_uses r.pattern r.extras) k))))
+      C [] 0 r.result parts_valid.1
+
+  -- the name of the context stands for it
+  stands-for : (D : Tree) (b c : Binding) → IsWider (context_name r) (one_term D) b c → term_or (context_name r) (value_at c (context_name r)) ≡ D
+  stands-for D b c h = ap (term_or (context_name r)) (joined_name (context_name r) (one_term D) b c h.less.map h.joined)
+
+  -- a step of the closed rule is one inside of a context
+  step_inside : TakesStep L C w (closed_rule q r) t u → TakesStepInside L C w q r t u
+  step_inside h =
+      let x : List ℕ = context_name r in
+      let m = inside L q x r.pattern t h.first h.matched in
+      let wider : IsWider x (one_term m.context) m.inner h.first = record {
+        less = record { map = match-ascends m.matched; free = λ v i. context-unbound r leaves L m.part m.inner v m.matched i };
+        joined = m.joined;
+      } in
+      let e =
+      leads-alike (λ c b. IsWider x (one_term m.context) b c) (narrower_differs x (one_term m.context)) h.first m.inner h.last wider h.extended in
+      let k = result_parts C h.last x r.result u h.made in
+      let f = filled_with m.context k.inner u (subst (λ (c : Tree). IsFilled c k.inner (value u)) (stands-for m.context e.0 h.last e.2) k.full) in
+      record {
+        context = m.context;
+        part = m.part;
+        forgotten = m.forgotten;
+        reduct = k.inner;
+        split = m.split;
+        taken = record {
+          first = m.inner;
+          last = e.0;
+          matched = m.matched;
+          extended = e.1;
+          made = subst (λ (R : Answer Tree → Type 0). R (value k.inner)) (makes-same (one_term m.context) e.0 h.last e.2) k.made;
+        };
+        filled = f.same;
+        within = subst KeepsLimits (sym f.same) f.within;
+      }
+
+  -- and the other way round
+  step_outside : TakesStepInside L C w q r t u → TakesStep L C w (closed_rule q r) t u
+  step_outside h =
+      let x : List ℕ = context_name r in
+      let b : Binding = h.taken.first in
+      let j = context_is_joined L r h.context h.part b leaves h.taken.matched in
+      let wider : IsWider x (one_term h.context) b j.0 = record {
+        less = record { map = match-ascends h.taken.matched; free = λ v i. context-unbound r leaves L h.part b v h.taken.matched i };
+        joined = j.1;
+      } in
+      let e = leads-alike (IsWider x (one_term h.context)) (wider_differs x (one_term h.context)) b j.0 h.taken.last wider h.taken.extended in
+      let made : Makes C e.0 r.result (value h.reduct) =
+      subst (λ (R : Answer Tree → Type 0). R (value h.reduct)) (sym (makes-same (one_term h.context) h.taken.last e.0 e.2)) h.taken.made in
+      let full : IsFilled h.context h.reduct (value u) =
+      subst (λ (v : Tree). IsFilled h.context h.reduct (value v)) (sym h.filled)
+      (filled (split-fills h.split).context (subst KeepsLimits h.filled h.within)) in
+      record {
+        first = j.0;
+        last = e.0;
+        matched = outside L q x r.pattern t j.0 (record {
+          context = h.context;
+          part = h.part;
+          forgotten = h.forgotten;
+          inner = b;
+          split = h.split;
+          matched = h.taken.matched;
+          joined = j.1;
+        });
+        extended = e.1;
+        made = goes (ap value (sym (stands-for h.context h.taken.last e.0 e.2))) (goes made full);
+      }
+
+pub steps_in_context : StepsInContext
+steps_in_context L P n F q r w t u valid leaves =
+    (step_inside L (calls_at P n) F q r w t u valid leaves, step_outside L (calls_at P n) F q r w t u valid leaves)
+
+pub keeps_own_steps : KeepsOwnSteps
+keeps_own_steps L P n F q r w t u valid leaves empty small h =
+    let whole = empty_splits_all L q t empty in
+    let part : whole.part ≡ t = (split-along whole.split).part in
+    step_outside L (calls_at P n) F q r w t u valid leaves (record {
+      context = the_hole;
+      part = whole.part;
+      forgotten = whole.binding;
+      reduct = u;
+      split = whole.split;
+      taken = subst (λ (v : Tree). TakesStep L (calls_at P n) w r v u) (sym part) h;
+      filled = refl;
+      within = small;
+    })
+
+-- ---- the steps of a closure
+
+-- what stands at a place of a list of images is the image of what stands there in the list
+placed-map : {A B : Type 0} (f : A → B) (xs : List A) (k : ℕ) (y : B) → slice_get (map f xs) k ≡ Some y
+    → (x : A) × (slice_get xs k ≡ Some x) × (y ≡ f x)
+placed-map f [] k y h = absurd cc
+placed-map f (x ∷ xs) zero y h = (x, refl, cc)
+placed-map f (x ∷ xs) (suc k) y h = placed-map f xs k y h
+
+-- and the image of what stands there stands there in the list of images
+map-placed : {A B : Type 0} (f : A → B) (xs : List A) (k : ℕ) (x : A) → slice_get xs k ≡ Some x → slice_get (map f xs) k ≡ Some (f x)
+map-placed f [] k x h = absurd cc
+map-placed f (z ∷ xs) zero x h = let e : z ≡ x = cc in ap (λ a. Some (f a)) e
+map-placed f (z ∷ xs) (suc k) x h = map-placed f xs k x h
+
+-- what stands at a place is a member
+placed-in : {A : Type 0} (xs : List A) (k : ℕ) (x : A) → slice_get xs k ≡ Some x → In x xs
+placed-in [] k x h = absurd cc
+placed-in (z ∷ xs) zero x h = let e : x ≡ z = cc in here e
+placed-in (z ∷ xs) (suc k) x h = there (placed-in xs k x h)
+
+-- a test that all members pass
+all-in : {A : Type 0} (p : A → Bool) (xs : List A) (x : A) → list_all p xs ≡ true → In x xs → p x ≡ true
+all-in p [] x h i = elim i [ ]
+all-in p (z ∷ xs) x h (here e) = ap p e ∙ (and_parts (p z) (list_all p xs) h).0
+all-in p (z ∷ xs) x h (there i) = all-in p xs x (and_parts (p z) (list_all p xs) h).1 i
+
+pub closure_lists : ClosureLists
+closure_lists L P n F q x R t ss valid leaves h = listing_of inner outer (lists_taken L P n t (map (closed_rule q) R.rules) ss h)
+  where
+    at_rule : (r : Rule) (k : ℕ) (u : Tree) → slice_get R.rules k ≡ Some r
+        → TakesStep L (calls_at P n) t (closed_rule q r) t u ↔ TakesStepInside L (calls_at P n) t q r t u
+    at_rule r k u e =
+        let i = placed-in R.rules k r e in steps_in_context L P n F q r t t u (all-in (is_valid_rule F L) R.rules r valid i) (leaves r i)
+
+    inner : (s : Step) → IsTaken L (calls_at P n) t (map (closed_rule q) R.rules) s → IsTakenInside L (calls_at P n) q t R.rules s
+    inner s k =
+        let m = placed-map (closed_rule q) R.rules s.rule k.rule k.placed in
+        record {
+          rule = m.0;
+          placed = m.1;
+          taken = (at_rule m.0 s.rule s.reduct m.1).0 (subst (λ (r : Rule). TakesStep L (calls_at P n) t r t s.reduct) m.2 k.taken);
+        }
+
+    outer : (s : Step) → IsTakenInside L (calls_at P n) q t R.rules s → IsTaken L (calls_at P n) t (map (closed_rule q) R.rules) s
+    outer s k = record {
+      rule = closed_rule q k.rule;
+      placed = map-placed (closed_rule q) R.rules s.rule k.rule k.placed;
+      taken = (at_rule k.rule s.rule s.reduct k.placed).1 k.taken;
+    }

@@ -1,0 +1,17 @@
+use Rattle.rdx_reduce.proofs.ClosureLaws.{matches_in_context, context_is_joined, steps_in_context, keeps_own_steps, closure_lists}
+use Rattle.rdx_reduce.proofs.laws.closures_step_inside.Goals as goal
+
+pub returns-clause-matches : goal.returns-clause-matches
+returns-clause-matches c = matches_in_context
+
+pub returns-clause-joined : goal.returns-clause-joined
+returns-clause-joined c = context_is_joined
+
+pub returns-clause-steps : goal.returns-clause-steps
+returns-clause-steps c = steps_in_context
+
+pub returns-clause-own : goal.returns-clause-own
+returns-clause-own c = keeps_own_steps
+
+pub returns-clause-lists : goal.returns-clause-lists
+returns-clause-lists c = closure_lists

@@ -1,0 +1,93 @@
+-- What closures do, stated for the contracts of the module of laws: the rule of a closure matches a term where the closing pattern splits it and the
+-- rule matches the part; and it takes the step that the rule takes there, inside of the context.
+use Rattle.std.specs.Prelude.{◌≡◌, ◌↔◌, ℕ, IsTrue, IsFalse, List, Some, bytes_eq, slice_get}
+use Rattle.std.specs.List.{list_all, list_any}
+use Rattle.rdx_term.specs.Fill.{fill_of}
+use Rattle.rdx_term.specs.Limits.{KeepsLimits}
+use Rattle.rdx_term.specs.Tree.{Tree}
+use Rattle.rdx_lang.specs.Bindings.{Binding, one_name}
+use Rattle.rdx_lang.specs.Bindings.{one as one_term}
+use Rattle.rdx_lang.specs.Closures.{rule_names, context_name, closed_rule, context_closure}
+use Rattle.rdx_lang.specs.Empty.{IsEmpty}
+use Rattle.rdx_lang.specs.Join.{IsJoin}
+use Rattle.rdx_lang.specs.Listing.{IsListing}
+use Rattle.rdx_lang.specs.Members.{In}
+use Rattle.rdx_lang.specs.Modes.{Callable}
+use Rattle.rdx_lang.specs.Patterns.{Pattern, Language}
+use Rattle.rdx_lang.specs.Programs.{Program, Relation, Rule}
+use Rattle.rdx_lang.specs.Rules.{Match, Split}
+use Rattle.rdx_lang.specs.Valid.{is_valid_rule}
+use Rattle.rdx_eval.specs.Answers.{value}
+use Rattle.rdx_eval.specs.Calls.{Calls}
+use Rattle.rdx_eval.specs.Heights.{calls_at}
+use Rattle.rdx_reduce.specs.Steps.{Step, step_cmp, Steps}
+use Rattle.rdx_reduce.specs.TakenSteps.{TakesStep}
+
+-- ---- matching
+
+-- q splits t into a context and a part, whatever it binds there; p matches the part; and b is what p binds, joined with the name x for the context
+pub record MatchesInside (L : Language) (q : Pattern) (x : List ℕ) (p : Pattern) (t : Tree) (b : Binding) : Type 0 where
+  pub context : Tree
+  pub part : Tree
+  pub forgotten : Binding
+  pub inner : Binding
+  pub split : Split L q t context part forgotten
+  pub matched : Match L p part inner
+  pub joined : IsJoin (one_name x (one_term context)) inner b
+
+-- the pattern of a closed rule matches exactly where the closing pattern splits the term and the rule's pattern matches the part
+abbrev pub MatchesInContext : Type 0
+MatchesInContext =
+    (L : Language) (q : Pattern) (r : Rule) (t : Tree) (b : Binding)
+    → (Match L (closed_rule q r).pattern t b ↔ MatchesInside L q (context_name r) r.pattern t b)
+
+-- the name of the context is none that the rule binds
+abbrev pub LeavesAName : Rule → Type 0
+LeavesAName r = IsFalse (list_any (bytes_eq (context_name r)) (rule_names r))
+
+-- what the rule's pattern binds has a join with the name of the context, whichever the context is
+abbrev pub ContextIsJoined : Type 0
+ContextIsJoined =
+    (L : Language) (r : Rule) (C s : Tree) (b : Binding) → LeavesAName r → Match L r.pattern s b
+    → (c : Binding) × IsJoin (one_name (context_name r) (one_term C)) b c
+
+-- ---- steps
+
+-- q splits t into a context and a part, the rule takes a step from the part, and u is the context filled with what that leads to, within the
+-- limits of terms; the whole term is w
+pub record TakesStepInside (L : Language) (C : Calls) (w : Tree) (q : Pattern) (r : Rule) (t u : Tree) : Type 0 where
+  pub context : Tree
+  pub part : Tree
+  pub forgotten : Binding
+  pub reduct : Tree
+  pub split : Split L q t context part forgotten
+  pub taken : TakesStep L C w r part reduct
+  pub filled : u ≡ fill_of context reduct
+  pub within : KeepsLimits u
+
+-- where a rule is valid, the closed rule takes exactly the steps that the rule takes inside of contexts; fresh names avoid what stands around the
+-- part, too
+abbrev pub StepsInContext : Type 0
+StepsInContext =
+    (L : Language) (P : Program) (n : ℕ) (F : Callable) (q : Pattern) (r : Rule) (w t u : Tree) → IsTrue (is_valid_rule F L r) → LeavesAName r
+    → (TakesStep L (calls_at P n) w (closed_rule q r) t u ↔ TakesStepInside L (calls_at P n) w q r t u)
+
+-- so a closing pattern that is Empty, as a nonterminal with `hole` as an alternative is, leaves to a valid rule its own steps, where they lead to
+-- terms within the limits
+abbrev pub KeepsOwnSteps : Type 0
+KeepsOwnSteps =
+    (L : Language) (P : Program) (n : ℕ) (F : Callable) (q : Pattern) (r : Rule) (w t u : Tree) → IsTrue (is_valid_rule F L r) → LeavesAName r
+    → IsEmpty L q → KeepsLimits u → TakesStep L (calls_at P n) w r t u → TakesStep L (calls_at P n) w (closed_rule q r) t u
+
+-- the rule at the step's place, of these rules, takes the step from t inside of a context
+pub record IsTakenInside (L : Language) (C : Calls) (q : Pattern) (t : Tree) (rs : List Rule) (s : Step) : Type 0 where
+  pub rule : Rule
+  pub placed : slice_get rs s.rule ≡ Some rule
+  pub taken : TakesStepInside L C t q rule t s.reduct
+
+-- where there is no fault, the steps of a closure of a relation with valid rules are a listing of those that its rules take inside of contexts
+abbrev pub ClosureLists : Type 0
+ClosureLists =
+    (L : Language) (P : Program) (n : ℕ) (F : Callable) (q : Pattern) (x : List ℕ) (R : Relation) (t : Tree) (ss : List Step)
+    → IsTrue (list_all (is_valid_rule F L) R.rules) → ((r : Rule) → In r R.rules → LeavesAName r)
+    → Steps L (calls_at P n) t (context_closure q x R).rules (value ss) → IsListing step_cmp ss (IsTakenInside L (calls_at P n) q t R.rules)
