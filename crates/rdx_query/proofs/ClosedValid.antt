@@ -4,7 +4,7 @@ use Rattle.std.proofs.lemmas.List.{map-append}
 use Rattle.std.specs.Cmp.Lexicographic.{bytes_decides}
 use Rattle.std.specs.List.{list_all, list_any}
 use Rattle.std.specs.Prelude.{◌&&◌, ◌||◌, Some, bytes_eq, nat_lt}
-use Rattle.rdx_lang.specs.Closures.{rule_names, context_name, closed_rule, context_closure}
+use Rattle.rdx_lang.specs.Closures.{context_name, closed_rule, context_closure}
 use Rattle.rdx_lang.specs.Depths.{Use, uses, name_use}
 use Rattle.rdx_lang.specs.Fitting.{Bound, Called, drives, fits, fit, fits_in, fit_in}
 use Rattle.rdx_lang.specs.Modes.{Callable, fits_mode}
@@ -16,6 +16,7 @@ use Rattle.rdx_lang.specs.Valid.{is_used, is_valid_extra, are_valid_extras, is_v
 use Rattle.rdx_lang.specs.WellFormed.{is_well_formed_in}
 use Rattle.rdx_lang.proofs.ClosedRules.{rule_in_context-well_formed}
 use Rattle.rdx_grammar.proofs.Booleans.{or_false, and_true, and_both, not_true}
+use Rattle.rdx_reduce.specs.ClosureLaws.{LeavesAName}
 
 -- ---- where more names are bound, what fits does
 
@@ -131,16 +132,12 @@ module _ (C : Callable) (L : Language) (x : List ℕ) where
 
 -- ---- closures
 
--- the name of the context is none that the rule binds
-abbrev pub HasFreeContext : Rule → Type 0
-HasFreeContext r = list_any (bytes_eq (context_name r)) (rule_names r) ≡ false
-
 -- a name by itself, where it is bound
 bound-here : (x : List ℕ) (us : List Use) → bound_by (name_use 0 x ∷ us) x 0 ≡ true
 bound-here x us = λ i. ((bytes_decides x x).1 refl i && true) || bound_by us x 0
 
 -- a rule in contexts of a pattern
-closed_rule-valid : (C : Callable) (L : Language) (p : Pattern) (r : Rule) → is_well_formed_in L p ≡ true → HasFreeContext r
+closed_rule-valid : (C : Callable) (L : Language) (p : Pattern) (r : Rule) → is_well_formed_in L p ≡ true → LeavesAName r
     → is_valid_rule C L r ≡ true → is_valid_rule C L (closed_rule p r) ≡ true
 closed_rule-valid C L p r w f v =
     let F = C.functions in
@@ -161,10 +158,10 @@ closed_rule-valid C L p r w f v =
     (and_both (bound_by (u ∷ all) x 0) true (bound-here x all) refl)
     (fits-more F (bound_by all) (bound_by (u ∷ all)) (bound-more u all) 0 r.result b.1)))
 
--- each of these rules has a free context
+-- each of these rules leaves the name of a context free
 abbrev pub HaveFreeContexts : List Rule → Type 0
 HaveFreeContexts [] = Unit {0}
-HaveFreeContexts (r ∷ rs) = HasFreeContext r × HaveFreeContexts rs
+HaveFreeContexts (r ∷ rs) = LeavesAName r × HaveFreeContexts rs
 
 -- all rules
 closed_rules-valid : (C : Callable) (L : Language) (p : Pattern) (rs : List Rule) → is_well_formed_in L p ≡ true → HaveFreeContexts rs

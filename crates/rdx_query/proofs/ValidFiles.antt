@@ -18,6 +18,7 @@ use Rattle.rdx_grammar.specs.Readable.{IsReadable}
 use Rattle.rdx_defs.proofs.PartsOfForms.{Each}
 use Rattle.rdx_defs.specs.Scope.{mode_of, callable}
 use Rattle.rdx_defs.specs.Scopes.{scope_in}
+use Rattle.rdx_reduce.specs.ClosureLaws.{LeavesAName}
 use Rattle.rdx_query.specs.Definitions.{Defined, language, metafunction, judgement, relation}
 use Rattle.rdx_query.specs.Ends.{form_ends, file_ends}
 use Rattle.rdx_query.specs.File.{Accepts, accepts_none, accepts_definition, accepts_query, accepts_passed, known_before, IsFile}
@@ -26,7 +27,7 @@ use Rattle.rdx_query.specs.Known.{Known, with_definition, judgement_language}
 use Rattle.rdx_answer.specs.Queries.{Query, matches, whether, splits, value, holds, reducts, tagged, stepper, test_equal, test_step, test_run, test_match, test_holds, test_results}
 use Rattle.rdx_query.specs.ValidQueries.{Askable, is_valid_host, is_valid_pattern, is_valid_premise, fits_behind, is_valid_query, judged_language, askable_in, are_valid_queries}
 use Rattle.rdx_query.proofs.AcceptedScopes.{IsScopeIn, accepted-scope, scope-callable}
-use Rattle.rdx_query.proofs.ClosedValid.{HasFreeContext, HaveFreeContexts}
+use Rattle.rdx_query.proofs.ClosedValid.{HaveFreeContexts}
 use Rattle.rdx_query.proofs.DistinctDefinitions.{distinct-more}
 use Rattle.rdx_query.proofs.FittingKnown.{is_crossed}
 use Rattle.rdx_query.proofs.FoundByName.{language-stays}
@@ -307,16 +308,16 @@ asked-of ds P s =
     by_judgement (Some I) = refl
 
 -- a rule among those that leave the name of a context free
-free-in : (rs : List Rule) (r : Rule) → HaveFreeContexts rs → In r rs → HasFreeContext r
+free-in : (rs : List Rule) (r : Rule) → HaveFreeContexts rs → In r rs → LeavesAName r
 free-in [] r h i = elim i [ ]
-free-in (s ∷ rs) r h (here e) = subst HasFreeContext (sym e) h.0
+free-in (s ∷ rs) r h (here e) = subst LeavesAName (sym e) h.0
 free-in (s ∷ rs) r h (there i) = free-in rs r h.1 i
 
 -- both are valid, and each rule of a relation leaves the name of a context free
 record IsAcceptedValid (P : Program) (qs : List Query) : Type 0 where
   program : IsTrue (is_valid P)
   queries : IsTrue (are_valid_queries P qs)
-  contexts : (R : Relation) (r : Rule) → In R P.relations → In r R.rules → HasFreeContext r
+  contexts : (R : Relation) (r : Rule) → In R P.relations → In r R.rules → LeavesAName r
 
 -- of each file
 both-valid : (ds : List Sexp) (P : Program) (qs : List Query) → IsOfFileSize ds → IsFile ds P qs → IsAcceptedValid P qs
@@ -356,5 +357,5 @@ accepted_queries-valid ds P qs z a = (both-valid ds P qs z a).queries
 
 -- and its rules leave the name of a context free
 pub accepted-contexts : (ds : List Sexp) (P : Program) (qs : List Query) (R : Relation) (r : Rule) → IsOfFileSize ds → IsFile ds P qs
-    → In R P.relations → In r R.rules → HasFreeContext r
+    → In R P.relations → In r R.rules → LeavesAName r
 accepted-contexts ds P qs R r z a i k = (both-valid ds P qs z a).contexts R r i k
