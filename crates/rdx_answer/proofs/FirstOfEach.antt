@@ -12,6 +12,7 @@ use Rattle.std.proofs.lemmas.Cmp.{tied_itself}
 use Rattle.rdx_lang.specs.Ascending.{IsBelow, IsAscending}
 use Rattle.rdx_lang.specs.Members.{In, here, there}
 use Rattle.rdx_lang.specs.Order.{TellsApart}
+use Rattle.rdx_lang.proofs.OrderLaws.{not_below_itself, below_member}
 use Rattle.rdx_lang.proofs.Keys.{In-inserted, inserted_itself, inserted_others, map-inserted}
 
 -- whether it is one of the keys
@@ -125,16 +126,6 @@ module _ {B : Type 0} (cmp : B → B → Ordering) (o : IsTotalOrder cmp) (tells
       pub is_new : In (f t) seen → ⊥
       pub least : (u : A) → In u xs → f u ≡ f t → order u t ≡ Less → ⊥
 
-    -- nothing is below itself
-    not_below_itself : (x : A) → order x x ≡ Less → ⊥
-    not_below_itself x h = let e : order x x ≡ Equal = tied_itself total x in cc
-
-    -- what is below all is below each
-    below_member : (x u : A) (xs : List A) → IsBelow order x xs → In u xs → order x u ≡ Less
-    below_member x u [] b i = elim i [ ]
-    below_member x u (y ∷ ys) b (here e) = subst (λ (w : A). order x w ≡ Less) (sym e) b.0
-    below_member x u (y ∷ ys) b (there i) = below_member x u ys b.1 i
-
     -- a value that is kept is such a one
     pub sound-first : (seen : List B) (xs : List A) → IsAscending order xs → (t : A) → In t (first_of_each f cmp seen xs) → IsFirst seen xs t
     sound-first seen [] a t i = elim i [ ]
@@ -149,9 +140,9 @@ module _ {B : Type 0} (cmp : B → B → Ordering) (o : IsTotalOrder cmp) (tells
         passed m r = record { is_one = there r.is_one; is_new = r.is_new; least = no_passed m r }
 
         no_lesser : t ≡ x → (u : A) → In u (x ∷ xs) → f u ≡ f t → order u t ≡ Less → ⊥
-        no_lesser d u (here e) g l = not_below_itself t (subst (λ (w : A). order w t ≡ Less) (e ∙ sym d) l)
+        no_lesser d u (here e) g l = not_below_itself order total t (subst (λ (w : A). order w t ≡ Less) (e ∙ sym d) l)
         no_lesser d u (there j) g l =
-            not_below_itself x (total.trans x u x (below_member x u xs a.0 j) (subst (λ (w : A). order u w ≡ Less) d l))
+            not_below_itself order total x (total.trans x u x (below_member order total x u xs a.0 j) (subst (λ (w : A). order u w ≡ Less) d l))
 
         itself : is_among cmp (f x) seen ≡ false → t ≡ x → IsFirst seen (x ∷ xs) t
         itself e d = record {
@@ -187,7 +178,7 @@ module _ {B : Type 0} (cmp : B → B → Ordering) (o : IsTotalOrder cmp) (tells
       where
         fresh : In t xs → In (f t) (insert_key cmp seen (f x)) → ⊥
         fresh j m = elim (In-inserted cmp o tells seen (f x) (f t) m) [
-          | inl g ↦ r.least x (here refl) (sym g) (below_member x t xs a.0 j)
+          | inl g ↦ r.least x (here refl) (sym g) (below_member order total x t xs a.0 j)
           | inr n ↦ r.is_new n
         ]
 

@@ -1,4 +1,3 @@
-pub mod Labels
 pub mod Upto
 pub mod Whether
 pub mod EachSoFar

@@ -2,8 +2,7 @@
 use Rattle.std.specs.Prelude.{ℕ, Bool, true, false, ◌&&◌, nat_lt, List, [], ◌∷◌, ◌++◌, Option, Some, None, map, length, codes, decimal, if◌then◌else◌}
 use Rattle.rdx_term.specs.Context.{is_context}
 use Rattle.rdx_term.specs.Path.{path}
-use Rattle.rdx_term.specs.Spelling.{is_symbol_spelling}
-use Rattle.rdx_term.specs.Text.{tree_text, spaced_text}
+use Rattle.rdx_term.specs.Text.{tree_text, spaced_text, label_text}
 use Rattle.rdx_term.specs.Tree as tree
 use Rattle.rdx_term.specs.Tree.{Tree, Trees, trees, tree_holes}
 use Rattle.rdx_lang.specs.Bindings.{Value, one, many, len, Values, none, more, Pair, Binding}
@@ -110,10 +109,6 @@ answers_text ts = counted_text (codes "answers") (map tree_text ts)
 -- `reducts N`, and the N terms
 abbrev pub reducts_text : List Tree → List ℕ
 reducts_text ts = counted_text (codes "reducts") (map tree_text ts)
-
--- a name that may be any text: the text, as a string where it is not spelled like a symbol
-abbrev pub label_text : List ℕ → List ℕ
-label_text x = if is_symbol_spelling x then x else tree_text (tree.text x)
 
 -- the name of a rule; `-` where it has none
 abbrev pub rule_name_text : Option (List ℕ) → List ℕ

@@ -1,9 +1,8 @@
 // The texts of answers.
-ghost use Rattle.std.specs.Prelude.{◌≡◌, ◌++◌, IfOk, OnOk, IsTrue, List, codes, decimal, map, option_map};
+ghost use Rattle.std.specs.Prelude.{◌≡◌, ◌++◌, OnOk, IsTrue, List, codes, decimal, map, option_map};
 ghost use Rattle.std.specs.Rc.{rc_str_bytes};
 ghost use Rattle.rdx_term.specs.Context.{is_context};
-ghost use Rattle.rdx_term.specs.Spelling.{is_symbol_spelling};
-ghost use Rattle.rdx_term.specs.Text.{spaced_text, tree_text};
+ghost use Rattle.rdx_term.specs.Text.{label_text, spaced_text, tree_text};
 ghost use Rattle.rdx_term.specs.View.{tree_of, trees_of};
 ghost use Rattle.rdx_lang.specs.Bindings as bindings;
 ghost use Rattle.rdx_lang.specs.Bindings.{one, values};
@@ -26,6 +25,7 @@ use rdx_fill::path_of;
 use rdx_lang::{Binding, Rule, Split, Value};
 use rdx_reduce::Step;
 use rdx_term::printing::{print_bytes, print_string};
+use rdx_term::spelling::is_symbol;
 use rdx_term::{Name, NoMemory, Term, text_of};
 use std::alloc::Global;
 use std::rc::RcStr;
@@ -298,27 +298,16 @@ pub(crate) fn write_holds(is_met: bool, out: &mut Vec<u8>) -> Result<(), NoMemor
     Ok(())
 }
 
-// Whether a text is spelled like a symbol: a name is, and so is `hole`.
-fn is_like_symbol(text: &RcStr) -> Result<bool, NoMemory>
-    ensures { IfOk result (λ b. b ≡ is_symbol_spelling (rc_str_bytes text.now)) }
-{
-    if text.as_str() == "hole" {
-        return Ok(true);
-    }
-    let name = Name::new(text.clone()?);
-    Ok(name.is_some())
-}
-
 // The name of a rule, as a string where it is not spelled like a symbol.
 fn write_label(name: &RcStr, out: &mut Vec<u8>) -> Result<(), NoMemory>
     ensures { OnOk result
-        (out.new.items ≡ out.old.items ++ text.label_text (rc_str_bytes name.now)) }
+        (out.new.items ≡ out.old.items ++ label_text (rc_str_bytes name.now)) }
 {
-    let text = name.as_str().as_bytes();
-    if is_like_symbol(name)? {
-        print_bytes(text, out)
+    let text = name.as_str();
+    if is_symbol(text) {
+        print_bytes(text.as_bytes(), out)
     } else {
-        print_string(text, out)
+        print_string(text.as_bytes(), out)
     }
 }
 

@@ -23,8 +23,6 @@ mod std_sink;
 mod std_source;
 mod steady_sink;
 mod steady_source;
-#[cfg(test)]
-mod tests;
 
 pub use mem_sink::MemSink;
 pub use mem_source::MemSource;

@@ -1,10 +1,6 @@
 // What no proof shows: that files are answered where there is memory, how calls of a source and a
 // sink are made, that the machine's stack suffices, and what words the program is given. The tests
-// of the crates below that no file makes stand here too: tests of a crate cost as much as its proof.
-mod bindings;
-mod evaluation;
-mod matchers;
-
+// of what no file reaches stand in `rdx_tests`.
 use crate::top::{Status, run};
 use crate::writing::write_text;
 use crate::{status_without_words, words_of};

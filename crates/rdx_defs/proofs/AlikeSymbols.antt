@@ -14,12 +14,12 @@ use Rattle.rdx_grammar.specs.PatternChecks.{when, differ, clashes}
 use Rattle.rdx_grammar.proofs.Among.{bytes_eq-sym}
 use Rattle.rdx_grammar.proofs.Booleans.{or_false, or_neither}
 use Rattle.rdx_grammar.proofs.Firsts.{none_first}
-use Rattle.rdx_defs.specs.Bound.{Bound, depth_of}
-use Rattle.rdx_defs.specs.StandChecks.{is_bound_as, is_other, other_depths}
-use Rattle.rdx_defs.specs.Stands.{names_bound, bound_freshly}
-use Rattle.rdx_defs.proofs.Depths.{depth_before, depth_behind}
-use Rattle.rdx_defs.proofs.NamesBound.{named_at}
-use Rattle.rdx_defs.proofs.RepeatedNames.{not_false}
+use Rattle.rdx_parts.specs.Bound.{Bound, depth_of}
+use Rattle.rdx_parts.specs.StandChecks.{is_bound_as, is_other, other_depths}
+use Rattle.rdx_parts.specs.Stands.{names_bound, bound_freshly}
+use Rattle.rdx_parts.proofs.Depths.{depth_before, depth_behind}
+use Rattle.rdx_parts.proofs.NamesBound.{named_at}
+use Rattle.rdx_parts.proofs.RepeatedNames.{not_false}
 
 -- each has the depth that its name has first
 pub record AreAlike (bs : List patterns.Bound) : Type 0 where

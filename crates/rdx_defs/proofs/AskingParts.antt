@@ -8,8 +8,8 @@ use Rattle.rdx_grammar.specs.Parts.{listed}
 use Rattle.rdx_grammar.specs.PatternChecks.{bad_binders}
 use Rattle.rdx_grammar.specs.Readable.{IsReadable}
 use Rattle.rdx_grammar.proofs.KnownReadings.{items-among, first-among, rest-among, all-among}
-use Rattle.rdx_defs.specs.Inside.Branches.{Takes, one, several, each, taken_occurrences}
-use Rattle.rdx_defs.specs.Inside.PartsHave.{AreReadableItems, IsReadableTaken, CanBind}
+use Rattle.rdx_parts.specs.Outlines.{Takes, one, several, each, taken_occurrences}
+use Rattle.rdx_parts.specs.PartsHave.{AreReadableItems, IsReadableTaken, CanBind}
 use Rattle.rdx_defs.proofs.BoundParts.{can-bind}
 use Rattle.rdx_defs.proofs.InheritedParts.{all-readable}
 use Rattle.rdx_defs.proofs.PartsOfForms.{Each, IsInherited}

@@ -14,21 +14,23 @@ use Rattle.rdx_grammar.specs.declared.patterns.position.Position.TheVariants.{Qu
 use Rattle.rdx_grammar.proofs.Firsts.{none_both, none_first}
 use Rattle.rdx_grammar.proofs.NamedForms.{name-spelled, language-not_hole}
 use Rattle.rdx_grammar.proofs.PassedPatterns.{AreWritten, AreBoundNames, pattern-written, items-written, bound-are-names}
-use Rattle.rdx_defs.specs.Arguments.{Arguments, is_misfit, data_at, data_by, patterns_in}
-use Rattle.rdx_defs.specs.ExtraForms.{ExtraForm, such_that, provided, confirmed, holding, freshly, name, no_extra, ExtraPlace, of_rule, form_at}
-use Rattle.rdx_defs.specs.Headed.{Headed, headed}
-use Rattle.rdx_defs.specs.Inside.BareStands as bare
-use Rattle.rdx_defs.specs.Inside.BareStands.{lone_pattern}
-use Rattle.rdx_defs.specs.Inside.Branches.{Takes, one, several, each, Branch, taken_occurrences, case_branch, in_case, case_branches, domain_patterns, relation_outline, clause_branch, in_clause, own_clause, clause_branches, contract_patterns, metafunction_outline, RuleBranch, rule_branch, in_rule, rule_branches, given_patterns, option_patterns, options_patterns, judgement_outline, question_outline}
-use Rattle.rdx_defs.specs.Inside.PartsHave.{AreReadable, AreReadableSymbols, AreNames, IsReadableTaken, ArgumentsHave, PremiseHas, ExtraHas, ExtrasHave, BranchHas, BranchesHave, RuleHas, RulesHave, AloneHave, OutlineHas, BindNames, CanBind}
+use Rattle.rdx_parts.specs.Arguments.{Arguments, is_misfit, data_at, data_by, patterns_in}
+use Rattle.rdx_parts.specs.ExtraForms.{ExtraForm, such_that, provided, confirmed, holding, freshly, name, no_extra, ExtraPlace, of_rule, form_at}
+use Rattle.rdx_parts.specs.Headed.{Headed, headed}
+use Rattle.rdx_parts.specs.BareStands as bare
+use Rattle.rdx_defs.specs.Inside.BareForms as bare_forms
+use Rattle.rdx_parts.specs.BareStands.{lone_pattern}
+use Rattle.rdx_defs.specs.Inside.FormOutlines.{case_branch, in_case, case_branches, domain_patterns, relation_outline, clause_branch, in_clause, own_clause, clause_branches, contract_patterns, metafunction_outline, rule_branch, in_rule, rule_branches, given_patterns, option_patterns, options_patterns, judgement_outline, question_outline}
+use Rattle.rdx_parts.specs.Outlines.{Takes, one, several, each, Branch, taken_occurrences, RuleBranch}
+use Rattle.rdx_parts.specs.PartsHave.{AreReadable, AreReadableSymbols, AreNames, IsReadableTaken, ArgumentsHave, PremiseHas, ExtraHas, ExtrasHave, BranchHas, BranchesHave, RuleHas, RulesHave, AloneHave, OutlineHas, BindNames, CanBind}
 use Rattle.rdx_defs.specs.JudgementForms.{RuleForm, rule_form, own_rule, OptionForm, JudgementForm, judgement_in, mode_form, own_mode, key_text, is_fit_option}
 use Rattle.rdx_defs.specs.JudgementStands.{rule_arguments, name_stands, missing_mode, mode_stands, contract_stands, given_stands, option_stands, options_stand}
 use Rattle.rdx_defs.specs.MetafunctionForms.{ClauseForm, clause_form, ContractForm, MetafunctionForm}
 use Rattle.rdx_defs.specs.RelationForms.{CaseForm, case_form, RelationForm, is_keyword}
 use Rattle.rdx_defs.specs.RelationStands.{domain_stands, shortcuts_stand}
-use Rattle.rdx_defs.specs.Scope.{Scope, mode_of}
-use Rattle.rdx_defs.specs.StandChecks.{bad_name, bad_names}
-use Rattle.rdx_defs.specs.Stands.{Stand, misshaped, function, template, premise_arguments, misfits, is_named}
+use Rattle.rdx_parts.specs.Scope.{Scope, mode_of}
+use Rattle.rdx_parts.specs.StandChecks.{bad_name, bad_names}
+use Rattle.rdx_parts.specs.Stands.{Stand, misshaped, function, template, premise_arguments, misfits, is_named}
 use Rattle.rdx_defs.proofs.PartsOfForms.{wanted, bound}
 
 -- names, as they are elsewhere
@@ -148,30 +150,30 @@ module _ (S : Scope) (T R : Takes → Type 0) (binds : (w : Takes) → T w → b
       record { takes = binds b.takes h.takes k.0; result = h.result; extras = extras-bind b.place again b.extras k.1 h.extras }
 
   -- a case before others
-  case-binds : (d : Sexp) (o : Option CaseForm) (bs : List Branch) → bad_names (bare.case_stands S d o) ≡ []
+  case-binds : (d : Sexp) (o : Option CaseForm) (bs : List Branch) → bad_names (bare_forms.case_stands S d o) ≡ []
       → (BranchesHave S (wanted T) bs → BranchesHave S (bound R) bs) → BranchesHave S (wanted T) (in_case o ++ bs) → BranchesHave S (bound R) (in_case o ++ bs)
   case-binds d None bs e f h = f h
   case-binds d (Some c) bs e f h = (branch-binds false (case_branch c) e h.0, f h.1)
 
   -- cases
-  cases-bind : (ds : List Sexp) → bad_names (bare.cases_stand S ds) ≡ [] → BranchesHave S (wanted T) (case_branches ds) → BranchesHave S (bound R) (case_branches ds)
+  cases-bind : (ds : List Sexp) → bad_names (bare_forms.cases_stand S ds) ≡ [] → BranchesHave S (wanted T) (case_branches ds) → BranchesHave S (bound R) (case_branches ds)
   cases-bind [] e h = tt
   cases-bind (d ∷ ds) e h =
-      let k = both (bare.case_stands S d (case_form d)) (bare.cases_stand S ds) e in
+      let k = both (bare_forms.case_stands S d (case_form d)) (bare_forms.cases_stand S ds) e in
       case-binds d (case_form d) (case_branches ds) k.0 (λ g. cases-bind ds k.1 g) h
 
   -- a clause before others
-  clause-binds : (d : Sexp) (o : Option ClauseForm) (bs : List Branch) → bad_names (bare.clause_stands S d o) ≡ []
+  clause-binds : (d : Sexp) (o : Option ClauseForm) (bs : List Branch) → bad_names (bare_forms.clause_stands S d o) ≡ []
       → (BranchesHave S (wanted T) bs → BranchesHave S (bound R) bs) → BranchesHave S (wanted T) (in_clause o ++ bs) → BranchesHave S (bound R) (in_clause o ++ bs)
   clause-binds d None bs e f h = f h
   clause-binds d (Some c) bs e f h = (branch-binds true (clause_branch c) e h.0, f h.1)
 
   -- clauses
-  clauses-bind : (x : List ℕ) (ds : List Sexp) → bad_names (bare.clauses_stand S x ds) ≡ [] → BranchesHave S (wanted T) (clause_branches x ds)
+  clauses-bind : (x : List ℕ) (ds : List Sexp) → bad_names (bare_forms.clauses_stand S x ds) ≡ [] → BranchesHave S (wanted T) (clause_branches x ds)
       → BranchesHave S (bound R) (clause_branches x ds)
   clauses-bind x [] e h = tt
   clauses-bind x (d ∷ ds) e h =
-      let k = both (bare.clause_stands S d (own_clause x (clause_form d))) (bare.clauses_stand S x ds) e in
+      let k = both (bare_forms.clause_stands S d (own_clause x (clause_form d))) (bare_forms.clauses_stand S x ds) e in
       clause-binds d (own_clause x (clause_form d)) (clause_branches x ds) k.0 (λ g. clauses-bind x ds k.1 g) h
 
   -- ---- patterns that stand by themselves
@@ -194,10 +196,10 @@ module _ (S : Scope) (T R : Takes → Type 0) (binds : (w : Takes) → T w → b
   -- ---- relations and metafunctions
 
   -- a relation without shorthand, whatever shortcuts stand behind it
-  pub relation-binds : (r : RelationForm) (ds : List Sexp) → bad_names (bare.relation_stands S r ds) ≡ [] → OutlineHas S (wanted T) (relation_outline r)
+  pub relation-binds : (r : RelationForm) (ds : List Sexp) → bad_names (bare_forms.relation_stands S r ds) ≡ [] → OutlineHas S (wanted T) (relation_outline r)
       → OutlineHas S (bound R) (relation_outline r)
   relation-binds r ds e h =
-      let k = both (domain_stands r.domain) (bare.cases_stand S r.cases) (both (bare.expanded_stands S r) (shortcuts_stand [] ds) e).0 in
+      let k = both (domain_stands r.domain) (bare_forms.cases_stand S r.cases) (both (bare_forms.expanded_stands S r) (shortcuts_stand [] ds) e).0 in
       record { alone = by_domain r.domain k.0 h.alone; branches = cases-bind r.cases k.1 h.branches; rules = tt; questions = tt }
     where
       by_domain : (o : Option Sexp) → bad_names (domain_stands o) ≡ [] → AloneHave T (domain_patterns o) → AloneHave R (domain_patterns o)
@@ -205,7 +207,7 @@ module _ (S : Scope) (T R : Takes → Type 0) (binds : (w : Takes) → T w → b
       by_domain (Some p) f g = (binds (one p) g.0 (none_both (bad_binders (occurrences 0 p)) [] f).0, tt)
 
   -- a metafunction; where no clause has its shape there is no contract
-  pub metafunction-binds : (m : MetafunctionForm) (f : Option Sexp) → (f ≡ None → m.contract ≡ None) → bad_names (bare.function_stands S m f) ≡ []
+  pub metafunction-binds : (m : MetafunctionForm) (f : Option Sexp) → (f ≡ None → m.contract ≡ None) → bad_names (bare_forms.function_stands S m f) ≡ []
       → OutlineHas S (wanted T) (metafunction_outline m f) → OutlineHas S (bound R) (metafunction_outline m f)
   metafunction-binds m None n e h = record {
     alone = subst (λ (o : Option ContractForm). AloneHave R (contract_patterns o)) (sym (n refl)) tt;
@@ -215,20 +217,20 @@ module _ (S : Scope) (T R : Takes → Type 0) (binds : (w : Takes) → T w → b
   }
   metafunction-binds m (Some f) n e h =
       let ps = contract_patterns m.contract in
-      let k = none_both (bad_name (function f)) (bad_names (map lone_pattern ps ++ bare.clauses_stand S (text_of f) m.clauses)) e in
-      let l = both (map lone_pattern ps) (bare.clauses_stand S (text_of f) m.clauses) k.1 in
+      let k = none_both (bad_name (function f)) (bad_names (map lone_pattern ps ++ bare_forms.clauses_stand S (text_of f) m.clauses)) e in
+      let l = both (map lone_pattern ps) (bare_forms.clauses_stand S (text_of f) m.clauses) k.1 in
       record { alone = alone-bind ps l.0 h.alone; branches = clauses-bind (text_of f) m.clauses l.1 h.branches; rules = tt; questions = tt }
 
   -- ---- judgements
 
   -- the conclusion of a rule
-  conclusion-binds : (m : Option Mode) (r : RuleForm) → bad_names (bare.conclusion_stands m r) ≡ [] → ArgumentsHave S (wanted T) (rule_arguments m r)
+  conclusion-binds : (m : Option Mode) (r : RuleForm) → bad_names (bare_forms.conclusion_stands m r) ≡ [] → ArgumentsHave S (wanted T) (rule_arguments m r)
       → ArgumentsHave S (bound R) (rule_arguments m r)
   conclusion-binds m r e h =
       arguments-bind (rule_arguments m r) (both (misfits (is_misfit m r.parts.arguments) r.conclusion r.parts.head) (bare.arguments_stand (rule_arguments m r)) e).1 h
 
   -- a rule in either layout
-  rule-binds : (m : Option Mode) (d : Sexp) (r : RuleForm) → bad_names (bare.rule_stands S m d (Some r)) ≡ [] → RuleHas S (wanted T) (rule_branch m r)
+  rule-binds : (m : Option Mode) (d : Sexp) (r : RuleForm) → bad_names (bare_forms.rule_stands S m d (Some r)) ≡ [] → RuleHas S (wanted T) (rule_branch m r)
       → RuleHas S (bound R) (rule_branch m r)
   rule-binds m d r e h = by_test r.is_last e
     where
@@ -236,7 +238,7 @@ module _ (S : Scope) (T R : Takes → Type 0) (binds : (w : Takes) → T w → b
       premises = bare.extras_stand of_rule S true r.premises
 
       conclusion : List Stand
-      conclusion = bare.conclusion_stands m r
+      conclusion = bare_forms.conclusion_stands m r
 
       by_test : (b : Bool) → bad_names (if b then premises ++ name_stands r.name ++ conclusion else conclusion ++ premises ++ name_stands r.name) ≡ []
           → RuleHas S (bound R) (rule_branch m r)
@@ -250,17 +252,17 @@ module _ (S : Scope) (T R : Takes → Type 0) (binds : (w : Takes) → T w → b
           record { arguments = conclusion-binds m r l.0 h.arguments; premises = extras-bind of_rule true r.premises l.1 h.premises }
 
   -- a rule before others
-  rule-before : (m : Option Mode) (d : Sexp) (o : Option RuleForm) (rs : List RuleBranch) → bad_names (bare.rule_stands S m d o) ≡ []
+  rule-before : (m : Option Mode) (d : Sexp) (o : Option RuleForm) (rs : List RuleBranch) → bad_names (bare_forms.rule_stands S m d o) ≡ []
       → (RulesHave S (wanted T) rs → RulesHave S (bound R) rs) → RulesHave S (wanted T) (in_rule m o ++ rs) → RulesHave S (bound R) (in_rule m o ++ rs)
   rule-before m d None rs e f h = f h
   rule-before m d (Some r) rs e f h = (rule-binds m d r e h.0, f h.1)
 
   -- rules
-  rules-bind : (j : Option Sexp) (m : Option Mode) (ds : List Sexp) → bad_names (bare.rules_stand S j m ds) ≡ [] → RulesHave S (wanted T) (rule_branches j m ds)
+  rules-bind : (j : Option Sexp) (m : Option Mode) (ds : List Sexp) → bad_names (bare_forms.rules_stand S j m ds) ≡ [] → RulesHave S (wanted T) (rule_branches j m ds)
       → RulesHave S (bound R) (rule_branches j m ds)
   rules-bind j m [] e h = tt
   rules-bind j m (d ∷ ds) e h =
-      let k = both (bare.rule_stands S m d (own_rule j (rule_form d))) (bare.rules_stand S j m ds) e in
+      let k = both (bare_forms.rule_stands S m d (own_rule j (rule_form d))) (bare_forms.rules_stand S j m ds) e in
       rule-before m d (own_rule j (rule_form d)) (rule_branches j m ds) k.0 (λ g. rules-bind j m ds k.1 g) h
 
   -- what an option gives, before other patterns
@@ -299,11 +301,11 @@ module _ (S : Scope) (T R : Takes → Type 0) (binds : (w : Takes) → T w → b
       option-when b m o (options_patterns j later os) k.0 (λ g. options-bind j m later os k.1 g) h
 
   -- a judgement
-  pub judgement-binds : (d : Sexp) (f : JudgementForm) → bad_names (bare.judgement_stands S d f) ≡ [] → OutlineHas S (wanted T) (judgement_outline f)
+  pub judgement-binds : (d : Sexp) (f : JudgementForm) → bad_names (bare_forms.judgement_stands S d f) ≡ [] → OutlineHas S (wanted T) (judgement_outline f)
       → OutlineHas S (bound R) (judgement_outline f)
   judgement-binds d f e h =
       let options = options_stand (judgement_in f) (own_mode f) [] f.options in
-      let rules = bare.rules_stand S (judgement_in f) (own_mode f) f.rules in
+      let rules = bare_forms.rules_stand S (judgement_in f) (own_mode f) f.rules in
       let k = both (missing_mode d (mode_form f) ++ options) rules e in
       let l = both (missing_mode d (mode_form f)) options k.0 in
       record {
@@ -316,7 +318,7 @@ module _ (S : Scope) (T R : Takes → Type 0) (binds : (w : Takes) → T w → b
   -- ---- premises by themselves
 
   -- one, and what stands behind it
-  pub question-binds : (d : Sexp) (t : Option Sexp) → bad_names (bare.question_stands S d t) ≡ [] → OutlineHas S (wanted T) (question_outline d t)
+  pub question-binds : (d : Sexp) (t : Option Sexp) → bad_names (bare_forms.question_stands S d t) ≡ [] → OutlineHas S (wanted T) (question_outline d t)
       → OutlineHas S (bound R) (question_outline d t)
   question-binds d t e h = record {
     alone = tt;
@@ -325,6 +327,6 @@ module _ (S : Scope) (T R : Takes → Type 0) (binds : (w : Takes) → T w → b
     questions = (record { premise = premise-binds d (headed d) (by_result t e) h.questions.0.premise; result = h.questions.0.result }, tt);
   }
     where
-      by_result : (o : Option Sexp) → bad_names (bare.question_stands S d o) ≡ [] → bad_names (bare.held_stands S d (headed d)) ≡ []
+      by_result : (o : Option Sexp) → bad_names (bare_forms.question_stands S d o) ≡ [] → bad_names (bare.held_stands S d (headed d)) ≡ []
       by_result None f = f
       by_result (Some x) f = (both (bare.held_stands S d (headed d)) (template [] x ∷ []) f).0

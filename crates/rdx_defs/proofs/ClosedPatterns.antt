@@ -5,7 +5,7 @@ use Rattle.rdx_lang.specs.PatternView.{just, items_of}
 use Rattle.rdx_lang.specs.Patterns.{one, closed}
 use Rattle.rdx_grammar.specs.Reading.{reading}
 use Rattle.rdx_grammar.specs.declared.patterns.position.Position.TheVariants.{Query}
-use Rattle.rdx_defs.specs.ExtraReading.{items_reading}
+use Rattle.rdx_parts.specs.ExtraReading.{items_reading}
 use Rattle.rdx_defs.specs.MetafunctionReading.{closed_items}
 
 -- the items for these patterns, each closed

@@ -6,13 +6,14 @@ use Rattle.rdx_grammar.specs.Refusal.{Refusal, unnamed, named, or_else, first_re
 use Rattle.rdx_grammar.specs.Unbuilt.{unbuilt_at}
 use Rattle.rdx_grammar.specs.declared.shape.fault.DefKind.TheVariants.{Shape, BadName, BadPattern, EllipsisDepth, UnknownName, EllipsisVariable, RacketEscape}
 use Rattle.rdx_grammar.proofs.Firsts.{none_of}
-use Rattle.rdx_defs.specs.Earliest.{start, earliest}
-use Rattle.rdx_defs.specs.Inside.BareStands as bare_stands
-use Rattle.rdx_defs.specs.Inside.Branches.{Outline, relation_outline, metafunction_outline, judgement_outline, question_outline}
-use Rattle.rdx_defs.specs.Inside.ByNames.{outline_faults}
+use Rattle.rdx_parts.specs.Earliest.{start, earliest}
+use Rattle.rdx_defs.specs.Inside.BareForms as bare_stands
+use Rattle.rdx_defs.specs.Inside.FormOutlines.{relation_outline, metafunction_outline, judgement_outline, question_outline}
+use Rattle.rdx_parts.specs.Outlines.{Outline}
+use Rattle.rdx_parts.specs.ByNames.{outline_faults}
 use Rattle.rdx_defs.specs.Inside.ExpandedAnswers.{expanded_refusal}
-use Rattle.rdx_defs.specs.Inside.FormRefusals.{early_refusal, late_refusal, form_refusal}
-use Rattle.rdx_defs.specs.Inside.NamesAgain.{names_again}
+use Rattle.rdx_parts.specs.FormRefusals.{early_refusal, late_refusal, form_refusal}
+use Rattle.rdx_parts.specs.NamesAgain.{names_again}
 use Rattle.rdx_defs.specs.JudgementForms.{JudgementForm, judgement_form}
 use Rattle.rdx_defs.specs.JudgementRefusal.{judgement_refusal, lone_premise_stands, premise_refusal}
 use Rattle.rdx_defs.specs.JudgementStands.{judgement_stands}
@@ -22,17 +23,19 @@ use Rattle.rdx_defs.specs.MetafunctionStands.{clause_stands, clauses_stand, func
 use Rattle.rdx_defs.specs.RelationForms.{RelationForm, relation_form}
 use Rattle.rdx_defs.specs.RelationRefusal.{relation_refusal}
 use Rattle.rdx_defs.specs.RelationStands.{expanded_stands, shortcuts_stand, relation_stands}
-use Rattle.rdx_defs.specs.Scope.{Scope}
-use Rattle.rdx_defs.specs.StandChecks.{shape_faults, shape_at, repeated_names, repeated_at, repeated_name_at, bad_names, bad_name_at, bad_places, bad_place_at, depth_faults, depth_fault_at, unknown_names, unknown_name_at, undriven_places, undriven_at, escape_at, mode_faults, misfit_start, misfit_at, mode_fault_at}
-use Rattle.rdx_defs.specs.StandRefusal.{stands_refusal}
-use Rattle.rdx_defs.specs.Stands.{Stand}
-use Rattle.rdx_defs.specs.declared.stands.faults.Check.{Check}
-use Rattle.rdx_defs.specs.declared.stands.faults.Check.TheVariants.{Places, Depths, Driving, Escapes}
-use Rattle.rdx_defs.proofs.BareChecks.{bare, bare-relation, bare-function, bare-judgement, bare-question, shapes-bare, bad_names-bare, unknown_names-bare, mode_faults-bare}
-use Rattle.rdx_defs.proofs.EarliestPlaces.{earliest-none}
-use Rattle.rdx_defs.proofs.RepeatedNames.{again-bare, bound_places, places-none}
+use Rattle.rdx_parts.specs.Scope.{Scope}
+use Rattle.rdx_parts.specs.StandChecks.{shape_faults, shape_at, repeated_names, repeated_at, repeated_name_at, bad_names, bad_name_at, bad_places, bad_place_at, depth_faults, depth_fault_at, unknown_names, unknown_name_at, undriven_places, undriven_at, escape_at, mode_faults, misfit_start, misfit_at, mode_fault_at}
+use Rattle.rdx_parts.specs.StandRefusal.{stands_refusal}
+use Rattle.rdx_parts.specs.Stands.{Stand}
+use Rattle.rdx_parts.specs.declared.stands.faults.Check.{Check}
+use Rattle.rdx_parts.specs.declared.stands.faults.Check.TheVariants.{Places, Depths, Driving, Escapes}
+use Rattle.rdx_defs.proofs.BareForms.{bare-relation, bare-function, bare-judgement, bare-question}
+use Rattle.rdx_parts.proofs.BareChecks.{bare, shapes-bare, bad_names-bare, unknown_names-bare, mode_faults-bare}
+use Rattle.rdx_parts.proofs.EarliestPlaces.{earliest-none}
+use Rattle.rdx_parts.proofs.RepeatedNames.{again-bare, bound_places, places-none}
 use Rattle.rdx_defs.proofs.TrackedNames.{relation-again, function-again, judgement-again, question-again}
-use Rattle.rdx_defs.proofs.NamesBound.{faults, relation-faults, function-faults, judgement-faults, question-faults}
+use Rattle.rdx_defs.proofs.FormFaults.{relation-faults, function-faults, judgement-faults, question-faults}
+use Rattle.rdx_parts.proofs.NamesBound.{faults}
 
 -- the first of these is that of three, or else of the others
 after_three : (a b c : Option Refusal) (os : List (Option Refusal)) → first_refusal (a ∷ b ∷ c ∷ os) ≡ or_else (first_refusal (a ∷ b ∷ c ∷ [])) (first_refusal os)

@@ -15,17 +15,18 @@ use Rattle.rdx_grammar.specs.Readable.{IsReadable}
 use Rattle.rdx_grammar.specs.Reading.{is_pattern}
 use Rattle.rdx_grammar.proofs.Booleans.{and_true, not_true, or_false}
 use Rattle.rdx_grammar.proofs.NamedForms.{name-spelled}
-use Rattle.rdx_defs.specs.Arguments.{Arguments, patterns_in, data_at, data_by}
-use Rattle.rdx_defs.specs.ExtraForms.{ExtraForm, such_that, provided, confirmed, holding, freshly, no_extra, ExtraPlace, of_case, of_clause, of_rule, condition_behind, fresh_names, extra_among, extra_form, is_extra_head, extra_behind, premise_among, form_at}
-use Rattle.rdx_defs.specs.Headed.{Headed, headed_among, headed}
-use Rattle.rdx_defs.specs.Inside.Branches.{Takes, several, Branch, case_branch, in_case, case_branches, domain_patterns, relation_outline, clause_branch, in_clause, own_clause, clause_branches, pattern_when, patterns_among, contract_patterns, metafunction_outline, RuleBranch, rule_branch, in_rule, rule_branches, given_patterns, option_patterns, options_patterns, judgement_outline, question_outline}
-use Rattle.rdx_defs.specs.Inside.PartsHave.{AreReadable, AreReadableSymbols, AreReadableItems, IsReadableIn, ArgumentsHave, PremiseHas, ExtraHas, ExtrasHave, BranchHas, BranchesHave, RuleHas, RulesHave, AloneHave, OutlineHas}
+use Rattle.rdx_parts.specs.Arguments.{Arguments, patterns_in, data_at, data_by}
+use Rattle.rdx_parts.specs.ExtraForms.{ExtraForm, such_that, provided, confirmed, holding, freshly, no_extra, ExtraPlace, of_case, of_clause, of_rule, condition_behind, fresh_names, extra_among, extra_form, is_extra_head, extra_behind, premise_among, form_at}
+use Rattle.rdx_parts.specs.Headed.{Headed, headed_among, headed}
+use Rattle.rdx_defs.specs.Inside.FormOutlines.{case_branch, in_case, case_branches, domain_patterns, relation_outline, clause_branch, in_clause, own_clause, clause_branches, pattern_when, patterns_among, contract_patterns, metafunction_outline, rule_branch, in_rule, rule_branches, given_patterns, option_patterns, options_patterns, judgement_outline, question_outline}
+use Rattle.rdx_parts.specs.Outlines.{Takes, several, Branch, RuleBranch}
+use Rattle.rdx_parts.specs.PartsHave.{AreReadable, AreReadableSymbols, AreReadableItems, IsReadableIn, ArgumentsHave, PremiseHas, ExtraHas, ExtrasHave, BranchHas, BranchesHave, RuleHas, RulesHave, AloneHave, OutlineHas}
 use Rattle.rdx_defs.specs.JudgementForms.{RuleForm, is_line, cut_at_line, is_label, concluded, rule_behind, cut_name, rule_ahead, rule_cut, rule_among, rule_form, OptionForm, JudgementForm, is_any_keyword, with_option, cut_options, judgement_among, judgement_form, given_by, headed_by, mode_form, contract_form, judgement_in, own_mode, is_named_so, key_text, is_fit_option, own_rule}
 use Rattle.rdx_defs.specs.MetafunctionForms.{ClauseForm, clause_behind, clause_among, clause_form, ContractForm, cut_at_arrow, MetafunctionForm, with_clauses, contracted, metafunction_over, metafunction_among, metafunction_form, function_or, clauses_function, function_by, function_in}
 use Rattle.rdx_defs.specs.RelationForms.{CaseForm, case_among, case_form, RelationForm, is_keyword, relation_over, may_name, relation_among, relation_form}
-use Rattle.rdx_defs.specs.Scope.{Scope}
-use Rattle.rdx_defs.specs.StandChecks.{is_bad_function}
-use Rattle.rdx_defs.specs.Stands.{premise_arguments}
+use Rattle.rdx_parts.specs.Scope.{Scope}
+use Rattle.rdx_parts.specs.StandChecks.{is_bad_function}
+use Rattle.rdx_parts.specs.Stands.{premise_arguments}
 use Rattle.rdx_base.specs.declared.place.Span.{Span}
 use Rattle.rdx_defs.proofs.PartsOfForms.{IsNamed, IsNamedIn, Each, HasIn, EachIn, SidesHave, HeadedHasIn, RelationHas, RelationHasIn, ContractHasIn, MetafunctionHas, MetafunctionHasIn, RuleFormHas, RuleFormHasIn, OptionsHave, JudgementHas, JudgementHasIn, CutHas, IsInherited, wanted}
 

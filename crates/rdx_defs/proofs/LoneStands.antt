@@ -1,24 +1,17 @@
--- Patterns that stand by themselves, and what stands in a branch.
-use Rattle.std.proofs.Common.{◌≡◌, ◌++◌, ◌∙◌, ℕ, Bool, true, false, List, [], ◌∷◌, map, refl, sym, ap, if◌then◌else◌}
+-- Patterns that stand by themselves.
+use Rattle.std.proofs.Common.{◌≡◌, ◌++◌, ◌∙◌, Bool, true, false, [], List, ◌∷◌, map, refl, sym, ap, if◌then◌else◌}
 use Rattle.std.proofs.lemmas.List.{map-append}
 use Rattle.std.specs.Prelude.{Option, Some, None}
 use Rattle.rdx_sexp.specs.Sexp.{Sexp, Sexps, sexps, nil, cons}
 use Rattle.rdx_grammar.specs.Heads.{Roles, patterns as items_of_list, next, rest}
 use Rattle.rdx_grammar.specs.Occurrences.{occurrences}
 use Rattle.rdx_grammar.specs.Reading.{is_pattern}
-use Rattle.rdx_defs.specs.Inside.BareStands.{lone_pattern}
-use Rattle.rdx_defs.specs.Inside.Branches.{Branch, taken_occurrences, bound_by_taken, bound_by_branch, domain_patterns, pattern_when, patterns_among, contract_patterns}
+use Rattle.rdx_parts.specs.BareStands.{lone_pattern}
+use Rattle.rdx_defs.specs.Inside.FormOutlines.{domain_patterns, pattern_when, patterns_among, contract_patterns}
 use Rattle.rdx_defs.specs.MetafunctionForms.{ContractForm}
 use Rattle.rdx_defs.specs.MetafunctionStands.{patterns_stand, contract_stands}
 use Rattle.rdx_defs.specs.RelationStands.{domain_stands}
-use Rattle.rdx_defs.specs.Scope.{Scope}
-use Rattle.rdx_defs.specs.Stands.{Stand, pattern, template, names_bound, extras_stand}
-
--- what stands in a branch
-abbrev pub branch_stands : Scope → List (List ℕ) → Bool → Branch → List Stand
-branch_stands S ns again b =
-    pattern [] (taken_occurrences b.takes) ∷ template (names_bound (bound_by_branch S ns b)) b.result
-    ∷ extras_stand b.place S ns (bound_by_taken ns b.takes) again b.extras
+use Rattle.rdx_parts.specs.Stands.{Stand, pattern}
 
 -- ---- patterns that stand by themselves
 

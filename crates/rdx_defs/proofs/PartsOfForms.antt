@@ -5,9 +5,10 @@ use Rattle.rdx_sexp.specs.Sexp.{Sexp, Sexps, list}
 use Rattle.rdx_term.specs.Spelling.{is_name}
 use Rattle.rdx_grammar.specs.Parts.{listed, text_of, is_symbol}
 use Rattle.rdx_grammar.specs.Readable.{IsReadable}
-use Rattle.rdx_defs.specs.Headed.{Headed}
-use Rattle.rdx_defs.specs.Inside.Branches.{Takes, one, several, each, domain_patterns}
-use Rattle.rdx_defs.specs.Inside.PartsHave.{Wanted, AreReadableItems, AreReadableSymbols, AreNames}
+use Rattle.rdx_parts.specs.Headed.{Headed}
+use Rattle.rdx_defs.specs.Inside.FormOutlines.{domain_patterns}
+use Rattle.rdx_parts.specs.Outlines.{Takes, one, several, each}
+use Rattle.rdx_parts.specs.PartsHave.{Wanted, AreReadableItems, AreReadableSymbols, AreNames}
 use Rattle.rdx_defs.specs.JudgementForms.{RuleForm, OptionForm, JudgementForm}
 use Rattle.rdx_defs.specs.MetafunctionForms.{ContractForm, MetafunctionForm}
 use Rattle.rdx_defs.specs.RelationForms.{RelationForm}

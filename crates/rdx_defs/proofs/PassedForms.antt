@@ -12,11 +12,11 @@ use Rattle.rdx_grammar.specs.Parts.{text_of}
 use Rattle.rdx_grammar.specs.Readable.{IsReadable}
 use Rattle.rdx_grammar.proofs.Booleans.{and_both}
 use Rattle.rdx_grammar.proofs.Firsts.{none_first}
-use Rattle.rdx_defs.specs.Inside.BareStands as bare_stands
-use Rattle.rdx_defs.specs.Inside.Branches.{relation_outline, clause_branches, metafunction_outline, judgement_outline, question_outline}
+use Rattle.rdx_defs.specs.Inside.BareForms as bare_stands
+use Rattle.rdx_defs.specs.Inside.FormOutlines.{relation_outline, clause_branches, metafunction_outline, judgement_outline, question_outline}
 use Rattle.rdx_defs.specs.Inside.BranchReadings.{branch_metafunction}
-use Rattle.rdx_defs.specs.Inside.FormRefusals.{early_refusal}
-use Rattle.rdx_defs.specs.Inside.PartsHave.{IsReadableIn, IsReadableTaken, CanBind, OutlineHas, can_bind, can_read}
+use Rattle.rdx_parts.specs.FormRefusals.{early_refusal}
+use Rattle.rdx_parts.specs.PartsHave.{IsReadableIn, IsReadableTaken, CanBind, OutlineHas, can_bind, can_read}
 use Rattle.rdx_defs.specs.JudgementForms.{JudgementForm, judgement_form}
 use Rattle.rdx_defs.specs.JudgementRefusal.{judgement_refusal, lone_premise_stands, premise_refusal}
 use Rattle.rdx_defs.specs.JudgementStands.{judgement_stands}
@@ -29,10 +29,11 @@ use Rattle.rdx_defs.specs.RelationEnds.{expanded_ends}
 use Rattle.rdx_defs.specs.RelationForms.{RelationForm}
 use Rattle.rdx_defs.specs.RelationReading.{expanded_reading}
 use Rattle.rdx_defs.specs.RelationStands.{expanded_stands, shortcuts_stand}
-use Rattle.rdx_defs.specs.Scope.{Scope, callable}
-use Rattle.rdx_defs.specs.StandChecks.{is_bad_function, bad_names}
-use Rattle.rdx_defs.specs.Stands.{Stand}
-use Rattle.rdx_defs.proofs.BareChecks.{bare-relation, bare-function, bare-judgement, bare-question, bad_names-bare}
+use Rattle.rdx_parts.specs.Scope.{Scope, callable}
+use Rattle.rdx_parts.specs.StandChecks.{is_bad_function, bad_names}
+use Rattle.rdx_parts.specs.Stands.{Stand}
+use Rattle.rdx_defs.proofs.BareForms.{bare-relation, bare-function, bare-judgement, bare-question}
+use Rattle.rdx_parts.proofs.BareChecks.{bad_names-bare}
 use Rattle.rdx_defs.proofs.AskingParts.{AsksWithin, asks-within, TakenWithin, within-inherited, BindsWithin, binds-within}
 use Rattle.rdx_defs.proofs.BoundParts.{can-bind, relation-binds, metafunction-binds, judgement-binds, question-binds}
 use Rattle.rdx_defs.proofs.FormRefusals.{ArePassed, no-contract, early-names, relation-passed, metafunction-passed, judgement-passed, question-passed, some-function}

@@ -21,11 +21,11 @@ use Rattle.rdx_grammar.proofs.DepthsRead.{bound_use, reading-makes}
 use Rattle.rdx_grammar.proofs.Firsts.{none_both}
 use Rattle.rdx_grammar.proofs.PassedPatterns.{are-passed, pattern-written, bound-are-names}
 use Rattle.rdx_grammar.proofs.KnownReadings.{pattern_known}
-use Rattle.rdx_defs.specs.Arguments.{data_at}
-use Rattle.rdx_defs.specs.ExtraReading.{items_reading, list_reading}
-use Rattle.rdx_defs.specs.Inside.Branches.{each}
-use Rattle.rdx_defs.specs.Inside.PartsHave.{AreReadable}
-use Rattle.rdx_defs.specs.Stands.{bound_by_patterns, bound_in}
+use Rattle.rdx_parts.specs.Arguments.{data_at}
+use Rattle.rdx_parts.specs.ExtraReading.{items_reading, list_reading}
+use Rattle.rdx_parts.specs.Outlines.{each}
+use Rattle.rdx_parts.specs.PartsHave.{AreReadable}
+use Rattle.rdx_parts.specs.Stands.{bound_by_patterns, bound_in}
 use Rattle.rdx_defs.proofs.AskingParts.{AsksWithin}
 use Rattle.rdx_defs.proofs.AgreeingUses.{agree-all, all-shallow}
 use Rattle.rdx_defs.proofs.BoundParts.{taken-written}

@@ -6,8 +6,8 @@ use Rattle.rdx_lang.specs.Programs.{Premise}
 use Rattle.rdx_lang.specs.ProgramView.{premise_of}
 use Rattle.rdx_lang.specs.declared.program.Premise as code
 use Rattle.rdx_grammar.specs.Readable.{IsReadable}
-use Rattle.rdx_defs.specs.Headed.{Headed}
-use Rattle.rdx_defs.specs.Inside.PartsHave.{IsReadableIn}
+use Rattle.rdx_parts.specs.Headed.{Headed}
+use Rattle.rdx_parts.specs.PartsHave.{IsReadableIn}
 use Rattle.rdx_defs.specs.JudgementForms.{JudgementForm, judgement_in, mode_form, mode_given, own_mode}
 
 -- ---- judgements

@@ -5,7 +5,7 @@ use Rattle.rdx_sexp.specs.Sexp.{Sexp, Sexps, list}
 use Rattle.rdx_sexp.specs.Size.{sexps_depth}
 use Rattle.rdx_grammar.specs.Parts.{listed}
 use Rattle.rdx_grammar.specs.Readable.{IsReadable}
-use Rattle.rdx_defs.specs.Inside.PartsHave.{AreReadable, IsReadableTaken}
+use Rattle.rdx_parts.specs.PartsHave.{AreReadable, IsReadableTaken}
 use Rattle.rdx_defs.proofs.InheritedParts.{items-readable, all-readable}
 use Rattle.rdx_defs.proofs.PartsOfForms.{Each, IsInherited}
 

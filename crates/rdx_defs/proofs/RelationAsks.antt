@@ -6,7 +6,7 @@ use Rattle.rdx_lang.proofs.MemberLaws.{append-left, append-right}
 use Rattle.rdx_grammar.specs.Ends.{ends_in}
 use Rattle.rdx_grammar.specs.Inside.Among.{AreAmong}
 use Rattle.rdx_grammar.specs.Readable.{IsReadable}
-use Rattle.rdx_defs.specs.Inside.Branches.{domain_patterns}
+use Rattle.rdx_defs.specs.Inside.FormOutlines.{domain_patterns}
 use Rattle.rdx_defs.specs.RelationEnds.{domain_ends, expanded_ends}
 use Rattle.rdx_defs.specs.RelationForms.{RelationForm}
 use Rattle.rdx_defs.proofs.AskingParts.{AsksWithin}

@@ -4,9 +4,9 @@ use Rattle.std.proofs.lemmas.List.{reverse-append}
 use Rattle.std.specs.Prelude.{Option, Some, None, option_map}
 use Rattle.rdx_sexp.specs.Sexp.{Sexp}
 use Rattle.rdx_sexp.specs.declared.datum.Datum.{Datum}
-use Rattle.rdx_defs.specs.Inside.Branches.{options_length}
+use Rattle.rdx_defs.specs.Inside.FormOutlines.{options_length}
 use Rattle.rdx_defs.specs.Inside.FormViews.{paired, next_of, keys_of, option_form_of}
-use Rattle.rdx_defs.specs.Inside.PartsHave.{AreReadable, AloneHave, IsReadableTaken}
+use Rattle.rdx_parts.specs.PartsHave.{AreReadable, AloneHave, IsReadableTaken}
 use Rattle.rdx_defs.specs.JudgementForms.{is_label, cut_name, OptionForm, is_any_keyword, with_option, cut_options, key_text}
 use Rattle.rdx_defs.specs.declared.judgements.forms.OptionForm as code
 

@@ -3,10 +3,11 @@ use Rattle.std.proofs.Common.{◌≡◌, ◌++◌, ◌<◌, ℕ, zero, suc, List
 use Rattle.std.specs.Prelude.{Option, Some}
 use Rattle.rdx_sexp.specs.Sexp.{Sexp}
 use Rattle.rdx_lang.specs.Programs.{Mode}
-use Rattle.rdx_defs.specs.Inside.Branches.{RuleBranch, in_rule, rule_branch, rule_branches}
-use Rattle.rdx_defs.specs.Inside.PartsHave.{Wanted, RuleHas, RulesHave}
+use Rattle.rdx_defs.specs.Inside.FormOutlines.{in_rule, rule_branch, rule_branches}
+use Rattle.rdx_parts.specs.Outlines.{RuleBranch}
+use Rattle.rdx_parts.specs.PartsHave.{Wanted, RuleHas, RulesHave}
 use Rattle.rdx_defs.specs.JudgementForms.{RuleForm, rule_form, own_rule}
-use Rattle.rdx_defs.specs.Scope.{Scope}
+use Rattle.rdx_parts.specs.Scope.{Scope}
 
 module _ (S : Scope) (W : Wanted) where
   -- two lists of rules

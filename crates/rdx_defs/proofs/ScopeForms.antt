@@ -12,16 +12,16 @@ use Rattle.rdx_grammar.specs.Parts.{parts, text_of}
 use Rattle.rdx_grammar.specs.PatternChecks as patterns
 use Rattle.rdx_grammar.specs.Readable.{IsReadable}
 use Rattle.rdx_grammar.proofs.Booleans.{and_both}
-use Rattle.rdx_defs.specs.ExtraForms.{ExtraForm, such_that, provided, confirmed, holding, freshly, name, no_extra, of_rule, form_at, is_condition}
-use Rattle.rdx_defs.specs.Headed.{Headed, headed}
+use Rattle.rdx_parts.specs.ExtraForms.{ExtraForm, such_that, provided, confirmed, holding, freshly, name, no_extra, ExtraPlace, of_rule, form_at, is_condition}
+use Rattle.rdx_parts.specs.Headed.{Headed, headed}
 use Rattle.rdx_defs.specs.JudgementForms.{RuleForm, rule_form, own_rule, OptionForm, JudgementForm, judgement_form, mode_form, mode_given, judgement_in, own_mode, key_text, is_fit_option, are_fit_options}
 use Rattle.rdx_defs.specs.JudgementReading.{mode_or_none}
 use Rattle.rdx_defs.specs.JudgementRefusal.{judgement_refusal}
 use Rattle.rdx_defs.specs.JudgementStands.{bound_by_inputs, conclusion_stands, premises_stand, name_stands, rule_stands, rules_stand, option_stands, options_stand, missing_mode, judgement_stands}
 use Rattle.rdx_defs.specs.MetafunctionReading.{text_in}
-use Rattle.rdx_defs.specs.Scope.{Scope}
+use Rattle.rdx_parts.specs.Scope.{Scope}
 use Rattle.rdx_defs.specs.Scopes.{are_conditions, is_rule_of, with_mode, judgement_by, judgement_moded, begins_with, defined_judgements}
-use Rattle.rdx_defs.specs.Stands.{Stand, misshaped, bound_by_extra, held_stands, extra_stands, is_named, extras_stand}
+use Rattle.rdx_parts.specs.Stands.{Stand, misshaped, bound_by_extra, held_stands, extra_stands, is_named, extras_stand}
 use Rattle.rdx_defs.proofs.FormRefusals.{ArePassed, judgement-passed}
 use Rattle.rdx_defs.proofs.PassedForms.{judgement-valid}
 use Rattle.rdx_defs.proofs.PassedStands.{passed-both}
@@ -30,7 +30,7 @@ module _ (S : Scope) (ns : List (List ℕ)) where
   -- ---- rules
 
   -- what passes is no datum without its shape
-  not_misshaped : (d : Sexp) → ArePassed S ns (misshaped d ∷ []) → ⊥
+  pub not_misshaped : (d : Sexp) → ArePassed S ns (misshaped d ∷ []) → ⊥
   not_misshaped d h = let z = h.shapes in cc
 
   -- a premise that passes has its shape
@@ -58,15 +58,15 @@ module _ (S : Scope) (ns : List (List ℕ)) where
   still-named name = refl
   still-named no_extra = refl
 
-  -- premises do
-  conditions-shaped : (bs : List patterns.Bound) (ds : List Sexp) → ArePassed S ns (extras_stand of_rule S ns bs true ds) → are_conditions of_rule ds ≡ true
-  conditions-shaped bs [] h = refl
-  conditions-shaped bs (d ∷ ds) h =
-      let e = form_at of_rule d in
+  -- extras do, wherever they stand
+  pub conditions-shaped : (k : ExtraPlace) (bs : List patterns.Bound) (ds : List Sexp) → ArePassed S ns (extras_stand k S ns bs true ds) → are_conditions k ds ≡ true
+  conditions-shaped k bs [] h = refl
+  conditions-shaped k bs (d ∷ ds) h =
+      let e = form_at k d in
       let cs = bs ++ bound_by_extra S ns e in
-      let p = passed-both S ns (extra_stands S ns bs true d e) (extras_stand of_rule S ns cs (is_named true e) ds) h in
-      and_both (is_condition e) (are_conditions of_rule ds) (condition-shaped bs d e p.0)
-      (conditions-shaped cs ds (subst (λ (b : Bool). ArePassed S ns (extras_stand of_rule S ns cs b ds)) (still-named e) p.1))
+      let p = passed-both S ns (extra_stands S ns bs true d e) (extras_stand k S ns cs (is_named true e) ds) h in
+      and_both (is_condition e) (are_conditions k ds) (condition-shaped bs d e p.0)
+      (conditions-shaped k cs ds (subst (λ (b : Bool). ArePassed S ns (extras_stand k S ns cs b ds)) (still-named e) p.1))
 
   -- those of a rule that passes
   premises-passed : (b : Bool) (ps xs cs : List Stand) → ArePassed S ns (if b then ps ++ xs ++ cs else cs ++ ps ++ xs) → ArePassed S ns ps
@@ -81,7 +81,7 @@ module _ (S : Scope) (ns : List (List ℕ)) where
       by_name : (b : Bool) → ArePassed S ns (rule_stands S ns m d (if b then Some r else None)) → (b && are_conditions of_rule r.premises) ≡ true
       by_name false k = absurd (not_misshaped d k)
       by_name true k =
-          conditions-shaped (bound_by_inputs ns m r) r.premises
+          conditions-shaped of_rule (bound_by_inputs ns m r) r.premises
           (premises-passed r.is_last (premises_stand S ns m r) (name_stands r.name) (conclusion_stands S ns m r) k)
 
   -- all are

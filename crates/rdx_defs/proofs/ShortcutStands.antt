@@ -6,7 +6,7 @@ use Rattle.rdx_grammar.specs.Parts.{text_of}
 use Rattle.rdx_grammar.proofs.Rests.{drop-at}
 use Rattle.rdx_defs.specs.RelationStands.{shortcut_stands, arrows_with, shortcuts_stand}
 use Rattle.rdx_defs.specs.Shorthand.{Shortcut, shortcut_form}
-use Rattle.rdx_defs.specs.Stands.{Stand, arrow, repeated}
+use Rattle.rdx_parts.specs.Stands.{Stand, arrow, repeated}
 use Rattle.rdx_defs.proofs.ShorthandRefused.{same-more, among-same, known-same}
 
 -- it depends on the texts alone that came

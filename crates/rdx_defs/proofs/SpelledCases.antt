@@ -9,7 +9,7 @@ use Rattle.rdx_grammar.specs.Kinds.{is_among}
 use Rattle.rdx_grammar.specs.Parts.{parts, listed, is_symbol, is_word, text_of}
 use Rattle.rdx_defs.specs.Expansion.{replaced, replaced_in, by_shortcut, once_expanded, expanded_case, settled, expanded_by, used_shortcuts}
 use Rattle.rdx_defs.specs.Inside.Filling.{deepest}
-use Rattle.rdx_defs.specs.Inside.PartsHave.{AreReadable}
+use Rattle.rdx_parts.specs.PartsHave.{AreReadable}
 use Rattle.rdx_defs.specs.RelationForms.{CaseForm, case_among, case_form}
 use Rattle.rdx_defs.specs.Shorthand.{Shortcut, is_new_arrow, shortcut_among, shortcut_of_lists, shortcut_form, with_shortcut, shortcuts_of, first_of_each}
 use Rattle.rdx_defs.proofs.PartsOfForms.{Each}

@@ -22,26 +22,29 @@ use Rattle.rdx_grammar.specs.declared.patterns.position.Position.TheVariants.{Qu
 use Rattle.rdx_grammar.proofs.Booleans.{and_true, and_both}
 use Rattle.rdx_grammar.proofs.DepthsRead.{bound_use}
 use Rattle.rdx_grammar.proofs.Firsts.{none_both}
-use Rattle.rdx_defs.specs.ExtraReading.{extras_reading}
-use Rattle.rdx_defs.specs.Inside.Branches.{one, Branch, taken_occurrences, bound_by_taken, taken_reading, bound_by_branch, case_branch, in_case, case_branches, domain_patterns, relation_outline, clause_branch, own_clause, in_clause, clause_branches, pattern_when, patterns_among, contract_patterns, metafunction_outline}
+use Rattle.rdx_parts.specs.ExtraReading.{extras_reading}
+use Rattle.rdx_defs.specs.Inside.FormOutlines.{case_branch, in_case, case_branches, domain_patterns, relation_outline, clause_branch, own_clause, in_clause, clause_branches, pattern_when, patterns_among, contract_patterns, metafunction_outline}
+use Rattle.rdx_parts.specs.Outlines.{one, Branch, taken_occurrences, bound_by_taken, taken_reading, bound_by_branch}
 use Rattle.rdx_defs.specs.Inside.BranchReadings.{branch_rule, branch_rules, branch_clause, branch_clauses}
 use Rattle.rdx_defs.specs.Inside.Contracts.{IsContractIn}
-use Rattle.rdx_defs.specs.Inside.PartsHave.{BranchHas, BranchesHave, AloneHave, OutlineHas, IsPattern, can_read}
+use Rattle.rdx_parts.specs.PartsHave.{BranchHas, BranchesHave, AloneHave, OutlineHas, IsPattern, can_read}
 use Rattle.rdx_defs.specs.MetafunctionForms.{ClauseForm, clause_form, ContractForm, MetafunctionForm}
-use Rattle.rdx_defs.specs.MetafunctionReading.{argument_items, with_clause, clauses_reading, closed_items, contract_reading}
+use Rattle.rdx_defs.specs.MetafunctionReading.{with_clause, clauses_reading, closed_items, contract_reading}
+use Rattle.rdx_parts.specs.ExtraReading.{argument_items}
 use Rattle.rdx_defs.specs.MetafunctionStands.{clause_stands, clauses_stand, contract_stands, function_stands}
 use Rattle.rdx_defs.specs.RelationForms.{CaseForm, case_form, RelationForm}
 use Rattle.rdx_defs.specs.RelationReading.{rules_reading, expanded_reading}
 use Rattle.rdx_defs.specs.RelationStands.{case_stands, cases_stand, domain_stands, expanded_stands, shortcuts_stand}
-use Rattle.rdx_defs.specs.Scope.{Scope, callable, has_metafunction}
-use Rattle.rdx_defs.specs.StandChecks.{bad_name, bad_names}
-use Rattle.rdx_defs.specs.Stands.{misshaped, function, template, names_bound, bound_by_extras, extras_stand}
-use Rattle.rdx_defs.specs.TemplateReading.{template_reading}
+use Rattle.rdx_parts.specs.Scope.{Scope, callable, has_metafunction}
+use Rattle.rdx_parts.specs.StandChecks.{bad_name, bad_names}
+use Rattle.rdx_parts.specs.Stands.{misshaped, function, template, names_bound, bound_by_extras, extras_stand}
+use Rattle.rdx_parts.specs.TemplateReading.{template_reading}
 use Rattle.rdx_defs.proofs.AlikeSymbols.{alike-none}
 use Rattle.rdx_defs.proofs.AskingParts.{BindsWithin}
 use Rattle.rdx_defs.proofs.BranchRules.{rules-branches}
 use Rattle.rdx_defs.proofs.FormRefusals.{ArePassed}
-use Rattle.rdx_defs.proofs.LoneStands.{branch_stands, contract-lone, domain-lone}
+use Rattle.rdx_defs.proofs.LoneStands.{contract-lone, domain-lone}
+use Rattle.rdx_parts.proofs.BranchStands.{branch_stands}
 use Rattle.rdx_defs.proofs.PartsOfForms.{bound}
 use Rattle.rdx_defs.proofs.PassedStands.{passed-both, pattern-first, template-first, arrow-first, fits-uses}
 use Rattle.rdx_defs.proofs.ValidExtras.{alike-taken, taken-passed, alone-good, extras-good}

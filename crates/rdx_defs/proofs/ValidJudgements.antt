@@ -26,24 +26,25 @@ use Rattle.rdx_grammar.specs.declared.patterns.position.Position.TheVariants.{Qu
 use Rattle.rdx_grammar.proofs.Booleans.{and_both}
 use Rattle.rdx_grammar.proofs.DepthsRead.{bound_use}
 use Rattle.rdx_grammar.proofs.Firsts.{none_first}
-use Rattle.rdx_defs.specs.Arguments.{is_misfit, data_by, patterns_in, templates_in}
-use Rattle.rdx_defs.specs.ExtraForms.{of_rule}
-use Rattle.rdx_defs.specs.ExtraReading.{items_reading, premise_reading}
-use Rattle.rdx_defs.specs.Headed.{Headed, headed}
-use Rattle.rdx_defs.specs.Inside.BareStands.{lone_pattern}
-use Rattle.rdx_defs.specs.Inside.Branches.{one, each, RuleBranch, rule_branch, in_rule, rule_branches, given_patterns, option_patterns, options_patterns, judgement_outline, question_outline}
+use Rattle.rdx_parts.specs.Arguments.{is_misfit, data_by, patterns_in, templates_in}
+use Rattle.rdx_parts.specs.ExtraForms.{of_rule}
+use Rattle.rdx_parts.specs.ExtraReading.{items_reading, premise_reading}
+use Rattle.rdx_parts.specs.Headed.{Headed, headed}
+use Rattle.rdx_parts.specs.BareStands.{lone_pattern}
+use Rattle.rdx_defs.specs.Inside.FormOutlines.{rule_branch, in_rule, rule_branches, given_patterns, option_patterns, options_patterns, judgement_outline, question_outline}
+use Rattle.rdx_parts.specs.Outlines.{one, each, RuleBranch}
 use Rattle.rdx_defs.specs.Inside.Contracts.{IsJudgementContract}
-use Rattle.rdx_defs.specs.Inside.PartsHave.{PremiseHas, RuleHas, RulesHave, AloneHave, OutlineHas, IsPattern, can_read}
+use Rattle.rdx_parts.specs.PartsHave.{PremiseHas, RuleHas, RulesHave, AloneHave, OutlineHas, IsPattern, can_read}
 use Rattle.rdx_defs.specs.JudgementForms.{RuleForm, rule_form, own_rule, OptionForm, JudgementForm, given_by, headed_by, mode_form, contract_form, judgement_in, is_flag, mode_given, own_mode, key_text, is_fit_option}
 use Rattle.rdx_defs.specs.JudgementReading.{rule_reading, with_rule, rules_reading, contract_reading, mode_or_none, judgement_reading}
 use Rattle.rdx_defs.specs.JudgementRefusal.{result_stands, lone_premise_stands}
 use Rattle.rdx_defs.specs.JudgementStands.{rule_arguments, bound_by_inputs, bound_by_rule, conclusion_stands, premises_stand, name_stands, rule_stands, rules_stand, flags_stand, mode_stands, contract_stands, given_stands, option_stands, options_stand, missing_mode, judgement_stands}
 use Rattle.rdx_defs.specs.MetafunctionReading.{closed_items, text_in}
 use Rattle.rdx_defs.specs.RelationForms.{is_keyword}
-use Rattle.rdx_defs.specs.Scope.{Scope, callable, has_metafunction}
-use Rattle.rdx_defs.specs.StandChecks.{bad_names}
-use Rattle.rdx_defs.specs.Stands.{Stand, misshaped, judgement, template, names_bound, bound_by_premise, bound_by_extras, arguments_stand, misfits, held_stands}
-use Rattle.rdx_defs.specs.TemplateReading.{template_reading}
+use Rattle.rdx_parts.specs.Scope.{Scope, callable, has_metafunction}
+use Rattle.rdx_parts.specs.StandChecks.{bad_names}
+use Rattle.rdx_parts.specs.Stands.{Stand, misshaped, judgement, template, names_bound, bound_by_premise, bound_by_extras, arguments_stand, misfits, held_stands}
+use Rattle.rdx_parts.specs.TemplateReading.{template_reading}
 use Rattle.rdx_defs.proofs.AlikeSymbols.{AreAlike, alike-none}
 use Rattle.rdx_defs.proofs.AskingParts.{BindsWithin}
 use Rattle.rdx_defs.proofs.BoundParts.{symbol-name}
@@ -51,7 +52,7 @@ use Rattle.rdx_defs.proofs.FormRefusals.{ArePassed}
 use Rattle.rdx_defs.proofs.PartsOfForms.{IsNamed, HeadedHas, HeadedHasIn, bound}
 use Rattle.rdx_defs.proofs.PassedStands.{mode-fits, passed-both, pattern-first, template-first, arguments-passed, misfits-false, fits-uses, all-fit}
 use Rattle.rdx_defs.proofs.PatternLists.{single-items, inputs-counted, outputs-counted, each-bound}
-use Rattle.rdx_defs.proofs.RepeatedNames.{not_false}
+use Rattle.rdx_parts.proofs.RepeatedNames.{not_false}
 use Rattle.rdx_defs.proofs.ValidExtras.{alike-taken, taken-passed, premise-good, extras-good}
 use Rattle.rdx_defs.proofs.ValidForms.{AreWell, with-well, closed-well_formed}
 

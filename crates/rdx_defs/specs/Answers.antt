@@ -1,19 +1,16 @@
--- What the readers answer.
-use Rattle.std.specs.Prelude.{◌≡◌, ℕ, List, [], Option, Some, None, option_map, Result, Ok, Err}
+-- What the readers of forms answer.
+use Rattle.std.specs.Prelude.{◌≡◌, ℕ, [], List, Option, Some, None, option_map, Result, Ok, Err}
 use Rattle.rdx_sexp.specs.Sexp.{Sexp}
 use Rattle.rdx_lang.specs.ProgramView.{relation_of, metafunction_of, judgement_of, premise_of}
-use Rattle.rdx_lang.specs.TemplateView.{template_of, host_of}
+use Rattle.rdx_lang.specs.TemplateView.{template_of}
 use Rattle.rdx_lang.specs.declared.program.Judgement.{Judgement}
 use Rattle.rdx_lang.specs.declared.program.Metafunction.{Metafunction}
 use Rattle.rdx_lang.specs.declared.program.Relation.{Relation}
-use Rattle.rdx_lang.specs.declared.template.HostExpr.{HostExpr}
-use Rattle.rdx_lang.specs.declared.template.Template.{Template}
 use Rattle.rdx_grammar.specs.Refusal.{refusal_of}
 use Rattle.rdx_grammar.specs.declared.shape.fault.DefFault.{DefFault}
 use Rattle.rdx_grammar.specs.declared.shape.fault.DefFault.TheVariants.{Refused, NoMemory}
-use Rattle.rdx_defs.specs.Bound.{Bound}
-use Rattle.rdx_defs.specs.ExtraReading.{premise_reading}
-use Rattle.rdx_defs.specs.Headed.{Headed, headed}
+use Rattle.rdx_parts.specs.ExtraReading.{premise_reading}
+use Rattle.rdx_parts.specs.Headed.{Headed, headed}
 use Rattle.rdx_defs.specs.JudgementForms.{JudgementForm, judgement_form}
 use Rattle.rdx_defs.specs.JudgementReading.{judgement_reading}
 use Rattle.rdx_defs.specs.JudgementRefusal.{judgement_refusal, premise_refusal}
@@ -23,35 +20,10 @@ use Rattle.rdx_defs.specs.MetafunctionRefusal.{metafunction_refusal}
 use Rattle.rdx_defs.specs.RelationForms.{RelationForm, relation_form}
 use Rattle.rdx_defs.specs.RelationReading.{relation_reading}
 use Rattle.rdx_defs.specs.RelationRefusal.{relation_refusal}
-use Rattle.rdx_defs.specs.Scope.{Scope}
-use Rattle.rdx_defs.specs.Stands.{names_bound, bound_by_premise}
-use Rattle.rdx_defs.specs.TemplateReading.{template_reading, host_reading}
-use Rattle.rdx_defs.specs.TemplateRefusal.{template_refusal, host_refusal}
+use Rattle.rdx_parts.specs.Scope.{Scope}
+use Rattle.rdx_parts.specs.Stands.{names_bound, bound_by_premise}
+use Rattle.rdx_parts.specs.TemplateReading.{template_reading}
 use Rattle.rdx_defs.specs.declared.judgements.premises.ReadPremise.{ReadPremise}
-
--- ---- templates
-
--- the datum is refused so as a template, unless memory ran out
-abbrev pub IsTemplateFault : Scope → Bound → Sexp → DefFault → Type 0
-IsTemplateFault S bs d (Refused r) = template_refusal S bs d ≡ Some (refusal_of r)
-IsTemplateFault S bs d NoMemory = Unit {0}
-
--- the datum is this template in this scope, where these names are bound, or it is refused so
-abbrev pub ReadsTemplate : Scope → Bound → Sexp → Result Template DefFault → Type 0
-ReadsTemplate S bs d (Ok t) = (template_refusal S bs d ≡ None) × (template_of t ≡ template_reading S bs d)
-ReadsTemplate S bs d (Err e) = IsTemplateFault S bs d e
-
--- ---- host expressions
-
--- the datum is refused so as a host expression, unless memory ran out
-abbrev pub IsHostFault : Scope → Bound → Sexp → DefFault → Type 0
-IsHostFault S bs d (Refused r) = host_refusal S bs d ≡ Some (refusal_of r)
-IsHostFault S bs d NoMemory = Unit {0}
-
--- the datum is this host expression in this scope, where these names are bound, or it is refused so
-abbrev pub ReadsHost : Scope → Bound → Sexp → Result HostExpr DefFault → Type 0
-ReadsHost S bs d (Ok h) = (host_refusal S bs d ≡ None) × (host_of h ≡ host_reading S bs d)
-ReadsHost S bs d (Err e) = IsHostFault S bs d e
 
 -- ---- metafunctions
 

@@ -4,16 +4,16 @@ use Rattle.rdx_sexp.specs.Sexp.{Sexp}
 use Rattle.rdx_lang.specs.Patterns.{Pattern, seq}
 use Rattle.rdx_lang.specs.Programs.{Mode, JudgementRule, Judgement}
 use Rattle.rdx_grammar.specs.Parts.{text_of}
-use Rattle.rdx_defs.specs.Arguments.{patterns_in, templates_in}
-use Rattle.rdx_defs.specs.ExtraForms.{of_rule}
-use Rattle.rdx_defs.specs.ExtraReading.{extras_reading, items_reading, list_reading, templates_reading}
-use Rattle.rdx_defs.specs.Headed.{Headed}
+use Rattle.rdx_parts.specs.Arguments.{patterns_in, templates_in}
+use Rattle.rdx_parts.specs.ExtraForms.{of_rule}
+use Rattle.rdx_parts.specs.ExtraReading.{extras_reading, items_reading, list_reading, templates_reading}
+use Rattle.rdx_parts.specs.Headed.{Headed}
 use Rattle.rdx_defs.specs.JudgementForms.{RuleForm, rule_form, own_rule, JudgementForm, judgement_in, contract_form, own_mode}
 use Rattle.rdx_defs.specs.JudgementStands.{rule_arguments, bound_by_inputs, bound_by_rule}
 use Rattle.rdx_defs.specs.MetafunctionReading.{closed_items, text_in}
-use Rattle.rdx_defs.specs.Scope.{Scope}
-use Rattle.rdx_defs.specs.StandChecks.{label}
-use Rattle.rdx_defs.specs.Stands.{names_bound}
+use Rattle.rdx_parts.specs.Scope.{Scope}
+use Rattle.rdx_parts.specs.StandChecks.{label}
+use Rattle.rdx_parts.specs.Stands.{names_bound}
 
 -- the rule of a form, by the mode of its judgement
 abbrev pub rule_reading : Scope → List (List ℕ) → Option Mode → RuleForm → JudgementRule

@@ -4,12 +4,12 @@ use Rattle.rdx_sexp.specs.Sexp.{Sexp}
 use Rattle.rdx_grammar.specs.PatternChecks as patterns
 use Rattle.rdx_grammar.specs.Refusal.{Refusal, first_refusal}
 use Rattle.rdx_grammar.specs.Unbuilt.{unbuilt_at}
-use Rattle.rdx_defs.specs.Headed.{headed}
+use Rattle.rdx_parts.specs.Headed.{headed}
 use Rattle.rdx_defs.specs.JudgementForms.{judgement_form}
 use Rattle.rdx_defs.specs.JudgementStands.{judgement_stands}
-use Rattle.rdx_defs.specs.Scope.{Scope}
-use Rattle.rdx_defs.specs.StandRefusal.{stands_refusal}
-use Rattle.rdx_defs.specs.Stands.{Stand, template, names_bound, bound_by_premise, held_stands}
+use Rattle.rdx_parts.specs.Scope.{Scope}
+use Rattle.rdx_parts.specs.StandRefusal.{stands_refusal}
+use Rattle.rdx_parts.specs.Stands.{Stand, template, names_bound, bound_by_premise, held_stands}
 
 -- the refusal of a datum as a judgement in this scope, over the nonterminals ns; S0 comes first
 abbrev pub judgement_refusal : Scope → List (List ℕ) → Sexp → Option Refusal

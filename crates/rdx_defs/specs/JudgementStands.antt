@@ -5,13 +5,13 @@ use Rattle.rdx_sexp.specs.Sexp.{Sexp}
 use Rattle.rdx_lang.specs.Programs.{Mode}
 use Rattle.rdx_grammar.specs.Occurrences.{occurrences}
 use Rattle.rdx_grammar.specs.PatternChecks as patterns
-use Rattle.rdx_defs.specs.Arguments.{Arguments, in_conclusion, is_misfit, patterns_in}
-use Rattle.rdx_defs.specs.ExtraForms.{of_rule}
-use Rattle.rdx_defs.specs.Headed.{Headed, headed}
+use Rattle.rdx_parts.specs.Arguments.{Arguments, in_conclusion, is_misfit, patterns_in}
+use Rattle.rdx_parts.specs.ExtraForms.{of_rule}
+use Rattle.rdx_parts.specs.Headed.{Headed, headed}
 use Rattle.rdx_defs.specs.JudgementForms.{RuleForm, rule_form, own_rule, OptionForm, JudgementForm, judgement_in, mode_form, own_mode, is_flag, key_text, is_fit_option}
 use Rattle.rdx_defs.specs.RelationForms.{is_keyword}
-use Rattle.rdx_defs.specs.Scope.{Scope}
-use Rattle.rdx_defs.specs.Stands.{Stand, misshaped, judgement, pattern, misfit, named, names_bound, bound_by_patterns, bound_by_extras, arguments_stand, misfits, extras_stand}
+use Rattle.rdx_parts.specs.Scope.{Scope}
+use Rattle.rdx_parts.specs.Stands.{Stand, misshaped, judgement, pattern, misfit, named, names_bound, bound_by_patterns, bound_by_extras, arguments_stand, misfits, extras_stand}
 
 -- ---- rules
 

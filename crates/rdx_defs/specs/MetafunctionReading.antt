@@ -1,24 +1,19 @@
 -- The metafunction that a form stands for, over the nonterminals ns of its language. A form that is refused has one too, which counts for nothing.
 use Rattle.std.specs.Prelude.{ℕ, List, [], ◌∷◌, Option, Some, None, option_map}
-use Rattle.rdx_sexp.specs.Sexp.{Sexp, sexps}
+use Rattle.rdx_sexp.specs.Sexp.{Sexp}
 use Rattle.rdx_lang.specs.Patterns as model
 use Rattle.rdx_lang.specs.Patterns.{Pattern, closed, seq, Items}
 use Rattle.rdx_lang.specs.Programs.{Clause, Metafunction}
-use Rattle.rdx_grammar.specs.Heads.{patterns as items_of_list}
 use Rattle.rdx_grammar.specs.Parts.{text_of}
-use Rattle.rdx_grammar.specs.Reading.{reading, items_among}
+use Rattle.rdx_grammar.specs.Reading.{reading}
 use Rattle.rdx_grammar.specs.declared.patterns.position.Position.TheVariants.{Query}
-use Rattle.rdx_defs.specs.ExtraForms.{of_clause}
-use Rattle.rdx_defs.specs.ExtraReading.{extras_reading}
+use Rattle.rdx_parts.specs.ExtraForms.{of_clause}
+use Rattle.rdx_parts.specs.ExtraReading.{argument_items, extras_reading}
 use Rattle.rdx_defs.specs.MetafunctionForms.{ClauseForm, clause_form, ContractForm, MetafunctionForm, function_in}
 use Rattle.rdx_defs.specs.MetafunctionStands.{bound_by_arguments, bound_by_clause}
-use Rattle.rdx_defs.specs.Scope.{Scope}
-use Rattle.rdx_defs.specs.Stands.{names_bound}
-use Rattle.rdx_defs.specs.TemplateReading.{template_reading}
-
--- the item patterns of these data, which stand as the items of a list pattern
-abbrev pub argument_items : List (List ℕ) → List Sexp → Items
-argument_items ns ds = items_among ns Query items_of_list (sexps ds)
+use Rattle.rdx_parts.specs.Scope.{Scope}
+use Rattle.rdx_parts.specs.Stands.{names_bound}
+use Rattle.rdx_parts.specs.TemplateReading.{template_reading}
 
 -- ---- clauses
 

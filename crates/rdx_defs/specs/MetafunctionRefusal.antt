@@ -5,8 +5,8 @@ use Rattle.rdx_grammar.specs.Refusal.{Refusal, first_refusal}
 use Rattle.rdx_grammar.specs.Unbuilt.{unbuilt_at}
 use Rattle.rdx_defs.specs.MetafunctionForms.{metafunction_form}
 use Rattle.rdx_defs.specs.MetafunctionStands.{metafunction_stands}
-use Rattle.rdx_defs.specs.Scope.{Scope}
-use Rattle.rdx_defs.specs.StandRefusal.{stands_refusal}
+use Rattle.rdx_parts.specs.Scope.{Scope}
+use Rattle.rdx_parts.specs.StandRefusal.{stands_refusal}
 
 -- the refusal of a datum as a metafunction in this scope, over the nonterminals ns; S0 comes first
 abbrev pub metafunction_refusal : Scope → List (List ℕ) → Sexp → Option Refusal

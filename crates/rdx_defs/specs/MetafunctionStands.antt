@@ -6,10 +6,10 @@ use Rattle.rdx_grammar.specs.Occurrences.{occurrences}
 use Rattle.rdx_grammar.specs.Parts.{text_of}
 use Rattle.rdx_grammar.specs.PatternChecks as patterns
 use Rattle.rdx_grammar.specs.Reading.{is_pattern}
-use Rattle.rdx_defs.specs.ExtraForms.{of_clause}
+use Rattle.rdx_parts.specs.ExtraForms.{of_clause}
 use Rattle.rdx_defs.specs.MetafunctionForms.{ClauseForm, clause_form, ContractForm, MetafunctionForm, function_in}
-use Rattle.rdx_defs.specs.Scope.{Scope}
-use Rattle.rdx_defs.specs.Stands.{Stand, misshaped, function, pattern, template, argument_occurrences, bound_among, names_bound, bound_by_extras, extras_stand}
+use Rattle.rdx_parts.specs.Scope.{Scope}
+use Rattle.rdx_parts.specs.Stands.{Stand, misshaped, function, pattern, template, argument_occurrences, bound_among, names_bound, bound_by_extras, extras_stand}
 
 -- ---- clauses
 

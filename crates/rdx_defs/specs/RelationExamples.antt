@@ -12,7 +12,7 @@ use Rattle.rdx_grammar.specs.declared.shape.fault.DefKind.TheVariants.{Shape, Du
 use Rattle.rdx_defs.specs.RelationForms.{RelationForm, relation_form}
 use Rattle.rdx_defs.specs.RelationReading.{relation_reading}
 use Rattle.rdx_defs.specs.RelationRefusal.{relation_refusal}
-use Rattle.rdx_defs.specs.Scope.{Scope}
+use Rattle.rdx_parts.specs.Scope.{Scope}
 
 -- without a metafunction
 abbrev pub no_scope : Scope

@@ -6,14 +6,14 @@ use Rattle.rdx_grammar.specs.Parts.{text_of}
 use Rattle.rdx_grammar.specs.Reading.{reading}
 use Rattle.rdx_grammar.specs.declared.patterns.position.Position.TheVariants.{Query}
 use Rattle.rdx_defs.specs.Expansion.{expanded_form}
-use Rattle.rdx_defs.specs.ExtraForms.{ExtraForm, such_that, provided, confirmed, holding, freshly, name, no_extra, of_case, form_at}
-use Rattle.rdx_defs.specs.ExtraReading.{extras_reading}
+use Rattle.rdx_parts.specs.ExtraForms.{ExtraForm, such_that, provided, confirmed, holding, freshly, name, no_extra, of_case, form_at}
+use Rattle.rdx_parts.specs.ExtraReading.{extras_reading}
 use Rattle.rdx_defs.specs.RelationForms.{CaseForm, case_form, RelationForm}
 use Rattle.rdx_defs.specs.RelationStands.{bound_by_case}
-use Rattle.rdx_defs.specs.Scope.{Scope}
-use Rattle.rdx_defs.specs.StandChecks.{label}
-use Rattle.rdx_defs.specs.Stands.{bound_in, names_bound}
-use Rattle.rdx_defs.specs.TemplateReading.{template_reading}
+use Rattle.rdx_parts.specs.Scope.{Scope}
+use Rattle.rdx_parts.specs.StandChecks.{label}
+use Rattle.rdx_parts.specs.Stands.{bound_in, names_bound}
+use Rattle.rdx_parts.specs.TemplateReading.{template_reading}
 
 -- the name that such an extra is, before the one that comes later
 abbrev pub name_before : Sexp → ExtraForm → Option (List ℕ) → Option (List ℕ)

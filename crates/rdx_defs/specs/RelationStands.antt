@@ -6,11 +6,11 @@ use Rattle.rdx_grammar.specs.Occurrences.{occurrences}
 use Rattle.rdx_grammar.specs.Parts.{text_of}
 use Rattle.rdx_grammar.specs.PatternChecks as patterns
 use Rattle.rdx_defs.specs.Expansion.{expanded_form}
-use Rattle.rdx_defs.specs.ExtraForms.{of_case}
+use Rattle.rdx_parts.specs.ExtraForms.{of_case}
 use Rattle.rdx_defs.specs.RelationForms.{CaseForm, case_form, RelationForm}
-use Rattle.rdx_defs.specs.Scope.{Scope}
+use Rattle.rdx_parts.specs.Scope.{Scope}
 use Rattle.rdx_defs.specs.Shorthand.{behind_with, Shortcut, shortcut_form, is_known_arrow}
-use Rattle.rdx_defs.specs.Stands.{Stand, misshaped, arrow, pattern, template, repeated, bound_in, names_bound, bound_by_extras, extras_stand}
+use Rattle.rdx_parts.specs.Stands.{Stand, misshaped, arrow, pattern, template, repeated, bound_in, names_bound, bound_by_extras, extras_stand}
 
 -- the symbols that bind names in the pattern and the extras of a case
 abbrev pub bound_by_case : Scope → List (List ℕ) → CaseForm → List patterns.Bound

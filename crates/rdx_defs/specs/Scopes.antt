@@ -6,10 +6,10 @@ use Rattle.rdx_sexp.specs.Sexp.{Sexp}
 use Rattle.rdx_lang.specs.Programs.{Mode}
 use Rattle.rdx_grammar.specs.Parts.{parts, is_word, text_of}
 use Rattle.rdx_grammar.specs.Reading.{name_in}
-use Rattle.rdx_defs.specs.ExtraForms.{of_clause, of_rule, form_at, ExtraPlace, is_condition}
+use Rattle.rdx_parts.specs.ExtraForms.{of_clause, of_rule, form_at, ExtraPlace, is_condition}
 use Rattle.rdx_defs.specs.JudgementForms.{RuleForm, rule_form, JudgementForm, judgement_form, judgement_in, own_mode, are_fit_options}
 use Rattle.rdx_defs.specs.MetafunctionForms.{ClauseForm, clause_form, MetafunctionForm, metafunction_form, function_in}
-use Rattle.rdx_defs.specs.Scope.{Scope}
+use Rattle.rdx_parts.specs.Scope.{Scope}
 
 -- all these are what they are to be at such a place, other than names
 abbrev pub are_conditions : ExtraPlace → List Sexp → Bool

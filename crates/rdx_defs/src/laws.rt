@@ -1,6 +1,4 @@
 //! Laws of the definitions: functions that do nothing, whose contracts are the laws.
-ghost use Rattle.rdx_defs.specs.Examples.{BareEllipsisRefused, Calls, CountRefused, DepthRefused, EscapeRefused, Evaluates, Fills, KeywordFirst, KeywordRefused, ListsBehind, Repeats, ShapeRefused, StandsForItself, UndrivenRefused};
-ghost use Rattle.rdx_defs.specs.Laws.{NeverBothHost, NeverBothTemplate, NeverNeitherHost, NeverNeitherTemplate, OneHost, OneHostRefusal, OneTemplate, OneTemplateRefusal};
 ghost use Rattle.rdx_defs.specs.JudgementExamples.{AheadMeans, BehindMeans, SeesNoOutput, ConfirmsTerm, ConclusionRefused, NoModeRefused, UnknownRefused};
 ghost use Rattle.rdx_defs.specs.JudgementLaws.{NeverBothJudgement, NeverNeitherJudgement, OneJudgement, OneJudgementRefusal};
 ghost use Rattle.rdx_defs.specs.MetafunctionExamples.{CallsAnother, ClosesContract, NamedClauseRefused, OtherNameRefused};
@@ -8,24 +6,6 @@ ghost use Rattle.rdx_defs.specs.MetafunctionLaws.{NeverBothMetafunction, NeverNe
 ghost use Rattle.rdx_defs.specs.RelationExamples.{ArrowRefused, BindsBehind, ClashRefused, ExtraRefused, FreshRefused, MakesFresh, NameRefused, ResultRefused};
 ghost use Rattle.rdx_defs.specs.ShorthandExamples.{AgainRefused, GoesOn, LaterRefused, OneEach, PlainStays, PutInStays, SameRefused};
 ghost use Rattle.rdx_defs.specs.RelationLaws.{NeverBothRelation, NeverNeitherRelation, OneRelation, OneRelationRefusal};
-
-/// Where given names are bound, a datum is one template at most, or has one refusal at most, and
-/// always one of both.
-pub fn one_template()
-    ensures template { OneTemplate }
-    ensures refusal { OneTemplateRefusal }
-    ensures never_both { NeverBothTemplate }
-    ensures never_neither { NeverNeitherTemplate }
-{}
-
-/// Where given names are bound, a datum is one host expression at most, or has one refusal at most,
-/// and always one of both.
-pub fn one_host()
-    ensures host { OneHost }
-    ensures refusal { OneHostRefusal }
-    ensures never_both { NeverBothHost }
-    ensures never_neither { NeverNeitherHost }
-{}
 
 /// Over given nonterminals, a datum is one metafunction at most, or has one refusal at most, and
 /// always one of both.
@@ -52,24 +32,6 @@ pub fn one_relation()
     ensures refusal { OneRelationRefusal }
     ensures never_both { NeverBothRelation }
     ensures never_neither { NeverNeitherRelation }
-{}
-
-/// Worked examples: what some data are as templates, and where others are refused as ones.
-pub fn worked_examples()
-    ensures repeats { Repeats }
-    ensures fills { Fills }
-    ensures stands_for_itself { StandsForItself }
-    ensures keyword { KeywordRefused }
-    ensures keyword_first { KeywordFirst }
-    ensures shape { ShapeRefused }
-    ensures depth { DepthRefused }
-    ensures undriven { UndrivenRefused }
-    ensures calls { Calls }
-    ensures lists_behind { ListsBehind }
-    ensures evaluates { Evaluates }
-    ensures escape { EscapeRefused }
-    ensures count { CountRefused }
-    ensures bare_ellipsis { BareEllipsisRefused }
 {}
 
 /// Worked examples: what a datum is as a relation, and where others are refused as ones.

@@ -6,22 +6,23 @@ ghost use Rattle.std.specs.Prelude.{◌≡◌, ◌++◌, [], Some, IfOk, map, op
 ghost use Rattle.rdx_term.specs.Spelling.{is_name};
 ghost use Rattle.rdx_grammar.specs.Parts.{parts, text_of};
 ghost use Rattle.rdx_grammar.specs.Reading.{name_in};
-ghost use Rattle.rdx_defs.specs.ExtraForms as all;
-ghost use Rattle.rdx_defs.specs.Inside.FormViews.{extra_form_of, judgement_form_of, paired, place_of};
+ghost use Rattle.rdx_parts.specs.ExtraForms as all;
+ghost use Rattle.rdx_defs.specs.Inside.FormViews.{judgement_form_of, paired};
+ghost use Rattle.rdx_parts.specs.PartViews.{extra_form_of, place_of};
 ghost use Rattle.rdx_defs.specs.Inside.ScopeParts.{defining_form};
 ghost use Rattle.rdx_defs.specs.JudgementForms as rules;
 ghost use Rattle.rdx_defs.specs.MetafunctionForms as forms;
-ghost use Rattle.rdx_defs.specs.Scope as scope;
+ghost use Rattle.rdx_parts.specs.Scope as scope;
 ghost use Rattle.rdx_defs.specs.Scopes as model;
 
-use crate::Scope;
-use crate::arguments::headed_list;
-use crate::extras::{ExtraForm, ExtraPlace, form_at};
 use crate::judgements::forms::{
     JudgementForm, is_fit_option, judgement_form, judgement_in, next_option, own_mode, rule_form,
 };
 use crate::metafunctions::forms::{clause_form, function_in, metafunction_form};
 use rdx_grammar::shape::{is_word, items, symbol, text};
+use rdx_parts::Scope;
+use rdx_parts::arguments::headed_list;
+use rdx_parts::extras::{ExtraForm, ExtraPlace, form_at};
 use rdx_sexp::Datum;
 use rdx_term::{Name, NoMemory};
 use std::alloc::Global;

@@ -6,5 +6,6 @@ pub mod Does
 pub mod Table
 pub mod Entries
 pub mod Examples
+pub mod Laws
 pub mod Inside
 pub mod Model

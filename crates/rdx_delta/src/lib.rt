@@ -9,7 +9,7 @@
 //! one entry for each operation. So who asks a table knows what it answers, whatever functions it
 //! was made of. The functions of this crate are [`host_add`] to [`host_not`]. How an operation is
 //! written, and how many arguments it takes, is in `specs/Operations.antt` ([`operation_named`],
-//! [`operation_text`], [`takes`]). Worked examples are proved ([`laws`]).
+//! [`operation_text`], [`takes`]). Laws and worked examples are proved ([`laws`]).
 #![tactic(auto)]
 
 mod answer;
@@ -22,8 +22,6 @@ pub mod laws;
 mod operations;
 mod refusal;
 mod table;
-#[cfg(test)]
-mod tests;
 
 pub use answer::HostAnswer;
 pub use arithmetic::{

@@ -8,6 +8,7 @@ pub mod Sequences
 pub mod OneAnswer
 pub mod FiniteMaps
 pub mod SomeAnswer
+pub mod Reached
 pub mod Staying
 pub mod ItemEquations
 pub mod Items
@@ -27,3 +28,4 @@ pub mod FreshExamples
 pub mod ClauseExamples
 pub mod FreshLaws
 pub mod HeldPremises
+pub mod TakenOutputs

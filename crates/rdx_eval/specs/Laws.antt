@@ -1,18 +1,26 @@
 -- What follows from the definitions, stated for the contracts of the module of laws.
-use Rattle.std.specs.Prelude.{◌≡◌, ◌≢◌, ◌↔◌, ℕ, ◌+◌, ◌<◌, ◌^◌, Bool, true, List, [], ◌∷◌, ◌++◌, length, Some, if◌then◌else◌}
+use Rattle.std.specs.Prelude.{◌≡◌, ◌≢◌, ◌↔◌, ℕ, zero, suc, ◌+◌, ◌<◌, ◌^◌, IsTrue, true, List, ◌∷◌, ◌++◌, length, Some}
 use Rattle.rdx_term.specs.Tree.{Tree, symbol}
 use Rattle.rdx_lang.specs.Bindings.{Binding, one, no_names, value_at}
 use Rattle.rdx_lang.specs.Edges.{IsFree}
+use Rattle.rdx_lang.specs.Join.{IsJoin}
+use Rattle.rdx_lang.specs.Listing.{IsListing}
 use Rattle.rdx_lang.specs.Members.{In}
-use Rattle.rdx_lang.specs.Patterns.{wild, Language}
-use Rattle.rdx_lang.specs.Programs.{Extra, fresh, Premise, Program}
+use Rattle.rdx_lang.specs.Modes.{output_count}
+use Rattle.rdx_lang.specs.Order.{binding_cmp}
+use Rattle.rdx_lang.specs.Patterns.{Items, Language, nil, seq, wild}
+use Rattle.rdx_lang.specs.Patterns.{one as one_item}
+use Rattle.rdx_lang.specs.Programs.{Extra, fresh, Judgement, judgement_named, Premise, Program}
+use Rattle.rdx_lang.specs.Rules.{Match}
 use Rattle.rdx_lang.specs.Templates.{Template}
-use Rattle.rdx_eval.specs.Answers.{Answer, value, fault, Fault, undefined, ambiguous, spent, not_context, too_deep, too_large, lengths_differ, outside, overflow, divide_by_zero}
-use Rattle.rdx_eval.specs.Extending.{Extend, Meets}
+use Rattle.rdx_lang.specs.Valid.{is_valid_judgement_of}
+use Rattle.rdx_eval.specs.Answers.{Answer, value, fault, Then, Fault, undefined, ambiguous, spent, not_context, too_deep, too_large, lengths_differ, outside, overflow, divide_by_zero}
+use Rattle.rdx_eval.specs.Calls.{Calls}
+use Rattle.rdx_eval.specs.Extending.{ByPremise, Extend, Meets}
 use Rattle.rdx_eval.specs.Fresh.{Avoided, avoiding, symbols, symbols_of, fresh_symbol}
 use Rattle.rdx_eval.specs.Heights.{calls_at}
 use Rattle.rdx_eval.specs.Instantiation.{Makes, MakeList}
-use Rattle.rdx_eval.specs.Judgements.{Holds}
+use Rattle.rdx_eval.specs.Judgements.{Holds, are_some}
 
 -- at most one answer
 abbrev pub Once : {A : Type 0} → (Answer A → Type 0) → Type 0
@@ -145,27 +153,75 @@ FreshDiffer =
     → AreFew w (es ++ fresh x ∷ fs ++ fresh y ∷ gs) → IsMade L P n w (es ++ fresh x ∷ fs ++ fresh y ∷ gs) c
     → value_at c x ≢ value_at c y
 
+-- ---- premises
+
+-- The premise leads from b to c: its inputs are made of b, for these its judgement is answered lists of outputs, and its pattern matches one of
+-- them by a binding of which c is the join with b.
+pub record IsLedTo (L : Language) (C : Calls) (q : Premise) (b c : Binding) : Type 0 where
+  pub inputs : Tree
+  pub outputs : List Tree
+  pub given : Tree
+  pub found : Binding
+  pub made : MakeList C b q.inputs (value inputs)
+  pub answered : C.outputs_of q.judgement inputs (value outputs)
+  pub among : In given outputs
+  pub matched : Match L q.outputs given found
+  pub joined : IsJoin b found c
+
+-- where it has no fault, a premise makes of a binding exactly those that it leads to
+abbrev pub PremiseLeads : Type 0
+PremiseLeads =
+    (L : Language) (P : Program) (n : ℕ) (q : Premise) (b : Binding) (cs : List Binding) → ByPremise L (calls_at P n) q b (value cs)
+    → (c : Binding) → (In c cs ↔ IsLedTo L (calls_at P n) q b c)
+
+-- and by itself it is met by exactly those that it leads to from the binding of no name, which are the bindings of its pattern
+abbrev pub MeetsLists : Type 0
+MeetsLists =
+    (L : Language) (P : Program) (n : ℕ) (q : Premise) (bs : List Binding) → Meets L (calls_at P n) q (value bs)
+    → IsListing binding_cmp bs (IsLedTo L (calls_at P n) q no_names)
+
+-- no fault comes of its pattern: it has exactly the fault of its inputs, or else that of its judgement for them
+abbrev pub PremiseFaults : Type 0
+PremiseFaults =
+    (L : Language) (P : Program) (n : ℕ) (q : Premise) (b : Binding) (f : Fault)
+    → (ByPremise L (calls_at P n) q b (fault f)
+    ↔ Then (MakeList (calls_at P n) b q.inputs) ((calls_at P n).outputs_of q.judgement) (fault f))
+
 -- ---- judgements and premises
 
--- the premise that asks a judgement for any outputs
-abbrev pub asking : List ℕ → List Template → Premise
-asking j ts = record { judgement = j; inputs = ts; outputs = wild }
+-- the pattern matches each list of outputs that the judgement of the premise is answered for the inputs a
+abbrev pub TakesAll : Language → Calls → Premise → Tree → Type 0
+TakesAll L C q a =
+    (ts : List Tree) (t : Tree) → C.outputs_of q.judgement a (value ts) → In t ts → (b : Binding) × Match L q.outputs t b
 
--- A judgement holds of inputs exactly where that premise is met: by the binding of no name, which no output changes. Else no binding meets it.
+-- `_` for each of n outputs
+abbrev pub any_items : ℕ → Items
+any_items zero = nil
+any_items (suc n) = one_item wild (any_items n)
+
+-- the premise that asks a judgement for any n outputs, as `(j 1 _ _)` does for two
+abbrev pub asking : List ℕ → List Template → ℕ → Premise
+asking j ts n = record { judgement = j; inputs = ts; outputs = seq (any_items n) }
+
+-- of a judgement that is valid in its program it takes all, with one `_` for each output of the mode
+abbrev pub AskingTakesAll : Type 0
+AskingTakesAll =
+    (L : Language) (P : Program) (n : ℕ) (J : Judgement) (j : List ℕ) (ts : List Template) (a : Tree) → judgement_named P j ≡ Some J
+    → IsTrue (is_valid_judgement_of P J) → TakesAll L (calls_at P n) (asking j ts (output_count J.mode)) a
+
+-- where a premise takes all, the judgement holds exactly where some binding meets it
 abbrev pub HoldsExactlyIfMet : Type 0
 HoldsExactlyIfMet =
-    (L : Language) (P : Program) (n : ℕ) (j : List ℕ) (ts : List Template) (a : Tree) (v : Bool)
-    → MakeList (calls_at P n) no_names ts (value a)
-    → (Holds (calls_at P n) j a (value v) ↔ Meets L (calls_at P n) (asking j ts) (value (if v then no_names ∷ [] else [])))
+    (L : Language) (P : Program) (n : ℕ) (q : Premise) (a : Tree) (bs : List Binding) → MakeList (calls_at P n) no_names q.inputs (value a)
+    → TakesAll L (calls_at P n) q a → Meets L (calls_at P n) q (value bs) → Holds (calls_at P n) q.judgement a (value (are_some bs))
 
--- and it has a fault exactly where that premise has it
+-- it has a fault exactly where the premise has it, whatever the pattern is
 abbrev pub HasSameFault : Type 0
 HasSameFault =
-    (L : Language) (P : Program) (n : ℕ) (j : List ℕ) (ts : List Template) (a : Tree) (f : Fault)
-    → MakeList (calls_at P n) no_names ts (value a)
-    → (Holds (calls_at P n) j a (fault f) ↔ Meets L (calls_at P n) (asking j ts) (fault f))
+    (L : Language) (P : Program) (n : ℕ) (q : Premise) (a : Tree) (f : Fault) → MakeList (calls_at P n) no_names q.inputs (value a)
+    → (Holds (calls_at P n) q.judgement a (fault f) ↔ Meets L (calls_at P n) q (fault f))
 
--- where a premise is met, whatever the outputs have to match, its judgement holds
+-- and where a premise is met, whatever its pattern is, its judgement holds
 abbrev pub MetHolds : Type 0
 MetHolds =
     (L : Language) (P : Program) (n : ℕ) (q : Premise) (a : Tree) (b : Binding) (bs : List Binding)

@@ -1,5 +1,5 @@
 //! Laws of evaluation: functions that do nothing, whose contracts are the laws.
-ghost use Rattle.rdx_eval.specs.Laws.{OneValue, SomeValue, OneOutputs, SomeOutputs, ValuesStay, OutputsStay, OneTerm, SomeTerm, OneExtension, SomeExtension, OneMeeting, SomeMeeting, FreshIsFree, FreshStandsNowhere, FreshDiffer, HoldsExactlyIfMet, HasSameFault, MetHolds};
+ghost use Rattle.rdx_eval.specs.Laws.{OneValue, SomeValue, OneOutputs, SomeOutputs, ValuesStay, OutputsStay, OneTerm, SomeTerm, OneExtension, SomeExtension, OneMeeting, SomeMeeting, FreshIsFree, FreshStandsNowhere, FreshDiffer, PremiseLeads, MeetsLists, PremiseFaults, AskingTakesAll, HoldsExactlyIfMet, HasSameFault, MetHolds};
 ghost use Rattle.rdx_eval.specs.CallExamples.{RemainderOfNegative, CutTowardZero, WrongKind, ByZero, AndStops, AndGivesTheLast, NothingToFail, OrStops, NothingHolds, FalseTakesAway, ZeroIsTrue, SpentAtNone, NotThere};
 ghost use Rattle.rdx_eval.specs.JudgementExamples.{SpentJudgement, NoJudgement, NoRule, AllRules, NotMet, LaterFault};
 ghost use Rattle.rdx_eval.specs.ClauseExamples.{OneClause, FirstDecides, NextIsTried, NoneTakes, ConditionHolds, ConditionFails, FaultStops, ConditionChooses, TwoLeast, MarksCount, SameOfBoth, WhereTwice, NeverEnds, SpentAtOne, AnsweredAtTwo, PremiseBinds, TwoOutputs, ContextMadeFirst, PartBeforeFilling, PathGoesOn};
@@ -47,17 +47,29 @@ pub fn one_meeting()
     ensures some { SomeMeeting }
 {}
 
-/// A name that is bound freshly stands for a symbol that is none of those it avoids, where they are
-/// fewer than 10^64: it stands nowhere in the whole term, and two such names stand for two symbols.
+/// A name that is bound freshly stands for a symbol that is none of those it avoids, where these
+/// are fewer than 10^64. Where the symbols of the whole term and the extras are together fewer than
+/// that, it stands nowhere in the whole term, and two such names stand for two symbols.
 pub fn fresh_is_fresh()
     ensures free { FreshIsFree }
     ensures nowhere { FreshStandsNowhere }
     ensures differ { FreshDiffer }
 {}
 
-/// A judgement holds of inputs exactly where the premise is met that asks it for any outputs, and
-/// has the faults of that premise; and where any premise is met, its judgement holds.
+/// A premise leads from a binding to those that are its joins with what the pattern binds at one
+/// of the lists of outputs of its judgement; and its faults are those of its inputs and of its
+/// judgement.
+pub fn premises_lead()
+    ensures each { PremiseLeads }
+    ensures lists { MeetsLists }
+    ensures faults { PremiseFaults }
+{}
+
+/// A judgement holds of inputs exactly where a premise is met whose pattern takes all its outputs,
+/// as one does that asks for any, and has the faults of each premise; and where any premise is met,
+/// its judgement holds.
 pub fn holds_is_met()
+    ensures takes { AskingTakesAll }
     ensures holds { HoldsExactlyIfMet }
     ensures fault { HasSameFault }
     ensures met { MetHolds }

@@ -14,8 +14,6 @@ mod items;
 pub mod laws;
 mod paths;
 mod places;
-#[cfg(test)]
-mod tests;
 
 pub use error::FillFault;
 pub use filling::fill;

@@ -7,6 +7,6 @@ mod completion;
 mod nameless;
 mod ways;
 
-pub(crate) use checked::check_with_crosses;
+pub(crate) use checked::known_with_crosses;
 pub use checked::{add_crosses_for, add_crosses_of, cross_of};
 pub(crate) use completion::complete;

@@ -98,11 +98,11 @@ decomposition_cmp-tells d e h =
 
 module _ {A : Type 0} (cmp : A → A → Ordering) (o : IsTotalOrder cmp) where
   -- nothing is below itself
-  not_below_itself : (x : A) → cmp x x ≡ Less → ⊥
+  pub not_below_itself : (x : A) → cmp x x ≡ Less → ⊥
   not_below_itself x h = let e : cmp x x ≡ Equal = tied_itself o x in cc
 
   -- what is below a list is below each of its members
-  below_member : (x y : A) (ys : List A) → IsBelow cmp x ys → In y ys → cmp x y ≡ Less
+  pub below_member : (x y : A) (ys : List A) → IsBelow cmp x ys → In y ys → cmp x y ≡ Less
   below_member x y [] b h = elim h [ ]
   below_member x y (z ∷ ys) b (here e) = subst (λ (w : A). cmp x w ≡ Less) (sym e) b.0
   below_member x y (z ∷ ys) b (there h) = below_member x y ys b.1 h

@@ -89,12 +89,12 @@ abbrev pub is_valid_beside : Program → Relation → Bool
 is_valid_beside P R = is_valid_over (callable_in P) (language_named P R.language) R
 
 -- a metafunction of a program is
-abbrev pub is_valid_in : Program → Metafunction → Bool
-is_valid_in P M = is_valid_metafunction (callable_in P) (language_named P M.language) M
+abbrev pub is_valid_metafunction_of : Program → Metafunction → Bool
+is_valid_metafunction_of P M = is_valid_metafunction (callable_in P) (language_named P M.language) M
 
 -- a judgement of a program is
-abbrev pub is_valid_form : Program → Judgement → Bool
-is_valid_form P J = is_valid_judgement (callable_in P) (language_named P J.language) J
+abbrev pub is_valid_judgement_of : Program → Judgement → Bool
+is_valid_judgement_of P J = is_valid_judgement (callable_in P) (language_named P J.language) J
 
 -- x is none of these
 abbrev pub is_new : List ℕ → List (List ℕ) → Bool
@@ -115,4 +115,4 @@ defined_names P =
 abbrev pub is_valid : Program → Bool
 is_valid P =
     are_distinct (defined_names P)
-    && (list_all (is_valid_in P) P.metafunctions && (list_all (is_valid_form P) P.judgements && list_all (is_valid_beside P) P.relations))
+    && (list_all (is_valid_metafunction_of P) P.metafunctions && (list_all (is_valid_judgement_of P) P.judgements && list_all (is_valid_beside P) P.relations))

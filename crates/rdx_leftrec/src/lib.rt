@@ -12,8 +12,6 @@ mod empty;
 mod nonterminals;
 mod ranks;
 mod recursion;
-#[cfg(test)]
-mod tests;
 mod walk;
 
 pub use recursion::{LeftRec, check};

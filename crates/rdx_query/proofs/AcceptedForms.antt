@@ -23,9 +23,9 @@ use Rattle.rdx_defs.specs.MetafunctionStands.{metafunction_stands}
 use Rattle.rdx_defs.specs.RelationForms.{RelationForm, relation_form}
 use Rattle.rdx_defs.specs.RelationReading.{relation_reading}
 use Rattle.rdx_defs.specs.RelationStands.{relation_stands}
-use Rattle.rdx_defs.specs.StandChecks.{shape_at, repeated_name_at}
-use Rattle.rdx_defs.specs.StandRefusal.{stands_refusal}
-use Rattle.rdx_defs.specs.Stands.{Stand}
+use Rattle.rdx_parts.specs.StandChecks.{shape_at, repeated_name_at}
+use Rattle.rdx_parts.specs.StandRefusal.{stands_refusal}
+use Rattle.rdx_parts.specs.Stands.{Stand}
 use Rattle.rdx_query.specs.DefineParts.{DefineParts}
 use Rattle.rdx_query.specs.JudgementForms.{form_names, judgement_refusal_by, judgement_by}
 use Rattle.rdx_query.specs.Known.{Known}

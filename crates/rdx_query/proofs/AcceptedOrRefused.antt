@@ -17,8 +17,8 @@ use Rattle.rdx_grammar.specs.Unbuilt.{unbuilt_at}
 use Rattle.rdx_grammar.specs.Refused.{recursion_at}
 use Rattle.rdx_grammar.specs.declared.shape.fault.DefKind.TheVariants.{Shape, RacketEscape}
 use Rattle.rdx_grammar.specs.declared.patterns.position.Position.TheVariants as position
-use Rattle.rdx_defs.specs.Earliest.{start}
-use Rattle.rdx_defs.specs.Headed.{Headed, headed}
+use Rattle.rdx_parts.specs.Earliest.{start}
+use Rattle.rdx_parts.specs.Headed.{Headed, headed}
 use Rattle.rdx_defs.specs.JudgementForms.{JudgementForm, judgement_form}
 use Rattle.rdx_defs.specs.JudgementReading.{judgement_reading}
 use Rattle.rdx_defs.specs.JudgementRefusal.{result_stands}
@@ -27,8 +27,8 @@ use Rattle.rdx_defs.specs.MetafunctionReading.{metafunction_reading}
 use Rattle.rdx_defs.specs.RelationForms.{RelationForm, relation_form}
 use Rattle.rdx_defs.specs.RelationReading.{relation_reading}
 use Rattle.rdx_defs.specs.RelationStands.{relation_stands}
-use Rattle.rdx_defs.specs.StandChecks.{shape_faults, shape_at, bad_name_at, bad_place_at, depth_fault_at, unknown_name_at, undriven_at, escape_at as stands_escape_at, mode_fault_at}
-use Rattle.rdx_defs.specs.Stands.{misshaped, held_stands, bound_by_premise}
+use Rattle.rdx_parts.specs.StandChecks.{shape_faults, shape_at, bad_name_at, bad_place_at, depth_fault_at, unknown_name_at, undriven_at, escape_at as stands_escape_at, mode_fault_at}
+use Rattle.rdx_parts.specs.Stands.{misshaped, held_stands, bound_by_premise}
 use Rattle.rdx_query.specs.ClosureForms.{closed_relation, closure_names, closure_language_at, unknown_closed_at, closure_shape_at, no_nonterminal_at, misshaped_refusal, context_refusal_by, context_relation_by, compatible_refusal_by, compatible_relation_by}
 use Rattle.rdx_query.specs.DefineForms.{define_refusal_by, defined_relation, kind_refusal, kind_relation, relation_by}
 use Rattle.rdx_query.specs.DefineParts.{DefineKind, by_cases, by_contexts, by_crosses, DefineParts, ClosureParts, define_parts, closure_parts, with_symbol}
@@ -50,7 +50,7 @@ use Rattle.rdx_query.specs.RelationForms.{relation_names, cases_refusal_over, ba
 use Rattle.rdx_query.specs.StepForms.{StepParts, step_parts, steps_refusal}
 use Rattle.rdx_query.specs.TestForms.{EqualParts, LeadingParts, equal_parts, leading_parts, equal_refusal, leading_refusal}
 use Rattle.rdx_grammar.proofs.Firsts.{none_or}
-use Rattle.rdx_defs.proofs.EarliestPlaces.{earliest-none}
+use Rattle.rdx_parts.proofs.EarliestPlaces.{earliest-none}
 use Rattle.rdx_query.proofs.CheckNumbers.{none-at}
 use Rattle.rdx_query.proofs.FoundByName.{HasValue, mapped, relation-found}
 use Rattle.rdx_query.proofs.OneReading.{accepts-scope, accepts-languages, accepts-ends}

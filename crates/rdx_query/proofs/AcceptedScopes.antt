@@ -15,27 +15,26 @@ use Rattle.rdx_grammar.specs.PatternChecks as patterns
 use Rattle.rdx_grammar.specs.Parts.{parts, text_of}
 use Rattle.rdx_grammar.specs.Readable.{IsReadable}
 use Rattle.rdx_grammar.specs.Reading.{name_in}
-use Rattle.rdx_defs.specs.ExtraForms.{ExtraForm, such_that, provided, confirmed, holding, freshly, name, no_extra, of_clause, form_at, is_condition}
-use Rattle.rdx_defs.specs.Headed.{Headed, headed}
+use Rattle.rdx_parts.specs.ExtraForms.{of_clause}
 use Rattle.rdx_defs.specs.JudgementForms.{judgement_form}
 use Rattle.rdx_defs.specs.MetafunctionForms.{ClauseForm, clause_form, MetafunctionForm, metafunction_form, function_in}
 use Rattle.rdx_defs.specs.MetafunctionReading.{text_in}
 use Rattle.rdx_defs.specs.MetafunctionRefusal.{metafunction_refusal}
 use Rattle.rdx_defs.specs.MetafunctionStands.{bound_by_arguments, bound_by_clause, clause_stands, clauses_stand, contract_stands, function_stands}
-use Rattle.rdx_defs.specs.Scope.{Scope, has_metafunction, mode_among, mode_of, callable}
+use Rattle.rdx_parts.specs.Scope.{Scope, has_metafunction, mode_among, mode_of, callable}
 use Rattle.rdx_defs.specs.Scopes.{are_conditions, is_clause_of, function_of_all, metafunction_name, judgement_moded, begins_with, defined_functions, defined_judgements, language_text, defined_languages, languages_in, scope_in}
-use Rattle.rdx_defs.specs.StandChecks.{bad_name, bad_names}
-use Rattle.rdx_defs.specs.Stands.{Stand, misshaped, function, pattern, template, argument_occurrences, names_bound, bound_by_extra, held_stands, extra_stands, is_named, extras_stand}
+use Rattle.rdx_parts.specs.StandChecks.{bad_name, bad_names}
+use Rattle.rdx_parts.specs.Stands.{Stand, misshaped, function, pattern, template, argument_occurrences, names_bound, extras_stand}
 use Rattle.rdx_defs.proofs.FormRefusals.{ArePassed, metafunction-passed}
 use Rattle.rdx_defs.proofs.PartsOfForms.{Each}
 use Rattle.rdx_defs.proofs.PassedForms.{has-function, metafunction-valid}
 use Rattle.rdx_defs.proofs.PassedStands.{passed-both, pattern-first, template-first}
-use Rattle.rdx_defs.proofs.ScopeForms.{in-scope}
+use Rattle.rdx_defs.proofs.ScopeForms.{not_misshaped, conditions-shaped, in-scope}
 use Rattle.rdx_query.specs.DefineForms.{defined_relation}
 use Rattle.rdx_query.specs.Definitions.{Defined, language, metafunction, judgement, relation}
 use Rattle.rdx_query.specs.File.{Accepts, accepts_none, accepts_definition, accepts_query, accepts_passed, IsFile, known_before}
 use Rattle.rdx_query.specs.FormKinds as kind
-use Rattle.rdx_query.specs.FormKinds.{DefinitionKind, FormKind, defines, asks, passes, to_come, heads, kind_in, kind_by_head, kind_among, form_kind}
+use Rattle.rdx_query.specs.FormKinds.{FormKind, defines, asks, passes, to_come, heads, kind_in, kind_by_head, kind_among, form_kind}
 use Rattle.rdx_query.specs.Forms.{refusal_by_kind, definition_by_kind, query_by_kind, is_passed_kind}
 use Rattle.rdx_query.specs.JudgementForms.{defined_judgement}
 use Rattle.rdx_query.specs.Known.{Known, with_definition, paired_with}
@@ -147,49 +146,9 @@ judgements-only = refl
 -- ---- the shape of clauses that pass
 
 module _ (S : Scope) (ns : List (List ℕ)) where
-  -- what passes is no datum without its shape
-  not_misshaped : (d : Sexp) → ArePassed S ns (misshaped d ∷ []) → ⊥
-  not_misshaped d h = let z = h.shapes in cc
-
-  -- a premise
-  held-shaped : (bs : List patterns.Bound) (d : Sexp) (o : Option Headed) → ArePassed S ns (held_stands S ns bs d o) → is_some o ≡ true
-  held-shaped bs d None h = absurd (not_misshaped d h)
-  held-shaped bs d (Some q) h = refl
-
-  -- an extra, where no name may come
-  condition-shaped : (bs : List patterns.Bound) (d : Sexp) (e : ExtraForm) → ArePassed S ns (extra_stands S ns bs true d e) → is_condition e ≡ true
-  condition-shaped bs d (such_that p t) h = refl
-  condition-shaped bs d (provided t) h = refl
-  condition-shaped bs d (confirmed t) h = refl
-  condition-shaped bs d (holding x) h = held-shaped bs x (headed x) h
-  condition-shaped bs d (freshly ds) h = refl
-  condition-shaped bs d name h = absurd (let z = h.shapes in cc)
-  condition-shaped bs d no_extra h = absurd (not_misshaped d h)
-
-  -- behind an extra no name may come either
-  still-named : (e : ExtraForm) → is_named true e ≡ true
-  still-named (such_that p t) = refl
-  still-named (provided t) = refl
-  still-named (confirmed t) = refl
-  still-named (holding x) = refl
-  still-named (freshly ds) = refl
-  still-named name = refl
-  still-named no_extra = refl
-
-  -- extras of a clause
-  conditions-shaped : (bs : List patterns.Bound) (ds : List Sexp) → ArePassed S ns (extras_stand of_clause S ns bs true ds)
-      → are_conditions of_clause ds ≡ true
-  conditions-shaped bs [] h = refl
-  conditions-shaped bs (d ∷ ds) h =
-      let e = form_at of_clause d in
-      let cs = bs ++ bound_by_extra S ns e in
-      let p = passed-both S ns (extra_stands S ns bs true d e) (extras_stand of_clause S ns cs (is_named true e) ds) h in
-      and_both (is_condition e) (are_conditions of_clause ds) (condition-shaped bs d e p.0)
-      (conditions-shaped cs ds (subst (λ (b : Bool). ArePassed S ns (extras_stand of_clause S ns cs b ds)) (still-named e) p.1))
-
   -- a clause
   clause-shaped : (x : List ℕ) (d : Sexp) (o : Option ClauseForm) → ArePassed S ns (clause_stands S ns x d o) → is_clause_of x o ≡ true
-  clause-shaped x d None h = absurd (not_misshaped d h)
+  clause-shaped x d None h = absurd (not_misshaped S ns d h)
   clause-shaped x d (Some c) h = by_name (bytes_eq (text_of c.function) x) h
     where
       bs : List patterns.Bound
@@ -204,10 +163,10 @@ module _ (S : Scope) (ns : List (List ℕ)) where
           then pattern [] (argument_occurrences c.arguments) ∷ template (names_bound (bound_by_clause S ns c)) c.result ∷ rest
           else misshaped d ∷ [])
           → (b && are_conditions of_clause c.extras) ≡ true
-      by_name false k = absurd (not_misshaped d k)
+      by_name false k = absurd (not_misshaped S ns d k)
       by_name true k =
           let a = pattern-first S ns [] (argument_occurrences c.arguments) (template (names_bound (bound_by_clause S ns c)) c.result ∷ rest) k in
-          conditions-shaped bs c.extras (template-first S ns (bound_by_clause S ns c) c.result rest a.1).1
+          conditions-shaped S ns of_clause bs c.extras (template-first S ns (bound_by_clause S ns c) c.result rest a.1).1
 
   -- all clauses
   clauses-shaped : (x : List ℕ) (ds : List Sexp) → ArePassed S ns (clauses_stand S ns x ds) → list_all (λ d. is_clause_of x (clause_form d)) ds ≡ true

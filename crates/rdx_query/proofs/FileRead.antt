@@ -1,7 +1,7 @@
 -- Forms read one by one.
 use Rattle.std.proofs.Common.{◌≡◌, ◌++◌, ℕ, zero, suc, ◌+◌, ◌<◌, ◌≤◌, length, drop, get_or, List, [], ◌∷◌, refl, sym, subst, append_assoc, append-nil, arith}
 use Rattle.rdx_sexp.specs.Sexp.{Sexp}
-use Rattle.rdx_sexp.specs.Size.{IsOfFileSize}
+use Rattle.rdx_sexp.specs.Size.{AreFileData}
 use Rattle.rdx_lang.proofs.MemberLaws.{flat_map-in}
 use Rattle.rdx_lang.specs.Members.{In, here, there}
 use Rattle.rdx_lang.specs.Programs.{Program}
@@ -9,7 +9,7 @@ use Rattle.rdx_grammar.specs.Readable.{IsReadable}
 use Rattle.rdx_grammar.specs.Refusal.{Refusal, refusal_of}
 use Rattle.rdx_grammar.specs.declared.shape.fault.DefFault.{DefFault}
 use Rattle.rdx_grammar.specs.declared.shape.fault.DefFault.TheVariants.{Refused, NoMemory}
-use Rattle.rdx_defs.specs.Scope.{Scope}
+use Rattle.rdx_parts.specs.Scope.{Scope}
 use Rattle.rdx_defs.specs.Scopes.{languages_in, scope_in}
 use Rattle.rdx_query.specs.Definitions.{Defined}
 use Rattle.rdx_query.specs.Ends.{form_ends, file_ends}
@@ -114,7 +114,7 @@ file-named ds P qs a = (can_answer (known_before ds) ds _ qs (fit-before ds) a).
 -- ---- what can be read
 
 -- each form can be
-pub form-readable : (ds : List Sexp) (i : ℕ) (d : Sexp) → IsOfFileSize ds → i < length ds → d ≡ get_or ds i d → IsReadable d
+pub form-readable : (ds : List Sexp) (i : ℕ) (d : Sexp) → AreFileData ds → i < length ds → d ≡ get_or ds i d → IsReadable d
 form-readable [] i d z h e = absurd (omega arith)
 form-readable (c ∷ ds) zero d z h e = subst IsReadable (sym e) (record { nested = omega (arith, z.depth); spelled = z.spelled.0 })
 form-readable (c ∷ ds) (suc i) d z h e = form-readable ds i d (record { depth = omega (arith, z.depth); nodes = omega (arith, z.nodes); spelled = z.spelled.1 }) (omega arith) e

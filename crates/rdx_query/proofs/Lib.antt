@@ -42,4 +42,5 @@ pub mod DistinctDefinitions
 pub mod NamedNonterminals
 pub mod ValidDefinitions
 pub mod ValidAsked
+pub mod AcceptedLanguages
 pub mod ValidFiles

@@ -20,9 +20,9 @@ use Rattle.rdx_grammar.specs.PatternChecks.{when}
 use Rattle.rdx_grammar.specs.Refusal.{Refusal, named, or_else, first_refusal}
 use Rattle.rdx_grammar.specs.Unbuilt.{unbuilt_at}
 use Rattle.rdx_grammar.specs.declared.shape.fault.DefKind.TheVariants.{UnknownName}
-use Rattle.rdx_defs.specs.Arguments.{is_misfit}
-use Rattle.rdx_defs.specs.Earliest.{start}
-use Rattle.rdx_defs.specs.Headed.{Headed, headed}
+use Rattle.rdx_parts.specs.Arguments.{is_misfit}
+use Rattle.rdx_parts.specs.Earliest.{start}
+use Rattle.rdx_parts.specs.Headed.{Headed, headed}
 use Rattle.rdx_defs.specs.JudgementForms.{JudgementForm, judgement_form}
 use Rattle.rdx_defs.specs.JudgementReading.{judgement_reading}
 use Rattle.rdx_defs.specs.JudgementRefusal.{result_stands}
@@ -30,9 +30,9 @@ use Rattle.rdx_defs.specs.JudgementStands.{judgement_stands}
 use Rattle.rdx_defs.specs.RelationForms.{RelationForm, relation_form}
 use Rattle.rdx_defs.specs.RelationReading.{relation_reading}
 use Rattle.rdx_defs.specs.RelationStands.{relation_stands}
-use Rattle.rdx_defs.specs.Scope.{Scope, mode_of}
-use Rattle.rdx_defs.specs.StandChecks.{shape_at, repeated_name_at, bad_name_at, bad_place_at, depth_fault_at, unknown_names, unknown_name_at, undriven_at, escape_at, mode_fault_at}
-use Rattle.rdx_defs.specs.Stands.{Stand, asked, misfits, arguments_stand, names_bound, premise_arguments, held_stands, bound_by_premise}
+use Rattle.rdx_parts.specs.Scope.{Scope, mode_of}
+use Rattle.rdx_parts.specs.StandChecks.{shape_at, repeated_name_at, bad_name_at, bad_place_at, depth_fault_at, unknown_names, unknown_name_at, undriven_at, escape_at, mode_fault_at}
+use Rattle.rdx_parts.specs.Stands.{Stand, asked, misfits, arguments_stand, names_bound, premise_arguments, held_stands, bound_by_premise}
 use Rattle.rdx_query.specs.ClosureForms.{closed_relation, closure_names, closure_language_at, unknown_closed_at, closure_shape_at, no_nonterminal_at, context_refusal_by, context_relation_by, compatible_refusal_by, compatible_relation_by}
 use Rattle.rdx_query.specs.DefineForms.{define_refusal_by, defined_relation, kind_refusal, kind_relation, relation_by}
 use Rattle.rdx_query.specs.DefineParts.{DefineKind, by_cases, by_contexts, by_crosses, DefineParts, ClosureParts, define_parts, closure_parts, with_symbol}
@@ -56,7 +56,7 @@ use Rattle.rdx_query.proofs.ClosureChecks.{language-known, same-language}
 use Rattle.rdx_query.proofs.DefinedJudgements.{judgements_in, mapped-some}
 use Rattle.rdx_query.proofs.FoundByName.{judgement-among}
 use Rattle.rdx_grammar.proofs.Firsts.{none_or}
-use Rattle.rdx_defs.proofs.EarliestPlaces.{earliest-none}
+use Rattle.rdx_parts.proofs.EarliestPlaces.{earliest-none}
 
 -- ---- names stay known
 

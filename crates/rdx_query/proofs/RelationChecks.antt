@@ -29,9 +29,9 @@ use Rattle.rdx_defs.specs.RelationForms.{RelationForm, is_keyword, may_name, rel
 use Rattle.rdx_defs.specs.RelationReading.{relation_reading}
 use Rattle.rdx_defs.specs.RelationRefusal.{relation_refusal}
 use Rattle.rdx_defs.specs.RelationStands.{relation_stands}
-use Rattle.rdx_defs.specs.Scope.{Scope}
-use Rattle.rdx_defs.specs.StandRefusal.{stands_refusal}
-use Rattle.rdx_defs.specs.Stands.{Stand}
+use Rattle.rdx_parts.specs.Scope.{Scope}
+use Rattle.rdx_parts.specs.StandRefusal.{stands_refusal}
+use Rattle.rdx_parts.specs.Stands.{Stand}
 use Rattle.rdx_query.specs.DefineForms.{define_refusal, define_refusal_by, defined_relation, relation_by}
 use Rattle.rdx_query.specs.DefineParts.{by_cases, define_parts}
 use Rattle.rdx_query.specs.FormKinds as kind

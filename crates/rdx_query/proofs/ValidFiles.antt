@@ -3,20 +3,20 @@ use Rattle.std.proofs.Common.{◌≡◌, ◌∙◌, ◌+◌, ◌*◌, ◌≤◌,
 use Rattle.std.specs.List.{list_all}
 use Rattle.std.specs.Prelude.{◌&&◌, flat_map, is_some, option_map, bytes_eq}
 use Rattle.rdx_sexp.specs.Sexp.{Sexp, sexps, sexp_nodes, sexps_nodes}
-use Rattle.rdx_sexp.specs.Size.{sexps_depth, AreSpelled, IsOfFileSize}
+use Rattle.rdx_sexp.specs.Size.{sexps_depth, AreSpelled, AreFileData}
 use Rattle.rdx_lang.proofs.Collecting.{only}
 use Rattle.rdx_lang.proofs.MemberLaws.{in-append, append-left, append-right}
 use Rattle.rdx_lang.specs.Members.{In, here, there}
 use Rattle.rdx_lang.specs.Modes.{Callable}
 use Rattle.rdx_lang.specs.Patterns.{Pattern, Language}
 use Rattle.rdx_lang.specs.Programs.{Metafunction, Judgement, Relation, Rule, Premise, Program, judgement_among, relation_among, language_named, relation_named}
-use Rattle.rdx_lang.specs.Valid.{is_valid_metafunction, is_valid_judgement, is_valid_over, callable_in, is_valid_beside, is_valid_in, is_valid_form, are_distinct, defined_names, is_valid}
+use Rattle.rdx_lang.specs.Valid.{is_valid_metafunction, is_valid_judgement, is_valid_over, callable_in, is_valid_beside, is_valid_metafunction_of, is_valid_judgement_of, are_distinct, defined_names, is_valid}
 use Rattle.rdx_grammar.proofs.Booleans.{and_both, and_true}
 use Rattle.rdx_grammar.specs.Ends.{crossed_for}
 use Rattle.rdx_grammar.specs.Inside.Among.{AreAmong}
 use Rattle.rdx_grammar.specs.Readable.{IsReadable}
 use Rattle.rdx_defs.proofs.PartsOfForms.{Each}
-use Rattle.rdx_defs.specs.Scope.{mode_of, callable}
+use Rattle.rdx_parts.specs.Scope.{mode_of, callable}
 use Rattle.rdx_defs.specs.Scopes.{scope_in}
 use Rattle.rdx_reduce.specs.ClosureLaws.{LeavesAName}
 use Rattle.rdx_query.specs.Definitions.{Defined, language, metafunction, judgement, relation}
@@ -320,7 +320,7 @@ record IsAcceptedValid (P : Program) (qs : List Query) : Type 0 where
   contexts : (R : Relation) (r : Rule) → In R P.relations → In r R.rules → LeavesAName r
 
 -- of each file
-both-valid : (ds : List Sexp) (P : Program) (qs : List Query) → IsOfFileSize ds → IsFile ds P qs → IsAcceptedValid P qs
+both-valid : (ds : List Sexp) (P : Program) (qs : List Query) → AreFileData ds → IsFile ds P qs → IsAcceptedValid P qs
 both-valid ds P qs z a =
     let nodes = z.nodes in
     let J : Known = record (known_before ds) { program = P } in
@@ -328,16 +328,16 @@ both-valid ds P qs z a =
     let w = valid-behind 0 (known_before ds) ds J qs a (scope-paired ds P s) z.depth z.spelled (omega (arith, nodes)) (λ y i. i) (valid-before ds) in
     let V = w.valid in
     let c : callable (scope_in ds) ≡ callable_in P = scope-callable ds P s in
-    let functions = list_all (is_valid_in P) P.metafunctions in
-    let forms = list_all (is_valid_form P) P.judgements in
+    let functions = list_all (is_valid_metafunction_of P) P.metafunctions in
+    let forms = list_all (is_valid_judgement_of P) P.judgements in
     let relations = list_all (is_valid_beside P) P.relations in
     record {
       program = and_both (are_distinct (defined_names P)) (functions && (forms && relations)) V.distinct
           (and_both functions (forms && relations)
-          (all-of (is_valid_in P) P.metafunctions
+          (all-of (is_valid_metafunction_of P) P.metafunctions
           (λ F i. ap (λ (C : Callable). is_valid_metafunction C (language_named P F.language) F) (sym c) ∙ V.metafunctions F i))
           (and_both forms relations
-          (all-of (is_valid_form P) P.judgements
+          (all-of (is_valid_judgement_of P) P.judgements
           (λ J i. ap (λ (C : Callable). is_valid_judgement C (language_named P J.language) J) (sym c) ∙ V.judgements J i))
           (all-of (is_valid_beside P) P.relations
           (λ R i. ap (λ (C : Callable). is_valid_over C (language_named P R.language) R) (sym c) ∙ (V.relations R i).valid))));
@@ -348,14 +348,14 @@ both-valid ds P qs z a =
     }
 
 -- the program is valid
-pub accepted-valid : (ds : List Sexp) (P : Program) (qs : List Query) → IsOfFileSize ds → IsFile ds P qs → IsTrue (is_valid P)
+pub accepted-valid : (ds : List Sexp) (P : Program) (qs : List Query) → AreFileData ds → IsFile ds P qs → IsTrue (is_valid P)
 accepted-valid ds P qs z a = (both-valid ds P qs z a).program
 
 -- and so are the queries
-pub accepted_queries-valid : (ds : List Sexp) (P : Program) (qs : List Query) → IsOfFileSize ds → IsFile ds P qs → IsTrue (are_valid_queries P qs)
+pub accepted_queries-valid : (ds : List Sexp) (P : Program) (qs : List Query) → AreFileData ds → IsFile ds P qs → IsTrue (are_valid_queries P qs)
 accepted_queries-valid ds P qs z a = (both-valid ds P qs z a).queries
 
 -- and its rules leave the name of a context free
-pub accepted-contexts : (ds : List Sexp) (P : Program) (qs : List Query) (R : Relation) (r : Rule) → IsOfFileSize ds → IsFile ds P qs
+pub accepted-contexts : (ds : List Sexp) (P : Program) (qs : List Query) (R : Relation) (r : Rule) → AreFileData ds → IsFile ds P qs
     → In R P.relations → In r R.rules → LeavesAName r
 accepted-contexts ds P qs R r z a i k = (both-valid ds P qs z a).contexts R r i k

@@ -4,12 +4,12 @@ use Rattle.rdx_sexp.specs.Sexp.{Sexp}
 use Rattle.rdx_lang.specs.Templates.{Host}
 use Rattle.rdx_grammar.specs.Refusal.{Refusal, unnamed}
 use Rattle.rdx_grammar.specs.declared.shape.fault.DefKind.TheVariants.{Shape, BadPattern, EllipsisVariable, RacketEscape}
-use Rattle.rdx_defs.specs.Earliest.{start, earliest}
-use Rattle.rdx_defs.specs.TemplateChecks.{bad_parts, undriven_parts, escapes}
-use Rattle.rdx_defs.specs.TemplateOccurrences.{TemplatePart, host_parts}
-use Rattle.rdx_defs.specs.TemplateReading.{host_reading}
-use Rattle.rdx_defs.specs.TemplateRefusal.{host_refusal}
-use Rattle.rdx_defs.specs.TemplateShapes.{host_shapes}
+use Rattle.rdx_parts.specs.Earliest.{start, earliest}
+use Rattle.rdx_parts.specs.TemplateChecks.{bad_parts, undriven_parts, escapes}
+use Rattle.rdx_parts.specs.TemplateOccurrences.{TemplatePart, host_parts}
+use Rattle.rdx_parts.specs.TemplateReading.{host_reading}
+use Rattle.rdx_parts.specs.TemplateRefusal.{host_refusal}
+use Rattle.rdx_parts.specs.TemplateShapes.{host_shapes}
 use Rattle.rdx_query.specs.Known.{Known}
 use Rattle.rdx_answer.specs.Queries.{Query, value}
 

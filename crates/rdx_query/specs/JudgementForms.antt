@@ -8,8 +8,8 @@ use Rattle.rdx_grammar.specs.Unbuilt.{unbuilt_at}
 use Rattle.rdx_defs.specs.JudgementForms.{JudgementForm, judgement_form, judgement_in}
 use Rattle.rdx_defs.specs.JudgementReading.{judgement_reading}
 use Rattle.rdx_defs.specs.JudgementStands.{judgement_stands}
-use Rattle.rdx_defs.specs.StandChecks.{shape_at, repeated_name_at, bad_name_at, bad_place_at, depth_fault_at, unknown_name_at, undriven_at, escape_at, mode_fault_at}
-use Rattle.rdx_defs.specs.Stands.{Stand}
+use Rattle.rdx_parts.specs.StandChecks.{shape_at, repeated_name_at, bad_name_at, bad_place_at, depth_fault_at, unknown_name_at, undriven_at, escape_at, mode_fault_at}
+use Rattle.rdx_parts.specs.Stands.{Stand}
 use Rattle.rdx_query.specs.Known.{Known}
 use Rattle.rdx_query.specs.LanguageForms.{named_base, unknown_at}
 use Rattle.rdx_query.specs.MetafunctionForms.{function_taken_at}

@@ -1,10 +1,13 @@
 -- What follows from the definitions, stated for the contracts of the module of laws.
 use Rattle.std.specs.Prelude.{◌≡◌, ◌⊎◌, ℕ, Bool, List, IsTrue}
 use Rattle.rdx_sexp.specs.Sexp.{Sexp}
-use Rattle.rdx_sexp.specs.Size.{IsOfFileSize}
+use Rattle.rdx_sexp.specs.Size.{AreFileData}
 use Rattle.rdx_lang.specs.Members.{In}
+use Rattle.rdx_lang.specs.Patterns.{Language}
 use Rattle.rdx_lang.specs.Programs.{Program, Relation, Rule}
 use Rattle.rdx_lang.specs.Valid.{is_valid}
+use Rattle.rdx_lang.specs.WellFormed.{IsWellFormed}
+use Rattle.rdx_eval.specs.Laws.{AreFree}
 use Rattle.rdx_grammar.specs.Refusal.{Refusal}
 use Rattle.rdx_query.specs.Writing.{Writes}
 use Rattle.rdx_query.specs.File.{IsFile, IsFileRefusal}
@@ -17,18 +20,27 @@ abbrev pub OneMeaning : Type 0
 OneMeaning = (ds : List Sexp) (P Q : Program) (qs rs : List Query) → IsFile ds P qs → IsFile ds Q rs → (P ≡ Q) × (qs ≡ rs)
 
 -- where the data of a file of at most 1,048,576 bytes are accepted, the metafunctions, judgements and relations that they define are valid, and what
--- they define goes by different names; a metafunction or a judgement may be defined behind its use. Of the languages themselves this says nothing
+-- they define goes by different names; a metafunction or a judgement may be defined behind its use
 abbrev pub AcceptedIsValid : Type 0
-AcceptedIsValid = (ds : List Sexp) (P : Program) (qs : List Query) → IsOfFileSize ds → IsFile ds P qs → IsTrue (is_valid P)
+AcceptedIsValid = (ds : List Sexp) (P : Program) (qs : List Query) → AreFileData ds → IsFile ds P qs → IsTrue (is_valid P)
 
--- and so is each query: what it names is defined, in the end
+-- each of their languages, with all cross nonterminals that it has, is well formed
+abbrev pub AcceptedLanguagesAreWellFormed : Type 0
+AcceptedLanguagesAreWellFormed =
+    (ds : List Sexp) (P : Program) (qs : List Query) (L : Language) → AreFileData ds → IsFile ds P qs → In L P.languages → IsWellFormed L
+
+-- and free of left recursion, whatever the size of the data, as the laws of listings, evaluation, steps and runs ask
+abbrev pub AcceptedLanguagesAreFree : Type 0
+AcceptedLanguagesAreFree = (ds : List Sexp) (P : Program) (qs : List Query) → IsFile ds P qs → AreFree P
+
+-- each query is valid: what it names is defined, in the end
 abbrev pub AcceptedQueriesAreValid : Type 0
-AcceptedQueriesAreValid = (ds : List Sexp) (P : Program) (qs : List Query) → IsOfFileSize ds → IsFile ds P qs → IsTrue (are_valid_queries P qs)
+AcceptedQueriesAreValid = (ds : List Sexp) (P : Program) (qs : List Query) → AreFileData ds → IsFile ds P qs → IsTrue (are_valid_queries P qs)
 
 -- and each rule of a relation leaves the name of a context free, as the laws of closures ask
 abbrev pub AcceptedLeaveNames : Type 0
 AcceptedLeaveNames =
-    (ds : List Sexp) (P : Program) (qs : List Query) (R : Relation) (r : Rule) → IsOfFileSize ds → IsFile ds P qs → In R P.relations
+    (ds : List Sexp) (P : Program) (qs : List Query) (R : Relation) (r : Rule) → AreFileData ds → IsFile ds P qs → In R P.relations
     → In r R.rules → LeavesAName r
 
 -- by the same choices data write one text at most, and all that they state is met or not

@@ -8,8 +8,8 @@ use Rattle.rdx_grammar.specs.Unbuilt.{unbuilt_at}
 use Rattle.rdx_defs.specs.MetafunctionForms.{MetafunctionForm, metafunction_form, function_in}
 use Rattle.rdx_defs.specs.MetafunctionReading.{metafunction_reading}
 use Rattle.rdx_defs.specs.MetafunctionStands.{metafunction_stands}
-use Rattle.rdx_defs.specs.StandChecks.{shape_at, bad_name_at, bad_place_at, depth_fault_at, undriven_at, escape_at, unknown_name_at, mode_fault_at}
-use Rattle.rdx_defs.specs.Stands.{Stand}
+use Rattle.rdx_parts.specs.StandChecks.{shape_at, bad_name_at, bad_place_at, depth_fault_at, undriven_at, escape_at, unknown_name_at, mode_fault_at}
+use Rattle.rdx_parts.specs.Stands.{Stand}
 use Rattle.rdx_query.specs.Known.{Known}
 use Rattle.rdx_query.specs.LanguageForms.{named_base, unknown_at, name_taken_at}
 

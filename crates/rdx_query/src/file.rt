@@ -1,5 +1,5 @@
 // The forms of a file.
-ghost use Rattle.rdx_sexp.specs.Size.{IsOfFileSize};
+ghost use Rattle.rdx_sexp.specs.Size.{AreFileData};
 ghost use Rattle.std.specs.Prelude.{◌≡◌, IfOk, IfErr};
 ghost use Rattle.rdx_query.specs.File.{IsFile, known_before};
 ghost use Rattle.rdx_query.specs.Inside.KnownView.{known_of};
@@ -43,7 +43,7 @@ fn nothing_known(alloc: Global, forms: &[Datum]) -> Result<Known, NoMemory>
 
 /// What the forms of a file mean, or the refusal of the first form that is refused.
 pub fn check_file(alloc: Global, forms: &[Datum]) -> Result<CheckedFile, DefFault>
-    requires { IsOfFileSize forms.now }
+    requires { AreFileData forms.now }
     ensures accepted { IfOk result (λ f. IsFile forms.now (program_in f) (queries_of f)) }
     ensures refused { IfErr result (IsFileFault forms.now) }
     ensures named { IfOk result (λ f. AllNamesKnown (program_in f) (queries_of f)) }

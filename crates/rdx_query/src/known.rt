@@ -4,8 +4,8 @@ ghost use Rattle.rdx_lang.specs.ProgramView.{program_of};
 ghost use Rattle.rdx_query.specs.Inside.Tabled.{AreTabled, FindsFirsts};
 
 use crate::tables::Tables;
-use rdx_defs::Scope;
 use rdx_lang::Program;
+use rdx_parts::Scope;
 use rdx_term::Name;
 
 /// What the whole file defines, and what the forms before a form define, with tables by which it is

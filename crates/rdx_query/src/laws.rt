@@ -1,5 +1,5 @@
 //! Laws of the definitions: functions that do nothing, whose contracts are the laws.
-ghost use Rattle.rdx_query.specs.Laws.{OneMeaning, AcceptedIsValid, AcceptedQueriesAreValid, AcceptedLeaveNames, OneText, OneRefusal, NeverBothAcceptedAndRefused, NeverBothTextAndRefusal, NeverNeither, SomeTextOrRefusal};
+ghost use Rattle.rdx_query.specs.Laws.{OneMeaning, AcceptedIsValid, AcceptedLanguagesAreWellFormed, AcceptedLanguagesAreFree, AcceptedQueriesAreValid, AcceptedLeaveNames, OneText, OneRefusal, NeverBothAcceptedAndRefused, NeverBothTextAndRefusal, NeverNeither, SomeTextOrRefusal};
 ghost use Rattle.rdx_query.specs.Examples as example;
 
 /// The data of a file define one program and ask one list of queries at most.
@@ -7,10 +7,13 @@ pub fn one_meaning()
     ensures { OneMeaning }
 {}
 
-/// The program of a file is valid, where its data are accepted, and so are its queries; and each rule
-/// of a relation leaves the name of a context free.
+/// The program of a file is valid, where its data are accepted, and so are its queries; each of its
+/// languages is well formed and free of left recursion; and each rule of a relation leaves the name of
+/// a context free.
 pub fn accepted_is_valid()
     ensures program { AcceptedIsValid }
+    ensures languages { AcceptedLanguagesAreWellFormed }
+    ensures free { AcceptedLanguagesAreFree }
     ensures queries { AcceptedQueriesAreValid }
     ensures contexts { AcceptedLeaveNames }
 {}

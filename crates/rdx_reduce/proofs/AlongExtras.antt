@@ -22,15 +22,17 @@ use Rattle.rdx_lang.proofs.Collecting.{only}
 use Rattle.rdx_lang.proofs.JoinLaws.{bound_names-member}
 use Rattle.rdx_lang.proofs.MemberLaws.{in-append}
 use Rattle.rdx_lang.proofs.NameLaws.{match-ascends, match-names}
-use Rattle.rdx_eval.specs.Answers.{Answer, value, Then, goes}
+use Rattle.rdx_eval.specs.Answers.{Answer, value, fault, Fault, Then, stops, goes}
 use Rattle.rdx_eval.specs.Calls.{Calls}
 use Rattle.rdx_eval.specs.Extending.{Joins, joins_none, joins_more, joins_skip, joined, Matched, matched, MatchedEach, By, unless_false}
 use Rattle.rdx_eval.specs.Fresh.{Avoided, behind, symbol_in, symbols, symbols_of, freshly}
 use Rattle.rdx_eval.specs.Instantiation.{Makes, HostMakes, MakeList, is_false}
+use Rattle.rdx_eval.proofs.HeldPremises.{no_fault}
 use Rattle.rdx_eval.proofs.OneAnswer.{same_value}
+use Rattle.rdx_reduce.specs.FirstFaults.{FailsAfter, in_result, in_extra, behind_extra}
 use Rattle.rdx_reduce.specs.TakenSteps.{LeadTo, no_extra, one_extra}
 use Rattle.rdx_reduce.proofs.ContextBindings.{IsUsed, used_in, used_first, used_last, names-used, bound-used}
-use Rattle.rdx_reduce.proofs.Reached.{reached}
+use Rattle.rdx_eval.proofs.Reached.{reached}
 use Rattle.rdx_reduce.proofs.SameTemplates.{inst-same, host-same, list-same}
 
 -- a finite map that does not bind x
@@ -63,6 +65,13 @@ match-without L x p t b n m = record {
   map = match-ascends m;
   free = λ w i. n (names-used x 0 p (subst (λ (ys : List (List ℕ)). In x ys) (match-names m) (bound_names-member (x, w) b i)));
 }
+
+-- a name that an extra does not have is none of those that stand for fresh symbols behind it
+still_free : (x : List ℕ) (a : Avoided) (e : Extra) → (IsUsed x (extra_uses e) → ⊥) → (In x a.names → ⊥) → In x (behind a e).names → ⊥
+still_free x a (such_as p s) u f i = f i
+still_free x a (provided h) u f i = f i
+still_free x a (holds q) u f i = f i
+still_free x a (fresh y) u f i = elim (in-append a.names (y ∷ []) x i) [ inl l ↦ f l | inr r ↦ u r ]
 
 -- T holds of two bindings that differ in x alone: other names stand for the same, and what the one has a join with, the other has, too
 pub record Differs (x : List ℕ) (T : Binding → Binding → Type 0) : Type 0 where
@@ -169,6 +178,24 @@ module _ (x : List ℕ) (T : Binding → Binding → Type 0) (differs : Differs 
           only_name (here d) = here (ap (λ (p : Pair). p.0) d)
           only_name (there i) = elim i [ ]
 
+      -- and the faults that it makes
+      by-fails-along : (a : Avoided) (e : Extra) (f : Fault) → is_valid_extra F L us e ≡ true → By L C a e b (fault f) → By L C a e c (fault f)
+      by-fails-along a (such_as p s) f v (stops h) =
+          let fit = (and_parts (is_well_formed_in L p) (fits F.functions (bound_by us) 0 s) v).1 in
+          stops (subst (λ (R : Answer Tree → Type 0). R (fault f)) (inst-same F.functions (bound_by us) b c bound-same C [] 0 s fit) h)
+      by-fails-along a (such_as p s) f v (goes h k) = elim k [ ]
+      by-fails-along a (provided e) f v (stops h) =
+          stops (subst (λ (R : Answer Tree → Type 0). R (fault f)) (host-same F.functions (bound_by us) b c bound-same C [] 0 e v) h)
+      by-fails-along a (provided e) f v (goes h k) = absurd cc
+      by-fails-along a (holds q) f v (stops h) =
+          let w = and_parts (fits_mode (F.modes q.judgement) q)
+          (list_all (fits F.functions (bound_by us) 0) q.inputs && is_well_formed_in L q.outputs) v in
+          let fit = (and_parts (list_all (fits F.functions (bound_by us) 0) q.inputs) (is_well_formed_in L q.outputs) w.1).0 in
+          stops (subst (λ (R : Answer Tree → Type 0). Then R (C.outputs_of q.judgement) (fault f))
+          (list-same F.functions (bound_by us) b c bound-same C q.inputs fit) h)
+      by-fails-along a (holds q) f v (goes {x = ts} h k) = absurd (no_fault L q.outputs b ts f k)
+      by-fails-along a (fresh y) f v h = elim h [ ]
+
   -- extras, one after the other
   pub leads-along : (L : Language) (C : Calls) (F : Callable) (us : List Use) (a : Avoided) (es : List Extra) (b c d : Binding) → T b c
       → (IsUsed x us → ⊥) → (IsUsed x (extras_uses es) → ⊥) → (In x a.names → ⊥) → are_valid_extras F L us es ≡ true → LeadTo L C a es b d
@@ -181,11 +208,24 @@ module _ (x : List ℕ) (T : Binding → Binding → Type 0) (differs : Differs 
       let j = along-in is o.0 i o.2 k in
       let r = leads-along L C F (us ++ extra_uses e) (behind a e) es i j.0 d j.2
       (λ u. elim (used_in x us (extra_uses e) u) [ inl p ↦ n p | inr q ↦ m' q ])
-      (λ u. m (used_last x (extra_uses e) (extras_uses es) u)) (still_free e m' f) w.1 l in
+      (λ u. m (used_last x (extra_uses e) (extras_uses es) u)) (still_free x a e m' f) w.1 l in
       (r.0, one_extra o.1 j.1 r.1, r.2)
-    where
-      still_free : (g : Extra) → (IsUsed x (extra_uses g) → ⊥) → (In x a.names → ⊥) → In x (behind a g).names → ⊥
-      still_free (such_as p s) u f i = f i
-      still_free (provided h) u f i = f i
-      still_free (holds q) u f i = f i
-      still_free (fresh y) u f i = elim (in-append a.names (y ∷ []) x i) [ inl l ↦ f l | inr r ↦ u r ]
+
+  -- so the fault that is met from the one on, is met from the other on
+  pub fails-along : (L : Language) (C : Calls) (F : Callable) (R S : Binding → Answer Tree → Type 0) (f : Fault)
+      → ((b c : Binding) → T b c → R b (fault f) → S c (fault f)) → (us : List Use) (a : Avoided) (es : List Extra) (b c d : Binding) (n : ℕ) → T b c
+      → (IsUsed x us → ⊥) → (IsUsed x (extras_uses es) → ⊥) → (In x a.names → ⊥) → are_valid_extras F L us es ≡ true → FailsAfter L C R a es b n d f
+      → (g : Binding) × FailsAfter L C S a es c n g f × T d g
+  fails-along L C F R S f r us a [] b c d n t u m o v (in_result h) = (c, in_result (r b c t h), t)
+  fails-along L C F R S f r us a (e ∷ es) b c d n t u m o v (in_extra h) =
+      let w = and_parts (is_valid_extra F L us e) (are_valid_extras F L (us ++ extra_uses e) es) v in
+      (c, in_extra (by-fails-along L b c t C F us u a e f w.0 h), t)
+  fails-along L C F R S f r us a (e ∷ es) b c d n t u m o v (behind_extra {c = i} {bs = is} {n = k} h j l) =
+      let w = and_parts (is_valid_extra F L us e) (are_valid_extras F L (us ++ extra_uses e) es) v in
+      let m' : IsUsed x (extra_uses e) → ⊥ = λ y. m (used_first x (extra_uses e) (extras_uses es) y) in
+      let p = by-along L b c t C F us u a e is m' o w.0 h in
+      let q = along-in is p.0 i p.2 j in
+      let g = fails-along L C F R S f r (us ++ extra_uses e) (behind a e) es i q.0 d k q.2
+      (λ y. elim (used_in x us (extra_uses e) y) [ inl z ↦ u z | inr z ↦ m' z ])
+      (λ y. m (used_last x (extra_uses e) (extras_uses es) y)) (still_free x a e m' o) w.1 l in
+      (g.0, behind_extra p.1 q.1 g.1, g.2)

@@ -17,17 +17,17 @@ use Rattle.rdx_lang.specs.Patterns as pattern
 use Rattle.rdx_lang.specs.Patterns.{Pattern, wild, hole, nt, named, in_hole, one, nil}
 use Rattle.rdx_lang.specs.Programs.{Program, Rule}
 use Rattle.rdx_lang.specs.Rules.{Match, match_kind, match_lit, match_none, match_one, match_named, match_in_hole, Split, SplitItems, split_hole, split_nt, split_named, split_seq, split_here, split_behind}
-use Rattle.rdx_lang.specs.Templates.{lit, var}
+use Rattle.rdx_lang.specs.Templates.{lit, var, fill}
 use Rattle.rdx_lang.specs.Variants.{before_number, variant}
 use Rattle.rdx_lang.proofs.Examples.{listed, one_alone, no_member, named_kind_binds, two_pairs, in_each_place}
 use Rattle.rdx_lang.proofs.JoinLaws.{one_join, unit_left, unit_right, unit_right-only}
 use Rattle.rdx_lang.proofs.RuleSteps.{lit_inside, kind_splits, nt_splits, seq_splits}
-use Rattle.rdx_eval.specs.Answers.{value, goes}
+use Rattle.rdx_eval.specs.Answers.{value, stops, goes, lists}
 use Rattle.rdx_eval.specs.Heights.{calls_at}
 use Rattle.rdx_eval.specs.Extending.{joined, joins_none, joins_more}
 use Rattle.rdx_eval.specs.FreshExamples.{x, fresh_x}
-use Rattle.rdx_eval.specs.Making.{filled}
-use Rattle.rdx_reduce.specs.ClosureExamples.{alone, around, inside, NameStays, NameIsTaken, ClosureOfClosure, StepsInside, NoStepAtTop, FreshAvoidsContext, StepsInEachPlace}
+use Rattle.rdx_eval.specs.Making.{filled, filled_no_context}
+use Rattle.rdx_reduce.specs.ClosureExamples.{alone, around, inside, NameStays, NameIsTaken, ClosureOfClosure, StepsInside, NoStepAtTop, FreshAvoidsContext, StepsInEachPlace, FaultInside, FirstPlaceFails}
 use Rattle.rdx_reduce.specs.Examples.{leads, leads_where, step}
 use Rattle.rdx_reduce.specs.Steps.{Steps}
 use Rattle.rdx_reduce.proofs.ClosureLaws.{matches_in_context}
@@ -261,3 +261,21 @@ steps_in_each_place P n =
     (number_in (marked_first the_hole (int 2)) (int 1)) (number_in (marked_second (int 1) the_hole) (int 2)) (list_of_two (int 0) (int 2))
     (list_of_two (int 1) (int 0)) each_matches (goes refl (goes refl (filled refl (record { shallow = omega arith; small = omega arith }))))
     (goes refl (goes refl (filled refl (record { shallow = omega arith; small = omega arith })))))
+
+-- `(--> 1 (in-hole 2 2))`
+abbrev to_no_context : Rule
+to_no_context = leads (pattern.lit (int 1)) (fill (lit (int 2)) (lit (int 2)))
+
+pub fault_inside : FaultInside
+fault_inside = (
+  λ P n. stops (stops (goes (goes (lists (first_matches (int 1))) refl)
+      (stops (stops (stops (goes refl (stops (goes refl (goes refl (filled_no_context (refl, refl))))))))))),
+  λ P n. of_one Numbers (calls_at P n) (int 1) (closed_rule (seq_of_two hole any) to_no_context) [] tt
+      (none_taken Numbers (calls_at P n) (int 1) 0 first_pattern (inside (codes "context") (fill (lit (int 2)) (lit (int 2))))
+      (no_member (λ b h. no_split ((matches_in_context Numbers (seq_of_two hole any) to_no_context (int 1) b).0 h).split))),
+)
+
+pub first_place_fails : FirstPlaceFails
+first_place_fails P n =
+    stops (stops (goes (goes (lists each_matches) refl)
+    (stops (stops (stops (goes refl (stops (goes (goes (goes refl refl) (goes (goes (goes refl refl) (goes refl refl)) refl)) refl))))))))

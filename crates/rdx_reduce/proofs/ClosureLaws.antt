@@ -1,7 +1,6 @@
 -- What closures do.
-use Rattle.std.proofs.Common.{◌≡◌, inl, inr, ℕ, zero, suc, Bool, true, List, [], ◌∷◌, Some, map, refl, sym, ◌∙◌, ap, subst, slice_get}
+use Rattle.std.proofs.Common.{◌≡◌, ◌<◌, inl, inr, ℕ, zero, suc, true, List, [], ◌∷◌, Some, map, refl, sym, ◌∙◌, ap, subst, slice_get}
 use Rattle.std.proofs.lemmas.Bool.{and_parts}
-use Rattle.std.specs.List.{list_all}
 use Rattle.std.specs.Prelude.{◌↔◌, ◌&&◌}
 use Rattle.rdx_term.specs.Fill.{fill_of}
 use Rattle.rdx_term.specs.Limits.{KeepsLimits}
@@ -27,9 +26,10 @@ use Rattle.rdx_lang.proofs.Emptiness.{empty_splits_all}
 use Rattle.rdx_lang.proofs.JoinLaws.{one_join, unit_left, unit_left-only}
 use Rattle.rdx_lang.proofs.Joins.{joined_first, joined_last}
 use Rattle.rdx_lang.proofs.NameLaws.{match-ascends}
+use Rattle.rdx_lang.proofs.Passing.{member_passes}
 use Rattle.rdx_lang.proofs.RuleSteps.{in_hole_inside, named_splits, closed_splits}
 use Rattle.rdx_lang.proofs.SplitLaws.{split-along, split-fills}
-use Rattle.rdx_eval.specs.Answers.{Answer, value, Then, goes}
+use Rattle.rdx_eval.specs.Answers.{Answer, value, fault, Fault, Then, stops, goes}
 use Rattle.rdx_eval.specs.Calls.{Calls}
 use Rattle.rdx_eval.specs.Fresh.{avoiding}
 use Rattle.rdx_eval.specs.Heights.{calls_at}
@@ -37,12 +37,14 @@ use Rattle.rdx_eval.specs.Instantiation.{Makes}
 use Rattle.rdx_eval.specs.Making.{IsFilled, filled}
 use Rattle.rdx_eval.specs.Turns.{term_or}
 use Rattle.rdx_eval.proofs.OneAnswer.{same_value}
-use Rattle.rdx_reduce.specs.ClosureLaws.{MatchesInside, MatchesInContext, LeavesAName, ContextIsJoined, TakesStepInside, StepsInContext, KeepsOwnSteps, IsTakenInside, ClosureLists}
+use Rattle.rdx_reduce.specs.ClosureLaws.{MatchesInside, MatchesInContext, LeavesAName, ContextIsJoined, TakesStepInside, StepsInContext, KeepsOwnSteps, IsTakenInside, ClosureLists, MeetsFaultInside, FaultsInContext, ClosureFaults}
+use Rattle.rdx_reduce.specs.FirstFaults.{FailsAfter, MeetsFault, IsFirstMet}
 use Rattle.rdx_reduce.specs.Steps.{Step}
 use Rattle.rdx_reduce.specs.TakenSteps.{LeadTo, TakesStep, IsTaken}
-use Rattle.rdx_reduce.proofs.AlongExtras.{IsWithout, Differs, leads-along}
+use Rattle.rdx_reduce.proofs.AlongExtras.{IsWithout, Differs, leads-along, fails-along}
 use Rattle.rdx_reduce.proofs.ContextBindings.{IsUsed, used_first, used_last, bound-used, context-free, context-unbound, join_with_name, joined_name, other_name}
-use Rattle.rdx_reduce.proofs.Reached.{reached}
+use Rattle.rdx_eval.proofs.Reached.{reached}
+use Rattle.rdx_reduce.proofs.FirstFaults.{answers_first}
 use Rattle.rdx_reduce.proofs.SameTemplates.{inst-same}
 use Rattle.rdx_reduce.proofs.TakenSteps.{lists_taken}
 
@@ -160,7 +162,7 @@ result_parts C b x s u h =
 
 -- ---- steps in a context
 
-module _ (L : Language) (C : Calls) (F : Callable) (q : Pattern) (r : Rule) (w t u : Tree) (valid : is_valid_rule F L r ≡ true)
+module _ (L : Language) (C : Calls) (F : Callable) (q : Pattern) (r : Rule) (w t : Tree) (valid : is_valid_rule F L r ≡ true)
     (leaves : LeavesAName r) where
   -- the extras and the result are valid behind the rule's pattern
   parts_valid :
@@ -192,8 +194,8 @@ module _ (L : Language) (C : Calls) (F : Callable) (q : Pattern) (r : Rule) (w t
   stands-for D b c h = ap (term_or (context_name r)) (joined_name (context_name r) (one_term D) b c h.less.map h.joined)
 
   -- a step of the closed rule is one inside of a context
-  step_inside : TakesStep L C w (closed_rule q r) t u → TakesStepInside L C w q r t u
-  step_inside h =
+  step_inside : (u : Tree) → TakesStep L C w (closed_rule q r) t u → TakesStepInside L C w q r t u
+  step_inside u h =
       let x : List ℕ = context_name r in
       let m = inside L q x r.pattern t h.first h.matched in
       let wider : IsWider x (one_term m.context) m.inner h.first = record {
@@ -222,8 +224,8 @@ module _ (L : Language) (C : Calls) (F : Callable) (q : Pattern) (r : Rule) (w t
       }
 
   -- and the other way round
-  step_outside : TakesStepInside L C w q r t u → TakesStep L C w (closed_rule q r) t u
-  step_outside h =
+  step_outside : (u : Tree) → TakesStepInside L C w q r t u → TakesStep L C w (closed_rule q r) t u
+  step_outside u h =
       let x : List ℕ = context_name r in
       let b : Binding = h.taken.first in
       let j = context_is_joined L r h.context h.part b leaves h.taken.matched in
@@ -253,15 +255,93 @@ module _ (L : Language) (C : Calls) (F : Callable) (q : Pattern) (r : Rule) (w t
         made = goes (ap value (sym (stands-for h.context h.taken.last e.0 e.2))) (goes made full);
       }
 
+  -- faults are met alike with the name of the context and without it
+  fails-alike : (T : Binding → Binding → Type 0) → Differs (context_name r) T → (R S : Binding → Answer Tree → Type 0) (f : Fault)
+      → ((b c : Binding) → T b c → R b (fault f) → S c (fault f)) → (b c d : Binding) (n : ℕ) → T b c → FailsAfter L C R (avoiding w) r.extras b n d f
+      → (e : Binding) × FailsAfter L C S (avoiding w) r.extras c n e f × T d e
+  fails-alike T differs R S f g b c d n h k =
+      fails-along (context_name r) T differs L C F R S f g (uses 0 r.pattern) (avoiding w) r.extras b c d n h
+      (λ i. context-free r leaves (used_first (context_name r) (uses 0 r.pattern) (extras_uses r.extras) i))
+      (λ i. context-free r leaves (used_last (context_name r) (uses 0 r.pattern) (extras_uses r.extras) i)) (λ i. elim i [ ]) parts_valid.0 k
+
+  -- a fault of the closed rule's result is one of the rule's result, or of the context that is filled with it
+  fault-put : (D : Tree) (f : Fault) (c b : Binding) → IsWider (context_name r) (one_term D) b c → Makes C c (closed_rule q r).result (fault f)
+      → Then (Makes C b r.result) (IsFilled D) (fault f)
+  fault-put D f c b h (stops e) = absurd cc
+  fault-put D f c b h (goes {x = u} e k) =
+      let same : u ≡ D = sym (same_value u (term_or (context_name r) (value_at c (context_name r))) e) ∙ stands-for D b c h in
+      subst (λ (R : Answer Tree → Type 0). Then R (IsFilled D) (fault f)) (makes-same (one_term D) b c h)
+      (subst (λ (d : Tree). Then (Makes C c r.result) (IsFilled d) (fault f)) same k)
+
+  -- and the other way round
+  put-fault : (D : Tree) (f : Fault) (b c : Binding) → IsWider (context_name r) (one_term D) b c → Then (Makes C b r.result) (IsFilled D) (fault f)
+      → Makes C c (closed_rule q r).result (fault f)
+  put-fault D f b c h k =
+      goes (ap value (sym (stands-for D b c h)))
+      (subst (λ (R : Answer Tree → Type 0). Then R (IsFilled D) (fault f)) (sym (makes-same (one_term D) b c h)) k)
+
+  -- a fault that the closed rule meets is one that the rule meets inside of a context
+  fault_inside : (n : ℕ) (b : Binding) (f : Fault) → MeetsFault L C w t (closed_rule q r) n b f → MeetsFaultInside L C w q t r n b f
+  fault_inside n b f h =
+      let x : List ℕ = context_name r in
+      let m = inside L q x r.pattern t h.first h.matched in
+      let wider : IsWider x (one_term m.context) m.inner h.first = record {
+        less = record { map = match-ascends m.matched; free = λ v i. context-unbound r leaves L m.part m.inner v m.matched i };
+        joined = m.joined;
+      } in
+      let e = fails-alike (λ c d. IsWider x (one_term m.context) d c) (narrower_differs x (one_term m.context)) (λ c. Makes C c (closed_rule q r).result)
+      (λ c. Then (Makes C c r.result) (IsFilled m.context)) f (fault-put m.context f) h.first m.inner b n wider h.fails in
+      record {
+        context = m.context;
+        part = m.part;
+        forgotten = m.forgotten;
+        first = m.inner;
+        last = e.0;
+        split = m.split;
+        matched = m.matched;
+        fails = e.1;
+        joined = e.2.joined;
+      }
+
+  -- and the other way round
+  fault_outside : (n : ℕ) (b : Binding) (f : Fault) → MeetsFaultInside L C w q t r n b f → MeetsFault L C w t (closed_rule q r) n b f
+  fault_outside n b f h =
+      let x : List ℕ = context_name r in
+      let j = context_is_joined L r h.context h.part h.first leaves h.matched in
+      let wider : IsWider x (one_term h.context) h.first j.0 = record {
+        less = record { map = match-ascends h.matched; free = λ v i. context-unbound r leaves L h.part h.first v h.matched i };
+        joined = j.1;
+      } in
+      let e = fails-alike (IsWider x (one_term h.context)) (wider_differs x (one_term h.context)) (λ c. Then (Makes C c r.result) (IsFilled h.context))
+      (λ c. Makes C c (closed_rule q r).result) f (put-fault h.context f) h.first j.0 h.last n wider h.fails in
+      let same : e.0 ≡ b = one_join (one_name x (one_term h.context)) h.last e.0 b e.2.joined h.joined in
+      record {
+        first = j.0;
+        matched = outside L q x r.pattern t j.0 (record {
+          context = h.context;
+          part = h.part;
+          forgotten = h.forgotten;
+          inner = h.first;
+          split = h.split;
+          matched = h.matched;
+          joined = j.1;
+        });
+        fails = subst (λ (c : Binding). FailsAfter L C (λ d. Makes C d (closed_rule q r).result) (avoiding w) r.extras j.0 n c f) same e.1;
+      }
+
 pub steps_in_context : StepsInContext
 steps_in_context L P n F q r w t u valid leaves =
-    (step_inside L (calls_at P n) F q r w t u valid leaves, step_outside L (calls_at P n) F q r w t u valid leaves)
+    (step_inside L (calls_at P n) F q r w t valid leaves u, step_outside L (calls_at P n) F q r w t valid leaves u)
+
+pub faults_in_context : FaultsInContext
+faults_in_context L P n F q r w t k b f valid leaves =
+    (fault_inside L (calls_at P n) F q r w t valid leaves k b f, fault_outside L (calls_at P n) F q r w t valid leaves k b f)
 
 pub keeps_own_steps : KeepsOwnSteps
 keeps_own_steps L P n F q r w t u valid leaves empty small h =
     let whole = empty_splits_all L q t empty in
     let part : whole.part ≡ t = (split-along whole.split).part in
-    step_outside L (calls_at P n) F q r w t u valid leaves (record {
+    step_outside L (calls_at P n) F q r w t valid leaves u (record {
       context = the_hole;
       part = whole.part;
       forgotten = whole.binding;
@@ -293,19 +373,13 @@ placed-in [] k x h = absurd cc
 placed-in (z ∷ xs) zero x h = let e : x ≡ z = cc in here e
 placed-in (z ∷ xs) (suc k) x h = there (placed-in xs k x h)
 
--- a test that all members pass
-all-in : {A : Type 0} (p : A → Bool) (xs : List A) (x : A) → list_all p xs ≡ true → In x xs → p x ≡ true
-all-in p [] x h i = elim i [ ]
-all-in p (z ∷ xs) x h (here e) = ap p e ∙ (and_parts (p z) (list_all p xs) h).0
-all-in p (z ∷ xs) x h (there i) = all-in p xs x (and_parts (p z) (list_all p xs) h).1 i
-
 pub closure_lists : ClosureLists
 closure_lists L P n F q x R t ss valid leaves h = listing_of inner outer (lists_taken L P n t (map (closed_rule q) R.rules) ss h)
   where
     at_rule : (r : Rule) (k : ℕ) (u : Tree) → slice_get R.rules k ≡ Some r
         → TakesStep L (calls_at P n) t (closed_rule q r) t u ↔ TakesStepInside L (calls_at P n) t q r t u
     at_rule r k u e =
-        let i = placed-in R.rules k r e in steps_in_context L P n F q r t t u (all-in (is_valid_rule F L) R.rules r valid i) (leaves r i)
+        let i = placed-in R.rules k r e in steps_in_context L P n F q r t t u (member_passes (is_valid_rule F L) r R.rules valid i) (leaves r i)
 
     inner : (s : Step) → IsTaken L (calls_at P n) t (map (closed_rule q) R.rules) s → IsTakenInside L (calls_at P n) q t R.rules s
     inner s k =
@@ -322,3 +396,60 @@ closure_lists L P n F q x R t ss valid leaves h = listing_of inner outer (lists_
       placed = map-placed (closed_rule q) R.rules s.rule k.rule k.placed;
       taken = (at_rule k.rule s.rule s.reduct k.placed).1 k.taken;
     }
+
+-- ---- the faults of a closure
+
+module _ (g : Rule → Rule) (M N : Rule → ℕ → Binding → Fault → Type 0) (rs : List Rule)
+    (same : (r : Rule) → In r rs → (n : ℕ) (b : Binding) (f : Fault) → M (g r) n b f ↔ N r n b f) (f : Fault) where
+  -- the first fault of images is that of the rules
+  first-of_rules : IsFirstMet M (map g rs) f → IsFirstMet N rs f
+  first-of_rules h =
+      let p = placed-map g rs h.place h.rule h.placed in
+      let i = placed-in rs h.place p.0 p.1 in
+      let back : (n : ℕ) (b : Binding) (k : Fault) → N p.0 n b k → M h.rule n b k =
+      λ n b k m. subst (λ (r : Rule). M r n b k) (sym p.2) ((same p.0 i n b k).1 m) in
+      record {
+        place = h.place;
+        rule = p.0;
+        extras = h.extras;
+        binding = h.binding;
+        placed = p.1;
+        met = (same p.0 i h.extras h.binding f).0 (subst (λ (r : Rule). M r h.extras h.binding f) p.2 h.met);
+        first_rule = λ j r n b k l e m. h.first_rule j (g r) n b k l (map-placed g rs j r e) ((same r (placed-in rs j r e) n b k).1 m);
+        first_extra = λ n b k l m. h.first_extra n b k l (back n b k m);
+        first_binding = λ b k l m. h.first_binding b k l (back h.extras b k m);
+      }
+
+  -- and the other way round
+  first-of_images : IsFirstMet N rs f → IsFirstMet M (map g rs) f
+  first-of_images h =
+      let i = placed-in rs h.place h.rule h.placed in
+      record {
+        place = h.place;
+        rule = g h.rule;
+        extras = h.extras;
+        binding = h.binding;
+        placed = map-placed g rs h.place h.rule h.placed;
+        met = (same h.rule i h.extras h.binding f).1 h.met;
+        first_rule = earlier;
+        first_extra = λ n b k l m. h.first_extra n b k l ((same h.rule i n b k).0 m);
+        first_binding = λ b k l m. h.first_binding b k l ((same h.rule i h.extras b k).0 m);
+      }
+    where
+      earlier : (j : ℕ) (r : Rule) (n : ℕ) (b : Binding) (k : Fault) → j < h.place → slice_get (map g rs) j ≡ Some r → M r n b k → ⊥
+      earlier j r n b k l e m =
+          let p = placed-map g rs j r e in
+          h.first_rule j p.0 n b k l p.1 ((same p.0 (placed-in rs j p.0 p.1) n b k).0 (subst (λ (s : Rule). M s n b k) p.2 m))
+
+pub closure_faults : ClosureFaults
+closure_faults L P n F q x R t f a valid leaves h =
+    let M : Rule → ℕ → Binding → Fault → Type 0 = MeetsFault L (calls_at P n) t t in
+    let N : Rule → ℕ → Binding → Fault → Type 0 = MeetsFaultInside L (calls_at P n) t q t in
+    let k = answers_first L P n t (map (closed_rule q) R.rules) f a h in (
+      λ e. first-of_rules (closed_rule q) M N R.rules same f (k.0 e),
+      λ m. k.1 (first-of_images (closed_rule q) M N R.rules same f m),
+    )
+  where
+    same : (r : Rule) → In r R.rules → (m : ℕ) (b : Binding) (g : Fault)
+        → MeetsFault L (calls_at P n) t t (closed_rule q r) m b g ↔ MeetsFaultInside L (calls_at P n) t q t r m b g
+    same r i m b g = faults_in_context L P n F q r t t m b g (member_passes (is_valid_rule F L) r R.rules valid i) (leaves r i)

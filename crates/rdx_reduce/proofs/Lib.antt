@@ -7,7 +7,7 @@ pub mod ContextNames
 pub mod ClosureExamples
 pub mod ContextBindings
 pub mod SameTemplates
-pub mod Reached
 pub mod AlongExtras
 pub mod TakenSteps
+pub mod FirstFaults
 pub mod ClosureLaws

@@ -24,7 +24,7 @@ use Rattle.rdx_eval.proofs.OneAnswer.{once-call, once-outputs, once-extend, once
 use Rattle.rdx_eval.proofs.SomeAnswer.{some-lists}
 use Rattle.rdx_reduce.specs.Steps.{Step, step_cmp, StepBy, RuleSteps, AllSteps, Steps}
 use Rattle.rdx_reduce.specs.TakenSteps.{LeadTo, no_extra, one_extra, TakesStep, IsTaken, ListsTaken}
-use Rattle.rdx_reduce.proofs.Reached.{reached, gathered-sound, gathered-complete}
+use Rattle.rdx_eval.proofs.Reached.{reached, gathered-sound, gathered-complete}
 
 -- what lists the members of a set lists them
 listing_in : {A : Type 0} (cmp : A → A → Ordering) (R : A → Type 0) (xs : List A) → Lists cmp R (value xs) → IsListing cmp xs R
@@ -37,7 +37,7 @@ listing_from cmp R r (lists {xs = xs} l) = (xs, l)
 module _ (L : Language) (C : Calls) (calls : (f : List ℕ) (a : Tree) → Once (C.value_of f a))
     (outputs : (j : List ℕ) (a : Tree) → Once (C.outputs_of j a)) where
   -- the listing of what an extra makes of one binding
-  by_alone : (a : Avoided) (e : Extra) (b : Binding) (cs : List Binding) → By L C a e b (value cs)
+  pub by_alone : (a : Avoided) (e : Extra) (b : Binding) (cs : List Binding) → By L C a e b (value cs)
       → (ds : List Binding) × Extend L C a (e ∷ []) (b ∷ []) (value ds) × IsListing binding_cmp ds (λ c. In c (cs ++ []))
   by_alone a e b cs h =
       let some = some-lists binding_cmp binding_cmp-total binding_cmp-tells (cs ++ []) in
@@ -45,7 +45,7 @@ module _ (L : Language) (C : Calls) (calls : (f : List ℕ) (a : Tree) → Once 
       (k.0, goes (goes (goes h (goes refl refl)) (lists k.1)) refl, k.1)
 
   -- what an extra makes of a binding has the same members each time
-  by-same : (a : Avoided) (e : Extra) (b c : Binding) (cs ds : List Binding) → By L C a e b (value cs) → By L C a e b (value ds) → In c cs → In c ds
+  pub by-same : (a : Avoided) (e : Extra) (b c : Binding) (cs ds : List Binding) → By L C a e b (value cs) → By L C a e b (value ds) → In c cs → In c ds
   by-same a e b c cs ds h k i =
       let m = by_alone a e b cs h in
       let n = by_alone a e b ds k in

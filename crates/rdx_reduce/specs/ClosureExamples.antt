@@ -1,13 +1,16 @@
 -- Worked examples: what closures make of relations of one rule. They are proved, as the clauses of `laws::worked_closures`.
-use Rattle.std.specs.Prelude.{◌≡◌, ℕ, List, [], ◌∷◌, Option, Some, None, codes}
+use Rattle.std.specs.Prelude.{◌≡◌, ℕ, pos, List, [], ◌∷◌, Option, Some, None, codes}
 use Rattle.rdx_lang.specs.Closures.{closed_rule, context_closure, compatible_closure}
 use Rattle.rdx_lang.specs.Examples.{int, list_of_two, seq_of_two, any, number, E, Numbers, Contexts}
 use Rattle.rdx_lang.specs.Patterns as pattern
 use Rattle.rdx_lang.specs.Patterns.{Pattern, wild, hole, nt, named, in_hole, closed}
 use Rattle.rdx_lang.specs.Programs.{Relation}
-use Rattle.rdx_lang.specs.Templates.{Template, lit, var, fill}
+use Rattle.rdx_lang.specs.Templates as templates
+use Rattle.rdx_lang.specs.Templates.{Template, lit, var, fill, host, term}
+use Rattle.rdx_lang.specs.declared.operation.HostOp.TheVariants.{Quotient}
 use Rattle.rdx_lang.specs.declared.pattern.Ref.TheVariants.{Cross}
-use Rattle.rdx_eval.specs.Answers.{value}
+use Rattle.rdx_eval.specs.Answers.{value, fault, not_context, divide_by_zero}
+use Rattle.rdx_eval.specs.CallExamples.{of_two}
 use Rattle.rdx_eval.specs.FreshExamples.{x, x1, fresh_x}
 use Rattle.rdx_reduce.specs.Examples.{leads_where, step, TakeIn}
 
@@ -75,3 +78,24 @@ abbrev pub StepsInEachPlace : Type 0
 StepsInEachPlace =
     TakeIn Contexts (context_closure (nt E) (codes "y") (alone (codes "x") None (named (codes "number_1") number) (lit (int 0)))).rules
     (list_of_two (int 1) (int 2)) (value (step 0 (list_of_two (int 0) (int 2)) ∷ step 0 (list_of_two (int 1) (int 0)) ∷ []))
+
+-- ---- faults of closures
+
+-- the closure by `(hole any)` of `(--> 1 (in-hole 2 2))`, where 2 is no context
+abbrev pub no_context_at_first : Relation
+no_context_at_first =
+    context_closure (seq_of_two hole any) (codes "y") (alone (codes "x") None (pattern.lit (int 1)) (fill (lit (int 2)) (lit (int 2))))
+
+-- it has the fault where the pattern splits, and nowhere else: from `(1 1)`, and not from 1
+abbrev pub FaultInside : Type 0
+FaultInside =
+    TakeIn Numbers no_context_at_first.rules (list_of_two (int 1) (int 1)) (fault (not_context 0))
+    × TakeIn Numbers no_context_at_first.rules (int 1) (value [])
+
+-- of the faults in several places the first is the answer, by the order of the contexts here: where E is `hole`, `(E any)` or `(any E)`, the closure
+-- by E of `(--> number_1 ,(quotient number_1 0))` divides 1 by zero from `(1 2)`
+abbrev pub FirstPlaceFails : Type 0
+FirstPlaceFails =
+    TakeIn Contexts (context_closure (nt E) (codes "y") (alone (codes "x") None (named (codes "number_1") number)
+    (host (of_two Quotient (term (var (codes "number_1") 0)) (templates.number (pos 0)))))).rules
+    (list_of_two (int 1) (int 2)) (fault (divide_by_zero Quotient (int 1 ∷ int 0 ∷ [])))

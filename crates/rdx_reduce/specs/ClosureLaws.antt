@@ -1,5 +1,5 @@
 -- What closures do, stated for the contracts of the module of laws: the rule of a closure matches a term where the closing pattern splits it and the
--- rule matches the part; and it takes the step that the rule takes there, inside of the context.
+-- rule matches the part; it takes the step that the rule takes there, inside of the context; and it meets the faults that the rule meets there.
 use Rattle.std.specs.Prelude.{◌≡◌, ◌↔◌, ℕ, IsTrue, IsFalse, List, Some, bytes_eq, slice_get}
 use Rattle.std.specs.List.{list_all, list_any}
 use Rattle.rdx_term.specs.Fill.{fill_of}
@@ -17,9 +17,13 @@ use Rattle.rdx_lang.specs.Patterns.{Pattern, Language}
 use Rattle.rdx_lang.specs.Programs.{Program, Relation, Rule}
 use Rattle.rdx_lang.specs.Rules.{Match, Split}
 use Rattle.rdx_lang.specs.Valid.{is_valid_rule}
-use Rattle.rdx_eval.specs.Answers.{value}
+use Rattle.rdx_eval.specs.Answers.{Answer, value, fault, Fault, Then}
 use Rattle.rdx_eval.specs.Calls.{Calls}
+use Rattle.rdx_eval.specs.Fresh.{avoiding}
 use Rattle.rdx_eval.specs.Heights.{calls_at}
+use Rattle.rdx_eval.specs.Instantiation.{Makes}
+use Rattle.rdx_eval.specs.Making.{IsFilled}
+use Rattle.rdx_reduce.specs.FirstFaults.{FailsAfter, MeetsFault, IsFirstMet}
 use Rattle.rdx_reduce.specs.Steps.{Step, step_cmp, Steps}
 use Rattle.rdx_reduce.specs.TakenSteps.{TakesStep}
 
@@ -91,3 +95,33 @@ ClosureLists =
     (L : Language) (P : Program) (n : ℕ) (F : Callable) (q : Pattern) (x : List ℕ) (R : Relation) (t : Tree) (ss : List Step)
     → IsTrue (list_all (is_valid_rule F L) R.rules) → ((r : Rule) → In r R.rules → LeavesAName r)
     → Steps L (calls_at P n) t (context_closure q x R).rules (value ss) → IsListing step_cmp ss (IsTakenInside L (calls_at P n) q t R.rules)
+
+-- ---- faults
+
+-- q splits t into a context and a part; with the part the rule meets the fault behind so many of its extras, where what its result makes is put
+-- into the context; and b is the binding that it meets it with, joined with the name of the context
+pub record MeetsFaultInside (L : Language) (C : Calls) (w : Tree) (q : Pattern) (t : Tree) (r : Rule) (n : ℕ) (b : Binding) (f : Fault) : Type 0 where
+  pub context : Tree
+  pub part : Tree
+  pub forgotten : Binding
+  pub first : Binding
+  pub last : Binding
+  pub split : Split L q t context part forgotten
+  pub matched : Match L r.pattern part first
+  pub fails : FailsAfter L C (λ c. Then (Makes C c r.result) (IsFilled context)) (avoiding w) r.extras first n last f
+  pub joined : IsJoin (one_name (context_name r) (one_term context)) last b
+
+-- where a rule is valid, the closed rule meets exactly the faults that the rule meets inside of contexts
+abbrev pub FaultsInContext : Type 0
+FaultsInContext =
+    (L : Language) (P : Program) (n : ℕ) (F : Callable) (q : Pattern) (r : Rule) (w t : Tree) (k : ℕ) (b : Binding) (f : Fault)
+    → IsTrue (is_valid_rule F L r) → LeavesAName r
+    → (MeetsFault L (calls_at P n) w t (closed_rule q r) k b f ↔ MeetsFaultInside L (calls_at P n) w q t r k b f)
+
+-- so whatever the steps of a closure of a relation with valid rules are answered, it is a fault exactly where this is the first that its rules meet
+-- inside of contexts; bindings are in order with the name of the context among theirs
+abbrev pub ClosureFaults : Type 0
+ClosureFaults =
+    (L : Language) (P : Program) (n : ℕ) (F : Callable) (q : Pattern) (x : List ℕ) (R : Relation) (t : Tree) (f : Fault) (a : Answer (List Step))
+    → IsTrue (list_all (is_valid_rule F L) R.rules) → ((r : Rule) → In r R.rules → LeavesAName r)
+    → Steps L (calls_at P n) t (context_closure q x R).rules a → (a ≡ fault f ↔ IsFirstMet (MeetsFaultInside L (calls_at P n) t q t) R.rules f)

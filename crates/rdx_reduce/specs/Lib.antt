@@ -3,6 +3,7 @@ pub mod Relations
 pub mod StepView
 pub mod Laws
 pub mod TakenSteps
+pub mod FirstFaults
 pub mod ClosureLaws
 pub mod Examples
 pub mod ClosureExamples

@@ -1,8 +1,9 @@
 //! Laws of steps: functions that do nothing, whose contracts are the laws.
-ghost use Rattle.rdx_reduce.specs.ClosureLaws.{MatchesInContext, ContextIsJoined, StepsInContext, KeepsOwnSteps, ClosureLists};
-ghost use Rattle.rdx_reduce.specs.ClosureExamples.{NameStays, NameIsTaken, ClosureOfClosure, StepsInside, NoStepAtTop, FreshAvoidsContext, StepsInEachPlace};
+ghost use Rattle.rdx_reduce.specs.ClosureLaws.{MatchesInContext, ContextIsJoined, StepsInContext, KeepsOwnSteps, ClosureLists, FaultsInContext, ClosureFaults};
+ghost use Rattle.rdx_reduce.specs.ClosureExamples.{NameStays, NameIsTaken, ClosureOfClosure, StepsInside, NoStepAtTop, FreshAvoidsContext, StepsInEachPlace, FaultInside, FirstPlaceFails};
 ghost use Rattle.rdx_reduce.specs.Examples.{OneStep, StepByEach, OnceForTwo, FaultAlone, RulesInOrder, MarksCount, FirstFault};
 ghost use Rattle.rdx_reduce.specs.Examples.{ConditionHolds, ConditionFails, WhereFails};
+ghost use Rattle.rdx_reduce.specs.FirstFaults.{AnswersFirst};
 ghost use Rattle.rdx_reduce.specs.Laws.{OneStepping, SomeStepping};
 ghost use Rattle.rdx_reduce.specs.TakenSteps.{ListsTaken};
 
@@ -14,21 +15,25 @@ pub fn one_stepping()
 {}
 
 /// Where there is no fault, the steps that are listed are exactly those that the rules take, one by
-/// one.
+/// one; and a fault is the first that the rules meet, by rule, extra and binding.
 pub fn taken_steps()
-    ensures { ListsTaken }
+    ensures lists { ListsTaken }
+    ensures fault { AnswersFirst }
 {}
 
 /// The rule of a closure matches where the closing pattern splits off a context and the rule
 /// matches the part, and takes the steps of a valid rule there. So where there is no fault, the
-/// steps of a closure are exactly those that the rules of the relation take inside of contexts. The
-/// name of the context has to be none that a rule binds.
+/// steps of a closure are exactly those that the rules of the relation take inside of contexts; and
+/// its fault is the first that they meet there. The name of the context has to be none that a rule
+/// binds.
 pub fn closures_step_inside()
     ensures matches { MatchesInContext }
     ensures joined { ContextIsJoined }
     ensures steps { StepsInContext }
     ensures own { KeepsOwnSteps }
     ensures lists { ClosureLists }
+    ensures faults { FaultsInContext }
+    ensures first { ClosureFaults }
 {}
 
 /// Worked examples: the steps of small rules from small terms.
@@ -54,4 +59,6 @@ pub fn worked_closures()
     ensures no_step_at_top { NoStepAtTop }
     ensures fresh_avoids_context { FreshAvoidsContext }
     ensures steps_in_each_place { StepsInEachPlace }
+    ensures fault_inside { FaultInside }
+    ensures first_place_fails { FirstPlaceFails }
 {}

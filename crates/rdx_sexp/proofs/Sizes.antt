@@ -3,7 +3,7 @@ use Rattle.std.proofs.Common.{◌≤◌, ◌+◌, ◌*◌, ℕ, suc, List, [], �
 use Rattle.std.specs.Str.{chars}
 use Rattle.std.proofs.lemmas.Str.{length-le-encodes, encodes-chars}
 use Rattle.rdx_sexp.specs.Sexp.{Sexp, sexps, sexp_nodes, sexps_nodes}
-use Rattle.rdx_sexp.specs.Size.{sexp_depth, sexps_depth, IsOfFileSize}
+use Rattle.rdx_sexp.specs.Size.{sexp_depth, sexps_depth, AreFileData}
 use Rattle.rdx_sexp.specs.Lexeme.{Lexeme}
 use Rattle.rdx_sexp.specs.Begin.{body}
 use Rattle.rdx_sexp.specs.Text.{Text}
@@ -50,7 +50,7 @@ mutual
       record { shallow = g.shallow; few = omega (arith, f.few, g.few) }
 
 -- the data of bytes of a file's length are of file size
-pub data_are_of_file_size : (bytes : List ℕ) (ds : List Sexp) → length bytes ≤ 1_048_576 → Reads bytes ds → IsOfFileSize ds
+pub data_are_of_file_size : (bytes : List ℕ) (ds : List Sexp) → length bytes ≤ 1_048_576 → Reads bytes ds → AreFileData ds
 data_are_of_file_size bytes ds h r =
     let f = many_are_fine 0 r.lexemes [] ds (omega arith) r.data_are in
     let a = lexemes_are_no_more r.lexemes (body (chars bytes)) r.lexed in

@@ -15,7 +15,7 @@ use Rattle.rdx_sexp.specs.Inside.Machine.{run}
 use Rattle.rdx_sexp.specs.Reads.{Lexes, Reads, FirstFault, not_utf8, in_text}
 use Rattle.rdx_sexp.specs.Refusal.{refusal}
 use Rattle.rdx_sexp.specs.Sexp.{Sexp}
-use Rattle.rdx_sexp.specs.Size.{IsOfFileSize}
+use Rattle.rdx_sexp.specs.Size.{AreFileData}
 use Rattle.rdx_sexp.specs.Inside.Stack.{Gives}
 use Rattle.rdx_sexp.specs.Text.{start, after_all}
 use Rattle.rdx_sexp.proofs.Faults.{run-fault}
@@ -37,7 +37,7 @@ reading_holds bytes (Ok v) u g =
 reading_holds bytes (Err e) u g = tt
 
 -- it is of file size
-pub size_holds : {Z : Type 0} (bytes : List ℕ) (r : Result (Vec Datum Z) ReadFault) → length bytes ≤ 1_048_576 → IfOk r (λ v. Reads bytes v.items) → IfOk r (λ v. IsOfFileSize v.items)
+pub size_holds : {Z : Type 0} (bytes : List ℕ) (r : Result (Vec Datum Z) ReadFault) → length bytes ≤ 1_048_576 → IfOk r (λ v. Reads bytes v.items) → IfOk r (λ v. AreFileData v.items)
 size_holds bytes (Ok v) h reads = data_are_of_file_size bytes v.items h reads
 size_holds bytes (Err e) h reads = tt
 

@@ -32,7 +32,7 @@ abbrev mutual
   AreSpelled (cons d ds) = IsSpelledSexp d × AreSpelled ds
 
 -- the data of a file of at most 1,048,576 bytes: how deep they nest, how many they are with all their parts, and their symbols
-pub record IsOfFileSize (ds : List Sexp) : Type 0 where
+pub record AreFileData (ds : List Sexp) : Type 0 where
   pub depth : sexps_depth (sexps ds) ≤ 500
   pub nodes : sexps_nodes (sexps ds) ≤ 2_097_152
   pub spelled : AreSpelled (sexps ds)

@@ -10,7 +10,7 @@ ghost use Rattle.rdx_sexp.specs.Inside.Machine.{ended, run};
 ghost use Rattle.rdx_sexp.specs.Reads.{Lexes, Reads, FirstFault};
 ghost use Rattle.rdx_sexp.specs.Refusal.{refusal};
 ghost use Rattle.rdx_sexp.specs.Sexp.{Sexp};
-ghost use Rattle.rdx_sexp.specs.Size.{IsOfFileSize};
+ghost use Rattle.rdx_sexp.specs.Size.{AreFileData};
 ghost use Rattle.rdx_sexp.specs.Inside.Stack.{frames, Gives};
 ghost use Rattle.rdx_sexp.specs.Text.{at, start, after_all};
 
@@ -97,7 +97,7 @@ fn not_utf8(alloc: Global, bytes: &[u8], len: usize) -> ReadFault
 pub fn read_all(alloc: Global, bytes: &[u8]) -> Result<Vec<Datum>, ReadFault>
     requires { length bytes.now ≤ 1_048_576 }
     ensures reading { IfOk result (λ v. Reads bytes.now v.items) }
-    ensures size { IfOk result (λ v. IsOfFileSize v.items) }
+    ensures size { IfOk result (λ v. AreFileData v.items) }
     ensures data { (ds : List Sexp) → Reads bytes.now ds → HasData ds result }
     ensures refused { IfErr result (IsFaultOf bytes.now) }
     ensures fault { (r : ReadRefusal) → FirstFault bytes.now r → HasRefusal r result }

@@ -10,7 +10,5 @@
 mod key;
 pub mod laws;
 mod store;
-#[cfg(test)]
-mod tests;
 
 pub use store::{Store, TermId};

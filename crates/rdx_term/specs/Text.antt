@@ -1,7 +1,8 @@
--- The one printed spelling of a tree.
+-- The one printed spelling of a tree, and that of a label.
 use Rattle.std.specs.Prelude.{ℕ, ◌==◌, Bool, true, false, List, [], ◌∷◌, ◌++◌, codes, if◌then◌else◌}
 use Rattle.std.specs.Fmt.{signed_decimal}
 use Rattle.std.specs.Str.{byte}
+use Rattle.rdx_term.specs.Spelling.{is_symbol_spelling}
 use Rattle.rdx_term.specs.Tree.{Tree, hole, integer, truth, text, symbol, list, Trees, nil, cons}
 
 -- one byte of a string: `"`, `\`, LF, TAB and CR as escapes, and all else as it is
@@ -48,3 +49,7 @@ abbrev mutual
   pub spaced_text : Trees → List ℕ
   spaced_text nil = []
   spaced_text (cons t ts) = codes " " ++ tree_text t ++ spaced_text ts
+
+-- A label, which may be any text, as the name of a rule: as it is where it is spelled like a symbol, else as a string.
+abbrev pub label_text : List ℕ → List ℕ
+label_text x = if is_symbol_spelling x then x else string_text x

@@ -21,8 +21,6 @@ mod name;
 pub mod printing;
 pub mod spelling;
 mod term;
-#[cfg(test)]
-mod tests;
 
 pub use error::{Build, NoMemory};
 pub use name::Name;

@@ -3,7 +3,7 @@
 ghost use Rattle.std.specs.Prelude.{◌≡◌};
 ghost use Rattle.std.specs.List.{list_any};
 ghost use Rattle.std.specs.Str.{chars};
-ghost use Rattle.rdx_term.specs.Spelling.{ends_token, is_token, is_symbol_quote, begins_with_hash, begins_with_digit, begins_unsigned, begins_number, is_reserved, is_symbol_token, is_name};
+ghost use Rattle.rdx_term.specs.Spelling.{ends_token, is_token, is_symbol_quote, begins_with_hash, begins_with_digit, begins_unsigned, begins_number, is_reserved, is_symbol_token, is_symbol_spelling, is_name};
 
 /// A character before which a token ends: white space, a bracket, or one of `"`, `,`, `'`, `` ` `` and `;`.
 pub fn ends_token(c: char) -> bool
@@ -95,9 +95,16 @@ fn is_symbol_token(text: &str) -> bool
         && !is_reserved(text)
 }
 
-// One token that is a symbol, and not `hole`.
+/// The whole text is one token, and it is a symbol: a name, or `hole`.
+pub fn is_symbol(text: &str) -> bool
+    ensures { result ≡ is_symbol_spelling text.now }
+{
+    is_token(text) && is_symbol_token(text)
+}
+
+// A symbol other than `hole`.
 pub(crate) fn is_name(text: &str) -> bool
     ensures { result ≡ is_name text.now }
 {
-    is_token(text) && is_symbol_token(text) && text != "hole"
+    is_symbol(text) && text != "hole"
 }

@@ -3,14 +3,14 @@ use Rattle.std.specs.Prelude.{ℕ, List, map, option_map}
 use Rattle.rdx_sexp.specs.Sexp.{Sexp}
 use Rattle.rdx_lang.specs.Programs.{Clause, Metafunction, Rule}
 use Rattle.rdx_grammar.specs.Parts.{text_of}
-use Rattle.rdx_defs.specs.ExtraReading.{extras_reading}
-use Rattle.rdx_defs.specs.Inside.Branches.{Branch, bound_by_taken, bound_by_branch, taken_reading}
+use Rattle.rdx_parts.specs.ExtraReading.{extras_reading}
+use Rattle.rdx_parts.specs.Outlines.{Branch, bound_by_taken, bound_by_branch, taken_reading}
 use Rattle.rdx_defs.specs.MetafunctionForms.{MetafunctionForm}
 use Rattle.rdx_defs.specs.MetafunctionReading.{contract_reading}
 use Rattle.rdx_defs.specs.RelationReading.{first_name}
-use Rattle.rdx_defs.specs.Scope.{Scope}
-use Rattle.rdx_defs.specs.Stands.{names_bound}
-use Rattle.rdx_defs.specs.TemplateReading.{template_reading}
+use Rattle.rdx_parts.specs.Scope.{Scope}
+use Rattle.rdx_parts.specs.Stands.{names_bound}
+use Rattle.rdx_parts.specs.TemplateReading.{template_reading}
 
 -- the rule of a case
 abbrev pub branch_rule : Scope → List (List ℕ) → Branch → Rule

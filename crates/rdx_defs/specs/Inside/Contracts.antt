@@ -3,7 +3,7 @@ use Rattle.std.specs.Prelude.{ℕ, IsTrue, List, Option, Some, None}
 use Rattle.rdx_lang.specs.PatternView.{Slot, just, repeated}
 use Rattle.rdx_lang.specs.Patterns.{Language, closed}
 use Rattle.rdx_lang.specs.WellFormed.{is_well_formed_in}
-use Rattle.rdx_defs.specs.Headed.{Headed}
+use Rattle.rdx_parts.specs.Headed.{Headed}
 use Rattle.rdx_defs.specs.JudgementReading as judgements
 use Rattle.rdx_defs.specs.MetafunctionForms.{ContractForm}
 use Rattle.rdx_defs.specs.MetafunctionReading.{contract_reading}

@@ -2,14 +2,15 @@
 ghost use Rattle.std.specs.List.{list_all, list_any};
 ghost use Rattle.std.specs.Str.{byte};
 ghost use Rattle.std.specs.Prelude.{◌≡◌, ◌<◌, ◌==◌, IfOk, IfSome, bytes_eq, length, map, option_map};
-ghost use Rattle.rdx_defs.specs.Inside.Branches as inside;
-ghost use Rattle.rdx_defs.specs.Inside.FormViews.{headed_of, judgement_form_of, keys_of, next_of, option_form_of, paired, rule_branch_of, rule_form_of};
+ghost use Rattle.rdx_defs.specs.Inside.FormOutlines as inside;
+ghost use Rattle.rdx_defs.specs.Inside.FormViews.{judgement_form_of, keys_of, next_of, option_form_of, paired, rule_form_of};
+ghost use Rattle.rdx_parts.specs.PartViews.{headed_of, rule_branch_of};
 ghost use Rattle.rdx_defs.specs.JudgementForms as model;
 
-use crate::arguments::{Headed, headed_list, in_conclusion};
-use crate::branches::RuleBranch;
 use crate::relations::forms::{is_keyword, may_name};
 use rdx_grammar::shape::{is_symbol, is_word, items, text};
+use rdx_parts::arguments::{Headed, headed_list, in_conclusion};
+use rdx_parts::branches::RuleBranch;
 use rdx_sexp::{Datum, Form};
 use rdx_term::NoMemory;
 use std::alloc::Global;

@@ -8,9 +8,8 @@ ghost use Rattle.rdx_grammar.specs.Nonterminals.{names_of};
 ghost use Rattle.rdx_grammar.specs.Readable.{IsReadable};
 ghost use Rattle.rdx_defs.specs.Answers.{ReadsJudgement};
 ghost use Rattle.rdx_defs.specs.JudgementForms as forms;
-ghost use Rattle.rdx_defs.specs.Scope.{callable, scope_of};
+ghost use Rattle.rdx_parts.specs.Scope.{callable, scope_of};
 
-use crate::Scope;
 use crate::crosses::add_asked;
 use crate::judgements::forms::{judgement_form, judgement_in, own_mode};
 use crate::judgements::readings::read_parts;
@@ -19,6 +18,7 @@ use rdx_grammar::refusal::unnamed;
 use rdx_grammar::unbuilt::has_word_to_come;
 use rdx_grammar::{DefFault, DefKind, Names};
 use rdx_lang::{CheckedLang, Judgement};
+use rdx_parts::Scope;
 use rdx_sexp::Datum;
 use std::alloc::Global;
 

@@ -4,18 +4,18 @@ ghost use Rattle.rdx_grammar.specs.Readable.{IsReadable};
 ghost use Rattle.rdx_grammar.specs.Refusal.{refusal_of};
 ghost use Rattle.rdx_grammar.specs.Unbuilt.{unbuilt_at};
 ghost use Rattle.rdx_defs.specs.Inside.FormViews.{judgement_form_of};
-ghost use Rattle.rdx_defs.specs.Inside.PartsHave.{IsReadableIn};
+ghost use Rattle.rdx_parts.specs.PartsHave.{IsReadableIn};
 ghost use Rattle.rdx_defs.specs.JudgementForms as forms;
 ghost use Rattle.rdx_defs.specs.JudgementRefusal.{judgement_refusal, premise_refusal};
-ghost use Rattle.rdx_defs.specs.Scope.{scope_of};
+ghost use Rattle.rdx_parts.specs.Scope.{scope_of};
 
-use crate::Scope;
 use crate::judgements::forms::JudgementForm;
 use crate::judgements::stands::{
     judgement_outline, judgement_stands, question_outline, question_stands,
 };
-use crate::stands::refusals::refuse_parts;
 use rdx_grammar::{DefRefusal, Names};
+use rdx_parts::Scope;
+use rdx_parts::stands::refusals::refuse_parts;
 use rdx_sexp::Datum;
 use rdx_term::NoMemory;
 use std::alloc::Global;

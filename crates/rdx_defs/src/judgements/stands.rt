@@ -1,26 +1,28 @@
 // What stands in a form of a judgement, and in a premise by itself.
 ghost use Rattle.std.specs.Prelude.{◌≡◌, ◌++◌, ◌∷◌, [], Some, IfOk, IsTrue, true, map, option_map, if◌then◌else◌};
 ghost use Rattle.rdx_grammar.specs.Readable.{IsReadable};
-ghost use Rattle.rdx_defs.specs.ExtraForms.{of_rule};
-ghost use Rattle.rdx_defs.specs.Inside.BareStands as bare;
-ghost use Rattle.rdx_defs.specs.Inside.Branches as inside;
-ghost use Rattle.rdx_defs.specs.Inside.FormViews.{headed_of, judgement_form_of, keys_of, option_form_of, outline_of, paired, rule_branch_of, rule_form_of, stands_of};
-ghost use Rattle.rdx_defs.specs.Inside.PartsHave.{AreReadable, ExtrasHave, OutlineHas, RuleHas, RulesHave, readable};
+ghost use Rattle.rdx_parts.specs.ExtraForms.{of_rule};
+ghost use Rattle.rdx_parts.specs.BareStands as bare;
+ghost use Rattle.rdx_defs.specs.Inside.BareForms as bare_forms;
+ghost use Rattle.rdx_defs.specs.Inside.FormOutlines as inside;
+ghost use Rattle.rdx_defs.specs.Inside.FormViews.{judgement_form_of, keys_of, option_form_of, paired, rule_form_of};
+ghost use Rattle.rdx_parts.specs.PartViews.{headed_of, outline_of, rule_branch_of, stands_of};
+ghost use Rattle.rdx_parts.specs.PartsHave.{AreReadable, ExtrasHave, OutlineHas, RuleHas, RulesHave, readable};
 ghost use Rattle.rdx_defs.specs.JudgementForms as forms;
 ghost use Rattle.rdx_defs.specs.JudgementStands as model;
-ghost use Rattle.rdx_defs.specs.Scope.{scope_of};
-ghost use Rattle.rdx_defs.specs.Stands.{misshaped};
+ghost use Rattle.rdx_parts.specs.Scope.{scope_of};
+ghost use Rattle.rdx_parts.specs.Stands.{misshaped};
 
-use crate::Scope;
-use crate::arguments::{Headed, headed_list, in_conclusion, is_misfit};
-use crate::branches::{Outline, Question, RuleBranch};
-use crate::extras::ExtraPlace;
 use crate::judgements::forms::{
     JudgementForm, OptionForm, RuleForm, is_fit_option, is_flag, judgement_in, mode_form,
     next_option, own_rule, rule_branch,
 };
 use crate::relations::forms::is_keyword;
-use crate::stands::collecting::{
+use rdx_parts::Scope;
+use rdx_parts::arguments::{Headed, headed_list, in_conclusion, is_misfit};
+use rdx_parts::branches::{Outline, Question, RuleBranch};
+use rdx_parts::extras::ExtraPlace;
+use rdx_parts::stands::collecting::{
     Stand, add_alone, add_arguments, add_extras, add_held, add_misfit,
 };
 use rdx_sexp::Datum;
@@ -38,7 +40,7 @@ fn add_conclusion<'a>(
     ensures { IfOk result (λ _.
         stands_of out.new.items
         ≡ stands_of out.old.items
-        ++ bare.conclusion_stands (option_map (λ m. m.now) mode.entry)
+        ++ bare_forms.conclusion_stands (option_map (λ m. m.now) mode.entry)
         (rule_form_of rule.entry)) }
 {
     let arguments = rule.parts.arguments;
@@ -94,7 +96,7 @@ fn add_rule_parts<'a>(
     ensures { IfOk result (λ _.
         stands_of out.new.items
         ≡ stands_of out.old.items
-        ++ bare.rule_stands (scope_of scope.now) (option_map (λ m. m.now) mode.entry)
+        ++ bare_forms.rule_stands (scope_of scope.now) (option_map (λ m. m.now) mode.entry)
         (rule_form_of rule.entry).conclusion (Some (rule_form_of rule.entry))) }
 {
     if rule.is_last {
@@ -121,7 +123,7 @@ fn add_rule<'a>(
     ensures { IfOk result (λ _.
         stands_of out.new.items
         ≡ stands_of out.old.items
-        ++ bare.rule_stands (scope_of scope.now) (option_map (λ m. m.now) mode.entry) d.now
+        ++ bare_forms.rule_stands (scope_of scope.now) (option_map (λ m. m.now) mode.entry) d.now
         (forms.own_rule (option_map (λ d. d.now) judgement.entry) (forms.rule_form d.now))) }
 {
     match own_rule(judgement, d) {
@@ -145,7 +147,7 @@ fn add_rules<'a>(
     ensures { IfOk result (λ _.
         stands_of out.new.items
         ≡ stands_of out.old.items
-        ++ bare.rules_stand (scope_of scope.now) (option_map (λ d. d.now) judgement.entry)
+        ++ bare_forms.rules_stand (scope_of scope.now) (option_map (λ d. d.now) judgement.entry)
         (option_map (λ m. m.now) mode.entry) rules.now) }
 {
     for d in rules {
@@ -328,7 +330,7 @@ pub(crate) fn judgement_stands<'a>(
         (inside.judgement_outline (judgement_form_of form)) }
     ensures { IfOk result (λ found.
         stands_of found.items
-        ≡ bare.judgement_stands (scope_of scope.now) d.now (judgement_form_of form.entry)) }
+        ≡ bare_forms.judgement_stands (scope_of scope.now) d.now (judgement_form_of form.entry)) }
 {
     let mut found = Vec::new(alloc);
     add_missing_mode(d, form, &mut found)?;
@@ -468,7 +470,7 @@ pub(crate) fn question_stands<'a>(
     requires { IsReadable premise.now }
     ensures { IfOk result (λ found.
         stands_of found.items
-        ≡ bare.question_stands (scope_of scope.now) premise.now
+        ≡ bare_forms.question_stands (scope_of scope.now) premise.now
         (option_map (λ d. d.now) behind.entry)) }
 {
     let mut found = Vec::new(alloc);

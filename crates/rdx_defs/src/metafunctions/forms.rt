@@ -1,14 +1,15 @@
 // The parts of forms of metafunctions, of clauses and of contracts.
 ghost use Rattle.std.specs.Prelude.{◌≡◌, option_map};
-ghost use Rattle.rdx_defs.specs.Inside.Branches.{clause_branch, own_clause};
-ghost use Rattle.rdx_defs.specs.Inside.FormViews.{branch_of, clause_form_of, contract_form_of, metafunction_form_of};
+ghost use Rattle.rdx_defs.specs.Inside.FormOutlines.{clause_branch, own_clause};
+ghost use Rattle.rdx_defs.specs.Inside.FormViews.{clause_form_of, contract_form_of, metafunction_form_of};
+ghost use Rattle.rdx_parts.specs.PartViews.{branch_of};
 ghost use Rattle.rdx_defs.specs.MetafunctionForms as model;
 ghost use Rattle.rdx_defs.specs.MetafunctionReading.{text_in};
 
-use crate::branches::{Branch, Takes};
-use crate::extras::ExtraPlace;
 use crate::relations::forms::may_name;
 use rdx_grammar::shape::{is_symbol, is_word, items, text};
+use rdx_parts::branches::{Branch, Takes};
+use rdx_parts::extras::ExtraPlace;
 use rdx_sexp::Datum;
 
 /// A clause: `((f p ...) t extra ...)`, with any symbol for f.

@@ -3,20 +3,22 @@ ghost use Rattle.std.specs.Prelude.{◌≡◌, ◌++◌, IfOk, map, option_map};
 ghost use Rattle.rdx_sexp.specs.Sexp.{sexps};
 ghost use Rattle.rdx_grammar.specs.Heads.{patterns};
 ghost use Rattle.rdx_grammar.specs.Readable.{IsReadable};
-ghost use Rattle.rdx_defs.specs.Inside.BareStands as bare;
-ghost use Rattle.rdx_defs.specs.Inside.Branches as inside;
-ghost use Rattle.rdx_defs.specs.Inside.FormViews.{branch_of, contract_form_of, metafunction_form_of, outline_of, stands_of};
-ghost use Rattle.rdx_defs.specs.Inside.PartsHave.{AreReadable};
+ghost use Rattle.rdx_parts.specs.BareStands as bare;
+ghost use Rattle.rdx_defs.specs.Inside.BareForms as bare_forms;
+ghost use Rattle.rdx_defs.specs.Inside.FormOutlines as inside;
+ghost use Rattle.rdx_defs.specs.Inside.FormViews.{contract_form_of, metafunction_form_of};
+ghost use Rattle.rdx_parts.specs.PartViews.{branch_of, outline_of, stands_of};
+ghost use Rattle.rdx_parts.specs.PartsHave.{AreReadable};
 ghost use Rattle.rdx_defs.specs.MetafunctionForms as forms;
-ghost use Rattle.rdx_defs.specs.Scope.{scope_of};
+ghost use Rattle.rdx_parts.specs.Scope.{scope_of};
 
-use crate::Scope;
-use crate::branches::{Branch, Outline};
 use crate::metafunctions::forms::{
     ContractForm, MetafunctionForm, clause_branch, clause_of, text_in,
 };
-use crate::stands::collecting::{Stand, add_alone, add_branch};
 use rdx_grammar::heads::{Roles, is_pattern, next, rest};
+use rdx_parts::Scope;
+use rdx_parts::branches::{Branch, Outline};
+use rdx_parts::stands::collecting::{Stand, add_alone, add_branch};
 use rdx_sexp::Datum;
 use rdx_term::NoMemory;
 use std::alloc::Global;
@@ -33,7 +35,7 @@ fn add_clause<'a>(
     ensures { IfOk result (λ _.
         stands_of out.new.items
         ≡ stands_of out.old.items
-        ++ bare.clause_stands (scope_of scope.now) d.now
+        ++ bare_forms.clause_stands (scope_of scope.now) d.now
         (inside.own_clause name.now (forms.clause_form d.now))) }
 {
     match clause_of(name, d) {
@@ -54,7 +56,7 @@ fn add_clauses<'a>(
     ensures { IfOk result (λ _.
         stands_of out.new.items
         ≡ stands_of out.old.items
-        ++ bare.clauses_stand (scope_of scope.now) name.now clauses.now) }
+        ++ bare_forms.clauses_stand (scope_of scope.now) name.now clauses.now) }
 {
     for d in clauses {
         add_clause(alloc, scope, name, d, out)?;
@@ -90,7 +92,7 @@ fn add_head<'a>(
     ensures { IfOk result (λ _.
         stands_of out.new.items
         ≡ stands_of out.old.items
-        ++ bare.head_stands (map (λ d. d.now) alone.now)
+        ++ bare_forms.head_stands (map (λ d. d.now) alone.now)
         (option_map (λ d. d.now) function.entry)) }
 {
     let Some(name) = function else {
@@ -115,7 +117,7 @@ pub(crate) fn function_stands<'a>(
     requires clauses { AreReadable form.clauses.now }
     ensures { IfOk result (λ found.
         stands_of found.items
-        ≡ bare.function_stands (scope_of scope.now) (metafunction_form_of form.entry)
+        ≡ bare_forms.function_stands (scope_of scope.now) (metafunction_form_of form.entry)
         (option_map (λ d. d.now) function.entry)) }
 {
     let mut found = Vec::new(alloc);

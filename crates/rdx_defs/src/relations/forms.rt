@@ -1,12 +1,13 @@
 // The parts of forms of relations and of cases.
 ghost use Rattle.std.specs.Prelude.{◌≡◌, option_map};
-ghost use Rattle.rdx_defs.specs.Inside.Branches.{case_branch};
-ghost use Rattle.rdx_defs.specs.Inside.FormViews.{branch_of, case_form_of, relation_form_of};
+ghost use Rattle.rdx_defs.specs.Inside.FormOutlines.{case_branch};
+ghost use Rattle.rdx_defs.specs.Inside.FormViews.{case_form_of, relation_form_of};
+ghost use Rattle.rdx_parts.specs.PartViews.{branch_of};
 ghost use Rattle.rdx_defs.specs.RelationForms as model;
 
-use crate::branches::{Branch, Takes};
-use crate::extras::ExtraPlace;
 use rdx_grammar::shape::{is_symbol, is_word, items};
+use rdx_parts::branches::{Branch, Takes};
+use rdx_parts::extras::ExtraPlace;
 use rdx_sexp::{Datum, Form};
 
 /// A case: `(--> p t extra ...)`, with any symbol for the arrow.

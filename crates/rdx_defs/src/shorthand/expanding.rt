@@ -5,7 +5,7 @@ ghost use Rattle.rdx_sexp.specs.Size.{sexp_depth, sexps_depth};
 ghost use Rattle.rdx_defs.specs.Expansion as model;
 ghost use Rattle.rdx_defs.specs.Inside.Filling as inside;
 ghost use Rattle.rdx_defs.specs.Inside.FormViews.{case_form_of};
-ghost use Rattle.rdx_defs.specs.Inside.PartsHave.{AreReadable};
+ghost use Rattle.rdx_parts.specs.PartsHave.{AreReadable};
 ghost use Rattle.rdx_defs.specs.Inside.ShortcutViews.{shortcuts_in};
 ghost use Rattle.rdx_defs.specs.RelationForms as forms;
 

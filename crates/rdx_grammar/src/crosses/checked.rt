@@ -83,7 +83,7 @@ pub fn add_crosses_of(
 
 /// Gives the language all cross nonterminals to each of these; the pattern is well formed in it then.
 /// Where there is no memory, the language stays.
-pub(crate) fn check_with_crosses(
+pub(crate) fn known_with_crosses(
     alloc: Global,
     language: &mut CheckedLang,
     ends: &[Name],

@@ -6,7 +6,7 @@ ghost use Rattle.rdx_grammar.specs.Ends.{crossed_for, ends_in};
 ghost use Rattle.rdx_grammar.specs.Nonterminals.{names_of};
 ghost use Rattle.rdx_grammar.specs.Readable.{IsReadable};
 
-use crate::crosses::check_with_crosses;
+use crate::crosses::known_with_crosses;
 use crate::patterns::ends::{ends_in, known_ends};
 use crate::patterns::names::Names;
 use crate::patterns::position::Position;
@@ -38,7 +38,7 @@ pub fn read_pattern_over(
     let pattern = read_datum(alloc, names, Position::Query, d)?;
     let asked = ends_in(alloc, d)?;
     let ends = known_ends(alloc, names, &asked)?;
-    Ok(check_with_crosses(alloc, language, &ends, pattern)?)
+    Ok(known_with_crosses(alloc, language, &ends, pattern)?)
 }
 
 /// The pattern of a datum outside grammars, over a language. Where the pattern speaks of cross

@@ -1,7 +1,7 @@
 use Rattle.std.proofs.Common.{◌≡◌, drop}
 use Rattle.std.specs.List.{list_all}
-use Rattle.rdx_defs.specs.ExtraForms.{is_condition, form_at}
-use Rattle.rdx_defs.specs.Inside.FormViews.{place_of}
+use Rattle.rdx_parts.specs.ExtraForms.{is_condition, form_at}
+use Rattle.rdx_parts.specs.PartViews.{place_of}
 use Rattle.rdx_defs.proofs.scopes.are_conditions.Given as goal
 
 abbrev pub invariant-loop-d : goal.invariant-loop-d

@@ -1,5 +1,9 @@
+use Rattle.rdx_reduce.proofs.FirstFaults.{answers_first}
 use Rattle.rdx_reduce.proofs.TakenSteps.{lists_taken}
 use Rattle.rdx_reduce.proofs.laws.taken_steps.Goals as goal
 
-pub returns : goal.returns
-returns c = lists_taken
+pub returns-clause-lists : goal.returns-clause-lists
+returns-clause-lists c = lists_taken
+
+pub returns-clause-fault : goal.returns-clause-fault
+returns-clause-fault c = answers_first

@@ -1,4 +1,4 @@
-use Rattle.rdx_reduce.proofs.ClosureExamples.{name_stays, name_is_taken, closure_of_closure, steps_inside, no_step_at_top, fresh_avoids_context, steps_in_each_place}
+use Rattle.rdx_reduce.proofs.ClosureExamples.{name_stays, name_is_taken, closure_of_closure, steps_inside, no_step_at_top, fresh_avoids_context, steps_in_each_place, fault_inside, first_place_fails}
 use Rattle.rdx_reduce.proofs.laws.worked_closures.Goals as goal
 
 pub returns-clause-name_stays : goal.returns-clause-name_stays
@@ -21,3 +21,9 @@ returns-clause-fresh_avoids_context c = fresh_avoids_context
 
 pub returns-clause-steps_in_each_place : goal.returns-clause-steps_in_each_place
 returns-clause-steps_in_each_place c = steps_in_each_place
+
+pub returns-clause-fault_inside : goal.returns-clause-fault_inside
+returns-clause-fault_inside c = fault_inside
+
+pub returns-clause-first_place_fails : goal.returns-clause-first_place_fails
+returns-clause-first_place_fails c = first_place_fails

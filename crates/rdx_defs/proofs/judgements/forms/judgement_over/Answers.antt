@@ -1,5 +1,5 @@
 use Rattle.std.proofs.Common.{◌≡◌, ◌∙◌, ◌≤◌, ℕ, take, drop, length, sym, ap, subst}
-use Rattle.rdx_defs.specs.Inside.Branches.{options_length}
+use Rattle.rdx_defs.specs.Inside.FormOutlines.{options_length}
 use Rattle.rdx_defs.specs.Inside.FormViews.{paired}
 use Rattle.rdx_defs.proofs.RuleForms.{options-cut, options-bound}
 use Rattle.rdx_defs.proofs.judgements.forms.judgement_over.Goals as goal

@@ -1,5 +1,5 @@
 use Rattle.std.proofs.Common.{◌≡◌, ◌∙◌, ◌+◌, ℕ, suc, true, false, drop, sym, ap, arith}
-use Rattle.rdx_defs.specs.Inside.Branches.{options_length}
+use Rattle.rdx_defs.specs.Inside.FormOutlines.{options_length}
 use Rattle.rdx_defs.specs.JudgementForms.{is_any_keyword}
 use Rattle.rdx_defs.proofs.RuleForms.{options-one, options-two, options-none, options-end}
 use Rattle.rdx_defs.proofs.judgements.forms.options_length.Goals.{then-end-parts, else-end-parts}

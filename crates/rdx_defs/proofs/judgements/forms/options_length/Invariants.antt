@@ -1,5 +1,5 @@
 use Rattle.std.proofs.Common.{◌≡◌, ◌+◌, ◌-◌, ◌≤◌, drop, length}
-use Rattle.rdx_defs.specs.Inside.Branches.{options_length}
+use Rattle.rdx_defs.specs.Inside.FormOutlines.{options_length}
 use Rattle.rdx_defs.proofs.judgements.forms.options_length.Given as goal
 
 abbrev pub invariant-loop-end : goal.invariant-loop-end

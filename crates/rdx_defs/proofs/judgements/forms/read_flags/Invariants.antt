@@ -1,5 +1,5 @@
 use Rattle.std.proofs.Common.{◌≡◌, ◌++◌, drop, map}
-use Rattle.rdx_defs.specs.Inside.Branches.{is_input}
+use Rattle.rdx_defs.specs.Inside.FormOutlines.{is_input}
 use Rattle.rdx_defs.proofs.judgements.forms.read_flags.Given as goal
 
 abbrev pub invariant-loop-d : goal.invariant-loop-d

@@ -5,17 +5,17 @@ use Rattle.rdx_lang.specs.Patterns.{Language}
 use Rattle.rdx_lang.specs.ProgramView.{premise_of}
 use Rattle.rdx_grammar.specs.Nonterminals.{names_of}
 use Rattle.rdx_grammar.specs.Refusal.{refusal_of}
-use Rattle.rdx_defs.specs.Bound.{Bound}
-use Rattle.rdx_defs.specs.ExtraReading.{premise_reading}
-use Rattle.rdx_defs.specs.Headed.{headed}
-use Rattle.rdx_defs.specs.Inside.ByNames.{premise_names}
-use Rattle.rdx_defs.specs.Inside.PartsHave.{PremiseHas, can_bind, can_read}
+use Rattle.rdx_parts.specs.Bound.{Bound}
+use Rattle.rdx_parts.specs.ExtraReading.{premise_reading}
+use Rattle.rdx_parts.specs.Headed.{headed}
+use Rattle.rdx_parts.specs.ByNames.{premise_names}
+use Rattle.rdx_parts.specs.PartsHave.{PremiseHas, can_bind, can_read}
 use Rattle.rdx_defs.specs.JudgementRefusal.{premise_refusal}
-use Rattle.rdx_defs.specs.Scope.{scope_of}
-use Rattle.rdx_defs.specs.Stands.{names_bound, bound_by_premise}
-use Rattle.rdx_defs.specs.TemplateReading.{template_reading}
-use Rattle.rdx_defs.proofs.NamesBound as names
-use Rattle.rdx_defs.proofs.PartsAt.{premise-weaker}
+use Rattle.rdx_parts.specs.Scope.{scope_of}
+use Rattle.rdx_parts.specs.Stands.{names_bound, bound_by_premise}
+use Rattle.rdx_parts.specs.TemplateReading.{template_reading}
+use Rattle.rdx_parts.proofs.NamesBound as names
+use Rattle.rdx_parts.proofs.PartsAt.{premise-weaker}
 use Rattle.rdx_defs.proofs.PassedForms.{gained, question-valid}
 use Rattle.rdx_defs.proofs.ReadJudgements.{readable-behind, read-some}
 use Rattle.rdx_defs.proofs.judgements.premises.read_premise_over.Goals as goal

@@ -10,15 +10,15 @@ use Rattle.rdx_lang.specs.Valid.{is_valid_judgement}
 use Rattle.rdx_grammar.specs.Nonterminals.{names_of}
 use Rattle.rdx_grammar.specs.Refusal.{refusal_of}
 use Rattle.rdx_grammar.specs.Readable.{IsReadable}
-use Rattle.rdx_defs.specs.Inside.Branches.{judgement_outline}
+use Rattle.rdx_defs.specs.Inside.FormOutlines.{judgement_outline}
 use Rattle.rdx_defs.specs.Inside.Contracts.{IsJudgementContract}
 use Rattle.rdx_defs.specs.Inside.FormViews.{judgement_form_of}
-use Rattle.rdx_defs.specs.Inside.PartsHave.{RulesHave, can_read, IsReadableTaken}
+use Rattle.rdx_parts.specs.PartsHave.{RulesHave, can_read, IsReadableTaken}
 use Rattle.rdx_defs.specs.JudgementForms.{judgement_form, judgement_in, contract_form, own_mode}
 use Rattle.rdx_defs.specs.JudgementReading.{judgement_reading}
 use Rattle.rdx_defs.specs.JudgementRefusal.{judgement_refusal}
 use Rattle.rdx_defs.specs.MetafunctionReading.{text_in}
-use Rattle.rdx_defs.specs.Scope.{scope_of, callable}
+use Rattle.rdx_parts.specs.Scope.{scope_of, callable}
 use Rattle.rdx_defs.proofs.PassedForms.{gained, judgement-valid}
 use Rattle.rdx_defs.proofs.ReadJudgements.{no-name, no-mode}
 use Rattle.rdx_defs.proofs.InheritedParts.{judgement-has}

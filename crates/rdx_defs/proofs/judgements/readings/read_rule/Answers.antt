@@ -3,22 +3,24 @@ use Rattle.std.specs.Prelude.{option_map}
 use Rattle.rdx_lang.specs.Checked.{language_in, pattern_in}
 use Rattle.rdx_lang.specs.ProgramView.{extras_of}
 use Rattle.rdx_lang.specs.TemplateView.{template_of}
-use Rattle.rdx_defs.specs.Arguments as arguments
-use Rattle.rdx_defs.specs.Arguments.{patterns_in, templates_in}
-use Rattle.rdx_defs.specs.Bound.{Bound}
-use Rattle.rdx_defs.specs.ExtraForms.{of_rule}
-use Rattle.rdx_defs.specs.ExtraReading as model
-use Rattle.rdx_defs.specs.ExtraReading.{list_reading, templates_reading}
-use Rattle.rdx_defs.specs.Inside.Branches.{RuleBranch, each, rule_branch}
-use Rattle.rdx_defs.specs.Inside.ByNames.{extras_reading, input_names, rule_names}
-use Rattle.rdx_defs.specs.Inside.FormViews.{arguments_of, rule_branch_of, rule_form_of}
-use Rattle.rdx_defs.specs.Inside.PartsHave.{CanBind, IsPattern, RuleHas, can_bind, can_read}
+use Rattle.rdx_parts.specs.Arguments as arguments
+use Rattle.rdx_parts.specs.Arguments.{patterns_in, templates_in}
+use Rattle.rdx_parts.specs.Bound.{Bound}
+use Rattle.rdx_parts.specs.ExtraForms.{of_rule}
+use Rattle.rdx_parts.specs.ExtraReading as model
+use Rattle.rdx_parts.specs.ExtraReading.{list_reading, templates_reading}
+use Rattle.rdx_defs.specs.Inside.FormOutlines.{rule_branch}
+use Rattle.rdx_parts.specs.Outlines.{RuleBranch, each}
+use Rattle.rdx_parts.specs.ByNames.{extras_reading, input_names, rule_names}
+use Rattle.rdx_defs.specs.Inside.FormViews.{rule_form_of}
+use Rattle.rdx_parts.specs.PartViews.{arguments_of, rule_branch_of}
+use Rattle.rdx_parts.specs.PartsHave.{CanBind, IsPattern, RuleHas, can_bind, can_read}
 use Rattle.rdx_defs.specs.JudgementStands.{bound_by_inputs, bound_by_rule, rule_arguments}
-use Rattle.rdx_defs.specs.Scope.{scope_of}
-use Rattle.rdx_defs.specs.Stands.{names_bound}
-use Rattle.rdx_defs.proofs.NamesBound as names
-use Rattle.rdx_defs.proofs.NamesBound.{extras-reads}
-use Rattle.rdx_defs.proofs.PartsAt.{rule-weaker}
+use Rattle.rdx_parts.specs.Scope.{scope_of}
+use Rattle.rdx_parts.specs.Stands.{names_bound}
+use Rattle.rdx_defs.proofs.FormFaults as names
+use Rattle.rdx_parts.proofs.NamesBound.{extras-reads}
+use Rattle.rdx_parts.proofs.PartsAt.{rule-weaker}
 use Rattle.rdx_defs.proofs.judgements.readings.read_rule.Goals as goal
 
 pub read_patterns-requires : goal.read_patterns-requires

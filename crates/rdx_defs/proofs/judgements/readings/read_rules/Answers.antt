@@ -2,9 +2,9 @@ use Rattle.std.proofs.Common.{◌∙◌, sym, ap}
 use Rattle.std.specs.Prelude.{option_map}
 use Rattle.rdx_lang.specs.Checked.{language_in}
 use Rattle.rdx_defs.specs.Inside.FormViews.{rule_form_of}
-use Rattle.rdx_defs.specs.Inside.PartsHave.{can_read}
+use Rattle.rdx_parts.specs.PartsHave.{can_read}
 use Rattle.rdx_defs.specs.JudgementForms.{rule_form, own_rule}
-use Rattle.rdx_defs.specs.Scope.{scope_of}
+use Rattle.rdx_parts.specs.Scope.{scope_of}
 use Rattle.rdx_defs.proofs.RuleParts.{rules-in, rule-in}
 use Rattle.rdx_defs.proofs.judgements.readings.read_rules.Goals as goal
 

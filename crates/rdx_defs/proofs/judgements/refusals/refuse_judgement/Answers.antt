@@ -2,12 +2,14 @@ use Rattle.std.proofs.Common.{◌≡◌, ◌∙◌, ap, sym, subst}
 use Rattle.std.specs.Prelude.{IfOk, Option, option_map}
 use Rattle.rdx_grammar.specs.Refusal.{Refusal, refusal_of}
 use Rattle.rdx_grammar.specs.Readable.{IsReadable}
-use Rattle.rdx_defs.specs.Inside.BareStands as bare_stands
-use Rattle.rdx_defs.specs.Inside.Branches.{Outline, judgement_outline}
-use Rattle.rdx_defs.specs.Inside.FormRefusals.{form_refusal}
-use Rattle.rdx_defs.specs.Inside.FormViews.{judgement_form_of, outline_of, stands_of}
-use Rattle.rdx_defs.specs.Inside.PartsHave.{OutlineHas, can_bind, IsReadableTaken}
-use Rattle.rdx_defs.specs.Scope.{scope_of}
+use Rattle.rdx_defs.specs.Inside.BareForms as bare_stands
+use Rattle.rdx_defs.specs.Inside.FormOutlines.{judgement_outline}
+use Rattle.rdx_parts.specs.Outlines.{Outline}
+use Rattle.rdx_parts.specs.FormRefusals.{form_refusal}
+use Rattle.rdx_defs.specs.Inside.FormViews.{judgement_form_of}
+use Rattle.rdx_parts.specs.PartViews.{outline_of, stands_of}
+use Rattle.rdx_parts.specs.PartsHave.{OutlineHas, can_bind, IsReadableTaken}
+use Rattle.rdx_parts.specs.Scope.{scope_of}
 use Rattle.rdx_defs.proofs.FormRefusals.{judgement-refused}
 use Rattle.rdx_defs.proofs.PassedForms.{judgement-early}
 use Rattle.rdx_defs.proofs.InheritedParts.{judgement-has, judgement_outline-has}

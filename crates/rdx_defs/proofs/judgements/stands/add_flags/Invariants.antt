@@ -1,5 +1,5 @@
 use Rattle.std.proofs.Common.{◌≡◌, ◌++◌, drop}
-use Rattle.rdx_defs.specs.Inside.FormViews.{stands_of}
+use Rattle.rdx_parts.specs.PartViews.{stands_of}
 use Rattle.rdx_defs.specs.JudgementStands.{flags_stand}
 use Rattle.rdx_defs.proofs.judgements.stands.add_flags.Given as goal
 

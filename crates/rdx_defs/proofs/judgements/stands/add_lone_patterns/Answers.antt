@@ -1,4 +1,4 @@
-use Rattle.rdx_defs.proofs.PartsAt.{datum-readable}
+use Rattle.rdx_parts.proofs.PartsAt.{datum-readable}
 use Rattle.rdx_defs.proofs.judgements.stands.add_lone_patterns.Goals as goal
 
 pub add_alone-requires : goal.add_alone-requires

@@ -1,5 +1,5 @@
 use Rattle.std.proofs.Common.{◌≡◌, ◌++◌, drop}
-use Rattle.rdx_defs.specs.Inside.FormViews.{stands_of}
+use Rattle.rdx_parts.specs.PartViews.{stands_of}
 use Rattle.rdx_defs.specs.JudgementStands.{lone_patterns}
 use Rattle.rdx_defs.proofs.judgements.stands.add_lone_patterns.Given as goal
 

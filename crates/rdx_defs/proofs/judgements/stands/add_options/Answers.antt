@@ -1,11 +1,12 @@
 use Rattle.std.proofs.Common.{◌≡◌, ◌∷◌, ◌∙◌, ℕ, true, List, [], refl, sym, ap, subst, if◌then◌else◌}
 use Rattle.std.specs.Prelude.{option_map}
-use Rattle.rdx_defs.specs.Inside.Branches.{option_patterns, options_patterns}
-use Rattle.rdx_defs.specs.Inside.FormViews.{keys_of, option_form_of, paired, stands_of}
-use Rattle.rdx_defs.specs.Inside.PartsHave.{AreReadable}
+use Rattle.rdx_defs.specs.Inside.FormOutlines.{option_patterns, options_patterns}
+use Rattle.rdx_defs.specs.Inside.FormViews.{keys_of, option_form_of, paired}
+use Rattle.rdx_parts.specs.PartViews.{stands_of}
+use Rattle.rdx_parts.specs.PartsHave.{AreReadable}
 use Rattle.rdx_defs.specs.JudgementForms.{OptionForm, is_fit_option, key_text}
 use Rattle.rdx_defs.specs.JudgementStands.{option_stands, options_stand}
-use Rattle.rdx_defs.specs.Stands.{misshaped}
+use Rattle.rdx_parts.specs.Stands.{misshaped}
 use Rattle.rdx_defs.proofs.RuleForms.{keys-more, option-some, options-step, readable-first, readable-others}
 use Rattle.rdx_defs.proofs.judgements.stands.add_options.Goals as goal
 

@@ -1,8 +1,9 @@
 use Rattle.std.proofs.Common.{◌≡◌, ◌++◌, [], length}
 use Rattle.std.specs.Prelude.{option_map}
-use Rattle.rdx_defs.specs.Inside.Branches.{options_patterns}
-use Rattle.rdx_defs.specs.Inside.FormViews.{keys_of, paired, stands_of}
-use Rattle.rdx_defs.specs.Inside.PartsHave.{AreReadable}
+use Rattle.rdx_defs.specs.Inside.FormOutlines.{options_patterns}
+use Rattle.rdx_defs.specs.Inside.FormViews.{keys_of, paired}
+use Rattle.rdx_parts.specs.PartViews.{stands_of}
+use Rattle.rdx_parts.specs.PartsHave.{AreReadable}
 use Rattle.rdx_defs.specs.JudgementStands.{options_stand}
 use Rattle.rdx_defs.proofs.judgements.stands.add_options.Given as goal
 

@@ -2,14 +2,15 @@ use Rattle.std.proofs.Common.{◌≡◌, ◌++◌, ◌∙◌, List, [], sym, ap,
 use Rattle.std.specs.Prelude.{Option, option_map}
 use Rattle.rdx_sexp.specs.Sexp.{Sexp}
 use Rattle.rdx_lang.specs.Programs.{Mode}
-use Rattle.rdx_defs.specs.Inside.BareStands.{rules_stand}
-use Rattle.rdx_defs.specs.Inside.Branches.{rule_branches, options_patterns}
-use Rattle.rdx_defs.specs.Inside.FormViews.{judgement_form_of, stands_of}
-use Rattle.rdx_defs.specs.Inside.PartsHave.{AreReadable, RulesHave, readable}
+use Rattle.rdx_defs.specs.Inside.BareForms.{rules_stand}
+use Rattle.rdx_defs.specs.Inside.FormOutlines.{rule_branches, options_patterns}
+use Rattle.rdx_defs.specs.Inside.FormViews.{judgement_form_of}
+use Rattle.rdx_parts.specs.PartViews.{stands_of}
+use Rattle.rdx_parts.specs.PartsHave.{AreReadable, RulesHave, readable}
 use Rattle.rdx_defs.specs.JudgementForms.{judgement_in, mode_form, own_mode}
 use Rattle.rdx_defs.specs.JudgementStands.{missing_mode, options_stand}
-use Rattle.rdx_defs.specs.Scope.{scope_of}
-use Rattle.rdx_defs.specs.declared.stands.collecting.Stand as code
+use Rattle.rdx_parts.specs.Scope.{scope_of}
+use Rattle.rdx_parts.specs.declared.stands.collecting.Stand as code
 use Rattle.rdx_defs.proofs.RuleForms.{alone-readable}
 use Rattle.rdx_defs.proofs.judgements.stands.judgement_stands.Goals as goal
 

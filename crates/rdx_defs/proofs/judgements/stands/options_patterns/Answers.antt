@@ -1,6 +1,6 @@
 use Rattle.std.proofs.Common.{◌≡◌, ◌∷◌, ◌∙◌, [], map, refl, ap, if◌then◌else◌}
 use Rattle.std.specs.Prelude.{option_map}
-use Rattle.rdx_defs.specs.Inside.Branches.{option_patterns, options_patterns}
+use Rattle.rdx_defs.specs.Inside.FormOutlines.{option_patterns, options_patterns}
 use Rattle.rdx_defs.specs.Inside.FormViews.{keys_of, option_form_of, paired}
 use Rattle.rdx_defs.specs.JudgementForms.{is_fit_option, key_text}
 use Rattle.rdx_defs.proofs.RuleForms.{keys-more, option-some, options-step}

@@ -1,6 +1,6 @@
 use Rattle.std.proofs.Common.{◌≡◌, ◌++◌, [], length, map}
 use Rattle.std.specs.Prelude.{option_map}
-use Rattle.rdx_defs.specs.Inside.Branches.{options_patterns}
+use Rattle.rdx_defs.specs.Inside.FormOutlines.{options_patterns}
 use Rattle.rdx_defs.specs.Inside.FormViews.{keys_of, paired}
 use Rattle.rdx_defs.proofs.judgements.stands.options_patterns.Given as goal
 

@@ -1,6 +1,6 @@
 use Rattle.rdx_grammar.specs.Readable.{IsReadable}
-use Rattle.rdx_defs.specs.Inside.PartsHave.{IsReadableTaken}
-use Rattle.rdx_defs.specs.Scope.{scope_of}
+use Rattle.rdx_parts.specs.PartsHave.{IsReadableTaken}
+use Rattle.rdx_parts.specs.Scope.{scope_of}
 use Rattle.rdx_defs.proofs.InheritedParts.{premise-has}
 use Rattle.rdx_defs.proofs.ReadableParts.{readable-inherited}
 use Rattle.rdx_defs.proofs.judgements.stands.question_stands.Goals as goal

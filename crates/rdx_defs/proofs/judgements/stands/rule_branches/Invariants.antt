@@ -1,7 +1,7 @@
 use Rattle.std.proofs.Common.{◌≡◌, ◌++◌, drop, map}
 use Rattle.std.specs.Prelude.{option_map}
-use Rattle.rdx_defs.specs.Inside.Branches.{rule_branches}
-use Rattle.rdx_defs.specs.Inside.FormViews.{rule_branch_of}
+use Rattle.rdx_defs.specs.Inside.FormOutlines.{rule_branches}
+use Rattle.rdx_parts.specs.PartViews.{rule_branch_of}
 use Rattle.rdx_defs.proofs.judgements.stands.rule_branches.Given as goal
 
 abbrev pub invariant-loop-d : goal.invariant-loop-d

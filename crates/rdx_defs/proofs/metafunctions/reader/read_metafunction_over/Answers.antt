@@ -11,17 +11,19 @@ use Rattle.rdx_grammar.specs.Refusal.{refusal_of, unnamed}
 use Rattle.rdx_grammar.specs.Unbuilt.{unbuilt_at}
 use Rattle.rdx_grammar.specs.declared.shape.fault.DefKind.TheVariants.{Unbuilt}
 use Rattle.rdx_grammar.specs.Readable.{IsReadable}
-use Rattle.rdx_defs.specs.Inside.BareStands.{function_stands}
-use Rattle.rdx_defs.specs.Inside.Branches.{Branch, Outline, clause_branches, contract_patterns, metafunction_outline}
+use Rattle.rdx_defs.specs.Inside.BareForms.{function_stands}
+use Rattle.rdx_defs.specs.Inside.FormOutlines.{clause_branches, contract_patterns, metafunction_outline}
+use Rattle.rdx_parts.specs.Outlines.{Branch, Outline}
 use Rattle.rdx_defs.specs.Inside.BranchReadings.{branch_metafunction}
 use Rattle.rdx_defs.specs.Inside.Contracts.{IsContractIn}
-use Rattle.rdx_defs.specs.Inside.FormRefusals.{form_refusal}
-use Rattle.rdx_defs.specs.Inside.FormViews.{metafunction_form_of, outline_of, stands_of}
-use Rattle.rdx_defs.specs.Inside.PartsHave.{AreReadable, BranchesHave, OutlineHas, can_bind, can_read, IsReadableTaken}
+use Rattle.rdx_parts.specs.FormRefusals.{form_refusal}
+use Rattle.rdx_defs.specs.Inside.FormViews.{metafunction_form_of}
+use Rattle.rdx_parts.specs.PartViews.{outline_of, stands_of}
+use Rattle.rdx_parts.specs.PartsHave.{AreReadable, BranchesHave, OutlineHas, can_bind, can_read, IsReadableTaken}
 use Rattle.rdx_defs.specs.MetafunctionForms.{metafunction_form, function_in}
 use Rattle.rdx_defs.specs.MetafunctionReading.{metafunction_reading}
 use Rattle.rdx_defs.specs.MetafunctionRefusal.{metafunction_refusal}
-use Rattle.rdx_defs.specs.Scope.{scope_of, callable}
+use Rattle.rdx_parts.specs.Scope.{scope_of, callable}
 use Rattle.rdx_defs.proofs.FormRefusals.{metafunction-refused}
 use Rattle.rdx_defs.proofs.PassedForms.{gained, metafunction-early, has-function, metafunction-valid}
 use Rattle.rdx_defs.proofs.InheritedParts.{metafunction-has, contract-has}

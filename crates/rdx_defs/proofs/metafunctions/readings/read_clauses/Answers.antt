@@ -1,8 +1,8 @@
 use Rattle.rdx_lang.specs.Checked.{language_in}
-use Rattle.rdx_defs.specs.Inside.FormViews.{branch_of}
-use Rattle.rdx_defs.specs.Inside.PartsHave.{can_read}
-use Rattle.rdx_defs.specs.Scope.{scope_of}
-use Rattle.rdx_defs.proofs.PartsAt.{branches-at}
+use Rattle.rdx_parts.specs.PartViews.{branch_of}
+use Rattle.rdx_parts.specs.PartsHave.{can_read}
+use Rattle.rdx_parts.specs.Scope.{scope_of}
+use Rattle.rdx_parts.proofs.PartsAt.{branches-at}
 use Rattle.rdx_defs.proofs.metafunctions.readings.read_clauses.Goals as goal
 
 pub read_clause-requires : goal.read_clause-requires

@@ -1,10 +1,10 @@
 use Rattle.std.proofs.Common.{◌∙◌, sym, ap, subst}
 use Rattle.std.specs.Prelude.{option_map}
 use Rattle.rdx_grammar.specs.Readable.{IsReadable}
-use Rattle.rdx_defs.specs.Inside.Branches.{Branch}
+use Rattle.rdx_parts.specs.Outlines.{Branch}
 use Rattle.rdx_defs.specs.Inside.FormViews.{clause_form_of}
-use Rattle.rdx_defs.specs.Inside.PartsHave.{BranchHas, readable, IsReadableTaken}
-use Rattle.rdx_defs.specs.Scope.{scope_of}
+use Rattle.rdx_parts.specs.PartsHave.{BranchHas, readable, IsReadableTaken}
+use Rattle.rdx_parts.specs.Scope.{scope_of}
 use Rattle.rdx_defs.proofs.InheritedParts.{clause-has}
 use Rattle.rdx_defs.proofs.ReadableParts.{readable-inherited}
 use Rattle.rdx_defs.proofs.metafunctions.stands.add_clause.Goals as goal

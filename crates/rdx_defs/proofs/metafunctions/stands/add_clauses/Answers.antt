@@ -1,4 +1,4 @@
-use Rattle.rdx_defs.proofs.PartsAt.{datum-readable}
+use Rattle.rdx_parts.proofs.PartsAt.{datum-readable}
 use Rattle.rdx_defs.proofs.metafunctions.stands.add_clauses.Goals as goal
 
 pub add_clause-requires : goal.add_clause-requires

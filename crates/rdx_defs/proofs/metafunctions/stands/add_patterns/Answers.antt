@@ -1,4 +1,4 @@
-use Rattle.rdx_defs.proofs.PartsAt.{readable-at}
+use Rattle.rdx_parts.proofs.PartsAt.{readable-at}
 use Rattle.rdx_defs.proofs.metafunctions.stands.add_patterns.Goals as goal
 
 pub add_alone-requires : goal.add_alone-requires

@@ -1,6 +1,6 @@
 use Rattle.std.proofs.Common.{◌≡◌, ◌++◌, drop, map}
-use Rattle.rdx_defs.specs.Inside.BareStands.{lone_pattern}
-use Rattle.rdx_defs.specs.Inside.FormViews.{stands_of}
+use Rattle.rdx_parts.specs.BareStands.{lone_pattern}
+use Rattle.rdx_parts.specs.PartViews.{stands_of}
 use Rattle.rdx_defs.proofs.metafunctions.stands.add_patterns.Given as goal
 
 abbrev pub invariant-loop-pattern : goal.invariant-loop-pattern

@@ -1,6 +1,6 @@
 use Rattle.std.proofs.Common.{◌≡◌, ◌++◌, drop, map}
-use Rattle.rdx_defs.specs.Inside.Branches.{clause_branches}
-use Rattle.rdx_defs.specs.Inside.FormViews.{branch_of}
+use Rattle.rdx_defs.specs.Inside.FormOutlines.{clause_branches}
+use Rattle.rdx_parts.specs.PartViews.{branch_of}
 use Rattle.rdx_defs.proofs.metafunctions.stands.clause_branches.Given as goal
 
 abbrev pub invariant-loop-d : goal.invariant-loop-d

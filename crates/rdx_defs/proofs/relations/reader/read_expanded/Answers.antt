@@ -9,15 +9,17 @@ use Rattle.rdx_grammar.specs.Ends.{crossed_for}
 use Rattle.rdx_grammar.specs.Nonterminals.{names_of}
 use Rattle.rdx_grammar.specs.Readable.{IsReadable}
 use Rattle.rdx_grammar.specs.Refusal.{refusal_of}
-use Rattle.rdx_defs.specs.Inside.BareStands.{relation_stands}
-use Rattle.rdx_defs.specs.Inside.Branches.{Outline, domain_patterns, relation_outline}
+use Rattle.rdx_defs.specs.Inside.BareForms.{relation_stands}
+use Rattle.rdx_defs.specs.Inside.FormOutlines.{domain_patterns, relation_outline}
+use Rattle.rdx_parts.specs.Outlines.{Outline}
 use Rattle.rdx_defs.specs.Inside.ExpandedAnswers.{expanded_refusal}
-use Rattle.rdx_defs.specs.Inside.FormRefusals.{form_refusal}
-use Rattle.rdx_defs.specs.Inside.FormViews.{relation_form_of, outline_of, stands_of}
-use Rattle.rdx_defs.specs.Inside.PartsHave.{OutlineHas, can_bind, can_read}
+use Rattle.rdx_parts.specs.FormRefusals.{form_refusal}
+use Rattle.rdx_defs.specs.Inside.FormViews.{relation_form_of}
+use Rattle.rdx_parts.specs.PartViews.{outline_of, stands_of}
+use Rattle.rdx_parts.specs.PartsHave.{OutlineHas, can_bind, can_read}
 use Rattle.rdx_defs.specs.RelationEnds.{expanded_ends}
 use Rattle.rdx_defs.specs.RelationReading.{expanded_reading}
-use Rattle.rdx_defs.specs.Scope.{scope_of, callable}
+use Rattle.rdx_parts.specs.Scope.{scope_of, callable}
 use Rattle.rdx_defs.proofs.FormRefusals.{relation-refused}
 use Rattle.rdx_defs.proofs.PartsOfForms.{RelationHas}
 use Rattle.rdx_defs.proofs.PassedForms.{relation-early, relation-valid}

@@ -8,12 +8,12 @@ use Rattle.rdx_grammar.specs.Refusal.{unnamed}
 use Rattle.rdx_grammar.specs.Unbuilt.{unbuilt_at}
 use Rattle.rdx_grammar.specs.declared.shape.fault.DefKind.TheVariants.{Unbuilt}
 use Rattle.rdx_defs.specs.Expansion.{used_shortcuts, expanded_by, expanded_cases, expanded_form}
-use Rattle.rdx_defs.specs.Inside.Branches.{domain_patterns}
+use Rattle.rdx_defs.specs.Inside.FormOutlines.{domain_patterns}
 use Rattle.rdx_defs.specs.Inside.FormViews.{relation_form_of}
-use Rattle.rdx_defs.specs.Inside.PartsHave.{AreReadable, IsReadableTaken}
+use Rattle.rdx_parts.specs.PartsHave.{AreReadable, IsReadableTaken}
 use Rattle.rdx_defs.specs.RelationEnds.{expanded_ends, ends_by}
 use Rattle.rdx_defs.specs.RelationForms.{case_form, RelationForm, relation_form}
-use Rattle.rdx_defs.specs.Scope.{scope_of}
+use Rattle.rdx_parts.specs.Scope.{scope_of}
 use Rattle.rdx_defs.proofs.ExpandedRelations.{expanded-reads, readable-before, readable-behind}
 use Rattle.rdx_defs.proofs.InheritedParts.{relation-has}
 use Rattle.rdx_defs.proofs.PlainRelations.{no-data, plain-form}

@@ -1,4 +1,4 @@
-use Rattle.rdx_defs.proofs.PartsAt.{datum-readable}
+use Rattle.rdx_parts.proofs.PartsAt.{datum-readable}
 use Rattle.rdx_defs.proofs.relations.stands.add_cases.Goals as goal
 
 pub add_case-requires : goal.add_case-requires

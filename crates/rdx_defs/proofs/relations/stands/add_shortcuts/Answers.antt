@@ -1,9 +1,9 @@
 use Rattle.std.proofs.Common.{◌++◌, ◌∙◌, ◌+◌, drop, List, sym, ap, append_assoc}
 use Rattle.rdx_grammar.specs.Inside.Repeats.{texts_in}
-use Rattle.rdx_defs.specs.Inside.FormViews.{stands_of}
+use Rattle.rdx_parts.specs.PartViews.{stands_of}
 use Rattle.rdx_defs.specs.RelationStands.{shortcut_stands, shortcuts_stand}
 use Rattle.rdx_defs.specs.Shorthand.{shortcut_form}
-use Rattle.rdx_defs.specs.Stands.{Stand}
+use Rattle.rdx_parts.specs.Stands.{Stand}
 use Rattle.rdx_defs.proofs.ShortcutStands.{shortcuts-from}
 use Rattle.rdx_defs.proofs.relations.stands.add_shortcuts.Goals as goal
 

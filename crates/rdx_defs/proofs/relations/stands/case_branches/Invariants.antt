@@ -1,6 +1,6 @@
 use Rattle.std.proofs.Common.{◌≡◌, ◌++◌, drop, map}
-use Rattle.rdx_defs.specs.Inside.Branches.{case_branches}
-use Rattle.rdx_defs.specs.Inside.FormViews.{branch_of}
+use Rattle.rdx_defs.specs.Inside.FormOutlines.{case_branches}
+use Rattle.rdx_parts.specs.PartViews.{branch_of}
 use Rattle.rdx_defs.proofs.relations.stands.case_branches.Given as goal
 
 abbrev pub invariant-loop-d : goal.invariant-loop-d

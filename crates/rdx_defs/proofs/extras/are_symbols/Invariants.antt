@@ -1,7 +1,0 @@
-use Rattle.std.proofs.Common.{◌≡◌, drop}
-use Rattle.std.specs.List.{list_all}
-use Rattle.rdx_grammar.specs.Parts.{is_symbol}
-use Rattle.rdx_defs.proofs.extras.are_symbols.Given as goal
-
-abbrev pub invariant-loop-d : goal.invariant-loop-d
-invariant-loop-d l = list_all is_symbol (drop l.d-index l.parts) ≡ list_all is_symbol l.parts

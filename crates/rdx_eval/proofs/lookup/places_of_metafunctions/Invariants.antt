@@ -1,8 +1,0 @@
-use Rattle.std.proofs.Common.{drop, map}
-use Rattle.rdx_lang.specs.ProgramView.{metafunction_of}
-use Rattle.rdx_lang.specs.Model.Places.{FindsPlaces, place_in}
-use Rattle.rdx_eval.specs.Model.Places.{name_of_function}
-use Rattle.rdx_eval.proofs.lookup.places_of_metafunctions.Given as goal
-
-abbrev pub invariant-loop-place : goal.invariant-loop-place
-invariant-loop-place l = FindsPlaces name_of_function (place_in l.places) l.place (map metafunction_of (drop l.place l.metafunctions))

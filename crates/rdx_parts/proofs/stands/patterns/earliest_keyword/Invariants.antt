@@ -1,0 +1,11 @@
+use Rattle.std.proofs.Common.{◌≡◌, drop}
+use Rattle.std.specs.Prelude.{option_map}
+use Rattle.rdx_grammar.specs.OccurrenceView.{occurrences_of}
+use Rattle.rdx_grammar.specs.PatternChecks.{keyword_faults}
+use Rattle.rdx_parts.specs.Earliest.{earliest, lesser, start}
+use Rattle.rdx_parts.proofs.stands.patterns.earliest_keyword.Given as goal
+
+abbrev pub invariant-loop-o : goal.invariant-loop-o
+invariant-loop-o l =
+    lesser start (option_map (λ d. d.now) l.place) (earliest start (keyword_faults (occurrences_of (drop l.o-index l.found))))
+    ≡ earliest start (keyword_faults (occurrences_of l.found))

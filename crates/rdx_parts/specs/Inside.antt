@@ -1,0 +1,5 @@
+pub mod HeadViews
+pub mod PartView
+pub mod ItemParts
+pub mod PartRefusal
+pub mod Reach

@@ -1,0 +1,76 @@
+// The table of host operations, entries that make none, and answers at the borders of 128 bits.
+use rdx_delta::{
+    HostAnswer, HostEntry, HostTable, TableRefusal, host_add, host_add1, host_eq, host_equal,
+    host_ge, host_gt, host_is_zero, host_le, host_lt, host_mul, host_not, host_quotient,
+    host_remainder, host_sub, host_sub1,
+};
+use rdx_lang::HostOp;
+use rdx_term::Term;
+use std::process::Abort;
+use std::test::Fail;
+
+// The table of the functions of `rdx_delta`.
+pub(crate) fn host_table<R: Abort + AllocGlobal>(rt: &R) -> Result<HostTable, Fail> {
+    let entries = Vec::from_array(
+        rt.alloc(),
+        [
+            HostEntry::new(HostOp::Add, host_add),
+            HostEntry::new(HostOp::Sub, host_sub),
+            HostEntry::new(HostOp::Mul, host_mul),
+            HostEntry::new(HostOp::Quotient, host_quotient),
+            HostEntry::new(HostOp::Remainder, host_remainder),
+            HostEntry::new(HostOp::Add1, host_add1),
+            HostEntry::new(HostOp::Sub1, host_sub1),
+            HostEntry::new(HostOp::Eq, host_eq),
+            HostEntry::new(HostOp::Lt, host_lt),
+            HostEntry::new(HostOp::Le, host_le),
+            HostEntry::new(HostOp::Gt, host_gt),
+            HostEntry::new(HostOp::Ge, host_ge),
+            HostEntry::new(HostOp::IsZero, host_is_zero),
+            HostEntry::new(HostOp::Equal, host_equal),
+            HostEntry::new(HostOp::Not, host_not),
+        ],
+    );
+    let Ok(entries) = entries else {
+        panic!(rt; "no entries")
+    };
+    match HostTable::new(entries) {
+        Ok(table) => Ok(table),
+        Err(_) => panic!(rt; "no table"),
+    }
+}
+
+#[test]
+fn no_entry(rt: HostRuntime) -> Result<(), Fail> {
+    let refused = HostTable::new(Vec::new(rt.alloc())).err();
+    assert!(rt; refused == Some(TableRefusal::Missing(HostOp::Add)));
+    Ok(())
+}
+
+#[test]
+fn two_entries_of_one_operation(rt: HostRuntime) -> Result<(), Fail> {
+    let mut entries = Vec::new(rt.alloc());
+    entries.push(HostEntry::new(HostOp::Add, host_add))?;
+    entries.push(HostEntry::new(HostOp::Add, host_add))?;
+    let refused = HostTable::new(entries).err();
+    assert!(rt; refused == Some(TableRefusal::Twice(HostOp::Add)));
+    Ok(())
+}
+
+#[test]
+fn the_least_integer(rt: HostRuntime) -> Result<(), Fail> {
+    let args = [Term::Int(i128::MIN), Term::Int(-1)];
+    assert!(rt; matches!(host_sub(&args[..1]), HostAnswer::Overflow));
+    assert!(rt; matches!(host_add(&args), HostAnswer::Overflow));
+    assert!(rt; matches!(host_quotient(&args), HostAnswer::Overflow));
+    assert!(rt; matches!(host_remainder(&args), HostAnswer::Value(Term::Int(0))));
+    Ok(())
+}
+
+#[test]
+fn a_negative_dividend(rt: HostRuntime) -> Result<(), Fail> {
+    let args = [Term::Int(-7), Term::Int(2)];
+    assert!(rt; matches!(host_quotient(&args), HostAnswer::Value(Term::Int(-3))));
+    assert!(rt; matches!(host_remainder(&args), HostAnswer::Value(Term::Int(-1))));
+    Ok(())
+}

@@ -1,0 +1,131 @@
+// The check for left recursion: by the left part of `in-hole`, and with closed patterns, which no file writes.
+use Shape::{Any, Closed, HideHole, Hole, InHole, List, To};
+use rdx_lang::{Item, Kind, Language, Pat, Ranks, Ref};
+use rdx_leftrec::{LeftRec, check};
+use rdx_term::{Name, NoMemory};
+use std::alloc::Global;
+use std::rc::RcStr;
+use std::test::Fail;
+
+// A pattern: `any`, `hole`, a nonterminal, `in-hole`, `hide-hole`, a closed one, or a list of one item.
+#[derive(Clone, Copy)]
+enum Shape {
+    Any,
+    Hole,
+    To(&'static str),
+    InHole(&'static Shape, &'static Shape),
+    HideHole(&'static Shape),
+    Closed(&'static Shape),
+    List(&'static Shape),
+}
+
+// Nonterminals, each with its alternatives, and the first of them that reaches itself.
+type Row = (
+    &'static [(&'static str, &'static [Shape])],
+    Option<&'static str>,
+);
+
+const ROWS: [Row; 5] = [
+    // The left part of `in-hole` is matched against the same term.
+    (
+        &[
+            ("E", &[Hole, InHole(&To("E"), &List(&To("e")))]),
+            ("e", &[Any]),
+        ],
+        Some("E"),
+    ),
+    // So is the right part where the left one can be the empty context, as `F` here by a closed pattern.
+    (
+        &[
+            ("E", &[Hole, InHole(&To("F"), &To("E"))]),
+            ("F", &[Any, Closed(&Hole)]),
+        ],
+        Some("E"),
+    ),
+    // Closed patterns lead on, but not from within a list.
+    (&[("e", &[Hole, Closed(&To("e"))])], Some("e")),
+    (
+        &[("e", &[HideHole(&List(&To("e"))), Closed(&List(&To("e")))])],
+        None,
+    ),
+    (
+        &[
+            ("e", &[InHole(&HideHole(&To("E")), &To("e"))]),
+            ("E", &[Hole, InHole(&Closed(&To("E")), &Any)]),
+        ],
+        Some("E"),
+    ),
+];
+
+fn name(alloc: Global, text: &str) -> Result<Name, NoMemory> {
+    let text = RcStr::from_str(alloc, text)?;
+    Name::new(text).ok_or(NoMemory)
+}
+
+fn pattern(alloc: Global, shape: &Shape) -> Result<Pat, NoMemory> {
+    match shape {
+        Any => Ok(Pat::Kind(Kind::Any)),
+        Hole => Ok(Pat::Hole),
+        To(text) => Ok(Pat::Nt(Ref::Nt(name(alloc, text)?))),
+        InHole(left, right) => {
+            let left = pattern(alloc, left)?;
+            let right = pattern(alloc, right)?;
+            Ok(Pat::InHole(Box::new(alloc, left)?, Box::new(alloc, right)?))
+        }
+        HideHole(inner) => {
+            let inner = pattern(alloc, inner)?;
+            Ok(Pat::HideHole(Box::new(alloc, inner)?))
+        }
+        Closed(inner) => {
+            let inner = pattern(alloc, inner)?;
+            Ok(Pat::Closed(Box::new(alloc, inner)?))
+        }
+        List(item) => {
+            let item = pattern(alloc, item)?;
+            let mut items = Vec::new(alloc);
+            items.push(Item::One(item))?;
+            Ok(Pat::Seq(items))
+        }
+    }
+}
+
+fn language(alloc: Global, rules: &[(&str, &[Shape])]) -> Result<Language, NoMemory> {
+    let mut nts = Vec::new(alloc);
+    for (text, shapes) in rules {
+        let mut alternatives = Vec::new(alloc);
+        for shape in *shapes {
+            alternatives.push(pattern(alloc, shape)?)?;
+        }
+        nts.push((Ref::Nt(name(alloc, text)?), alternatives))?;
+    }
+    let name = name(alloc, "L")?;
+    Ok(Language { name, nts })
+}
+
+// Whether the check has named this nonterminal, or none.
+fn is_named(found: &Result<Ranks, LeftRec>, expected: Option<&str>) -> bool {
+    match (found, expected) {
+        (Ok(_), None) => true,
+        (Err(LeftRec::LeftRecursive(Ref::Nt(name))), Some(text)) => name.text() == text,
+        _ => false,
+    }
+}
+
+// Whether the check answers what the row says, of a language that is well formed.
+fn agrees(alloc: Global, row: Row) -> Result<bool, NoMemory> {
+    let (rules, expected) = row;
+    let language = language(alloc, rules)?;
+    if !language.is_well_formed(alloc)? {
+        return Ok(false);
+    }
+    let found = check(alloc, &language);
+    Ok(is_named(&found, expected))
+}
+
+#[test]
+fn first_recursive_nonterminals(rt: HostRuntime) -> Result<(), Fail> {
+    for row in ROWS {
+        assert!(rt; agrees(rt.alloc(), row)?);
+    }
+    Ok(())
+}
