@@ -43,7 +43,7 @@ AcceptedLeaveNames =
     (ds : List Sexp) (P : Program) (qs : List Query) (R : Relation) (r : Rule) → AreFileData ds → IsFile ds P qs → In R P.relations
     → In r R.rules → LeavesAName r
 
--- by the same choices data write one text at most, and all that they state is met or not
+-- by the same choices data write one text at most, and it is the same of each whether all that they state is met
 abbrev pub OneText : Type 0
 OneText = (ds : List Sexp) (cs t u : List ℕ) (m n : Bool) → Writes ds cs t m → Writes ds cs u n → (t ≡ u) × (m ≡ n)
 

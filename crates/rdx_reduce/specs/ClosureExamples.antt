@@ -92,8 +92,8 @@ FaultInside =
     TakeIn Numbers no_context_at_first.rules (list_of_two (int 1) (int 1)) (fault (not_context 0))
     × TakeIn Numbers no_context_at_first.rules (int 1) (value [])
 
--- of the faults in several places the first is the answer, by the order of the contexts here: where E is `hole`, `(E any)` or `(any E)`, the closure
--- by E of `(--> number_1 ,(quotient number_1 0))` divides 1 by zero from `(1 2)`
+-- where both places have a fault, the answer is that of the first: where E is `hole`, `(E any)` or `(any E)`, the closure by E of
+-- `(--> number_1 ,(quotient number_1 0))` divides 1 by zero from `(1 2)`
 abbrev pub FirstPlaceFails : Type 0
 FirstPlaceFails =
     TakeIn Contexts (context_closure (nt E) (codes "y") (alone (codes "x") None (named (codes "number_1") number)

@@ -1,5 +1,6 @@
 -- What closures do, stated for the contracts of the module of laws: the rule of a closure matches a term where the closing pattern splits it and the
--- rule matches the part; it takes the step that the rule takes there, inside of the context; and it meets the faults that the rule meets there.
+-- rule matches the part; it takes the step that the rule takes there, inside of the context; and it meets the faults that the rule
+-- meets there, and those of filling the context.
 use Rattle.std.specs.Prelude.{◌≡◌, ◌↔◌, ℕ, IsTrue, IsFalse, List, Some, bytes_eq, slice_get}
 use Rattle.std.specs.List.{list_all, list_any}
 use Rattle.rdx_term.specs.Fill.{fill_of}

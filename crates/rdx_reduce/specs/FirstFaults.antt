@@ -17,8 +17,8 @@ use Rattle.rdx_eval.specs.Heights.{calls_at}
 use Rattle.rdx_eval.specs.Instantiation.{Makes}
 use Rattle.rdx_reduce.specs.Steps.{Step, Steps}
 
--- Extras, where fresh names avoid this, lead from a binding, behind so many of them, to another; of that the next one makes the fault, or, behind
--- all of them, what R makes of it is the fault.
+-- The first n extras lead from a binding to another one; of that the next extra has the fault, or, where there is none, R has it. Fresh names avoid
+-- what a says.
 pub data FailsAfter (L : Language) (C : Calls) (R : Binding → Answer Tree → Type 0) : Avoided → List Extra → Binding → ℕ → Binding → Fault → Type 0 where
   in_result : {a : Avoided} {b : Binding} {f : Fault} → R b (fault f) → FailsAfter L C R a [] b 0 b f
   in_extra : {a : Avoided} {e : Extra} {es : List Extra} {b : Binding} {f : Fault} → By L C a e b (fault f) → FailsAfter L C R a (e ∷ es) b 0 b f
@@ -33,7 +33,7 @@ pub record MeetsFault (L : Language) (C : Calls) (w t : Tree) (r : Rule) (n : �
   pub fails : FailsAfter L C (λ c. Makes C c r.result) (avoiding w) r.extras first n b f
 
 -- Of all the faults that these rules meet, where M says behind how many of its extras a rule meets one and with which binding, f is the first: by
--- the place of the rule, then by the extras before it, and then by the binding.
+-- the place of the rule, then by how many of its extras stand before the fault, and then by the binding.
 pub record IsFirstMet (M : Rule → ℕ → Binding → Fault → Type 0) (rs : List Rule) (f : Fault) : Type 0 where
   pub place : ℕ
   pub rule : Rule
