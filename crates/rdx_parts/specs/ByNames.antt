@@ -7,7 +7,7 @@ use Rattle.rdx_lang.specs.Templates.{term}
 use Rattle.rdx_grammar.specs.Occurrences.{Occurrence, occurrences}
 use Rattle.rdx_grammar.specs.Parts.{text_of}
 use Rattle.rdx_grammar.specs.PatternChecks as patterns
-use Rattle.rdx_grammar.specs.PatternChecks.{when, bad_occurrences}
+use Rattle.rdx_grammar.specs.PatternChecks.{bad_occurrences}
 use Rattle.rdx_grammar.specs.Reading.{reading}
 use Rattle.rdx_grammar.specs.declared.patterns.position.Position.TheVariants.{Query}
 use Rattle.rdx_parts.specs.Arguments.{Arguments, patterns_in}

@@ -1,4 +1,4 @@
--- When a form of a relation, a metafunction or a judgement is refused, by the checks in two groups.
+-- When a form with such an outline is refused, by the checks in two groups.
 use Rattle.std.specs.Prelude.{ℕ, List, [], ◌∷◌, Option, option_map}
 use Rattle.rdx_grammar.specs.Refusal.{Refusal, unnamed, named, or_else, first_refusal}
 use Rattle.rdx_grammar.specs.declared.shape.fault.DefKind.TheVariants.{BadPattern, EllipsisDepth, EllipsisVariable, RacketEscape}

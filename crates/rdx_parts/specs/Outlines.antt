@@ -9,12 +9,11 @@ use Rattle.rdx_grammar.specs.Reading.{reading}
 use Rattle.rdx_grammar.specs.declared.patterns.position.Position.TheVariants.{Query}
 use Rattle.rdx_parts.specs.Arguments.{Arguments}
 use Rattle.rdx_parts.specs.ExtraForms.{ExtraPlace}
-use Rattle.rdx_parts.specs.ExtraReading.{list_reading}
-use Rattle.rdx_parts.specs.ExtraReading.{argument_items}
+use Rattle.rdx_parts.specs.ExtraReading.{argument_items, list_reading}
 use Rattle.rdx_parts.specs.Scope.{Scope}
 use Rattle.rdx_parts.specs.Stands.{argument_occurrences, bound_among, bound_by_extras}
 
--- what a case or a clause takes
+-- what a case, a clause, a conclusion or a premise takes
 pub data Takes : Type 0 where
   -- one term, by this pattern
   one : Sexp → Takes

@@ -6,7 +6,7 @@ use Rattle.rdx_parts.specs.ExtraForms as model
 use Rattle.rdx_parts.specs.Arguments as arguments
 use Rattle.rdx_parts.specs.ExtraForms.{such_that, provided, confirmed, holding, freshly, name, no_extra, of_case, of_clause, of_rule}
 use Rattle.rdx_parts.specs.Headed as headed
-use Rattle.rdx_parts.specs.Outlines as inside
+use Rattle.rdx_parts.specs.Outlines as outlines
 use Rattle.rdx_parts.specs.Stands.{Stand, misshaped, function, judgement, asked, arrow, pattern, template, condition, plain, misfit, fresh, named, repeated}
 use Rattle.rdx_parts.specs.declared.arguments.Arguments.{Arguments}
 use Rattle.rdx_parts.specs.declared.arguments.Headed.{Headed}
@@ -54,24 +54,24 @@ abbrev pub arguments_of : Arguments → arguments.Arguments
 arguments_of a = record { flags = option_map (λ m. map (flag_at a.at_inputs) m.now) a.mode; items = a.items.now }
 
 -- what is taken
-abbrev pub takes_of : Takes → inside.Takes
-takes_of (takes.One p) = inside.one p.now
-takes_of (takes.Several ds) = inside.several ds.now
+abbrev pub takes_of : Takes → outlines.Takes
+takes_of (takes.One p) = outlines.one p.now
+takes_of (takes.Several ds) = outlines.several ds.now
 
 -- the branch
-abbrev pub branch_of : Branch → inside.Branch
+abbrev pub branch_of : Branch → outlines.Branch
 branch_of b = record { takes = takes_of b.takes; place = place_of b.place; extras = b.extras.now; result = b.result.now }
 
 -- the rule of a judgement
-abbrev pub rule_branch_of : RuleBranch → inside.RuleBranch
+abbrev pub rule_branch_of : RuleBranch → outlines.RuleBranch
 rule_branch_of r = record { arguments = arguments_of r.arguments; premises = r.premises.now; is_last = r.is_last }
 
 -- the premise by itself
-abbrev pub question_of : Question → inside.Question
+abbrev pub question_of : Question → outlines.Question
 question_of q = record { premise = q.premise.now; result = option_map (λ d. d.now) q.result }
 
 -- the outline
-abbrev pub outline_of : Outline → inside.Outline
+abbrev pub outline_of : Outline → outlines.Outline
 outline_of o = record {
   alone = map (λ d. d.now) o.alone.items;
   branches = map branch_of o.branches.items;

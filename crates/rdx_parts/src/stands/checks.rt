@@ -4,7 +4,7 @@ ghost use Rattle.rdx_grammar.specs.Inside.Repeats.{texts_in, HaveSame};
 ghost use Rattle.rdx_grammar.specs.OccurrenceView.{occurrences_of};
 ghost use Rattle.rdx_parts.specs.Earliest.{earliest, lesser, start};
 ghost use Rattle.rdx_parts.specs.PartViews.{misfit_of, stand_of, stands_of};
-ghost use Rattle.rdx_parts.specs.NamesAgain as inside;
+ghost use Rattle.rdx_parts.specs.NamesAgain as repeats;
 ghost use Rattle.rdx_parts.specs.Scope.{scope_of};
 ghost use Rattle.rdx_parts.specs.StandChecks as model;
 ghost use Rattle.rdx_parts.specs.Stands.{bound_among};
@@ -77,7 +77,7 @@ fn add_texts<'a>(
     ensures { IfOk result (λ _.
         HaveSame (texts_in bound.new)
         (texts_in bound.old
-        ++ inside.texts_bound (bound_among names.now (occurrences_of found.now)))) }
+        ++ repeats.texts_bound (bound_among names.now (occurrences_of found.now)))) }
 {
     for o in found {
         if let Some((_, d)) = bound_by(names, Position::Query, o) {
@@ -98,12 +98,12 @@ fn name_again<'a>(
     ensures again { IfOk result (λ r.
         option_map (λ d. d.now) r
         ≡ earliest start
-        (inside.name_again (texts_in seen.old) (texts_in bound.old) (stand_of s.now))) }
+        (repeats.name_again (texts_in seen.old) (texts_in bound.old) (stand_of s.now))) }
     ensures seen { IfOk result (λ _.
         HaveSame (texts_in seen.new) (model.names_with (texts_in seen.old) (stand_of s.now))) }
     ensures bound { IfOk result (λ _.
         HaveSame (texts_in bound.new)
-        (inside.bound_with names.now (texts_in bound.old) (stand_of s.now))) }
+        (repeats.bound_with names.now (texts_in bound.old) (stand_of s.now))) }
 {
     match s {
         Stand::Arrow(_) => {
@@ -144,7 +144,7 @@ pub(crate) fn earliest_repeated<'a>(
 ) -> Result<Option<&'a Datum>, NoMemory>
     ensures { IfOk result (λ r.
         option_map (λ d. d.now) r
-        ≡ earliest start (inside.names_again names.now [] [] (stands_of found.now))) }
+        ≡ earliest start (repeats.names_again names.now [] [] (stands_of found.now))) }
 {
     let mut seen = BTreeSet::new(alloc);
     let mut bound = BTreeSet::new(alloc);

@@ -1,7 +1,7 @@
 // Why a form of a relation, a metafunction or a judgement is refused.
 ghost use Rattle.std.specs.Prelude.{◌≡◌, None, IfOk, option_map};
 ghost use Rattle.rdx_grammar.specs.Refusal.{refusal_of};
-ghost use Rattle.rdx_parts.specs.FormRefusals as inside;
+ghost use Rattle.rdx_parts.specs.FormRefusals as forms;
 ghost use Rattle.rdx_parts.specs.PartViews.{misfit_of, outline_of, stands_of};
 ghost use Rattle.rdx_parts.specs.PartsHave.{OutlineHas, can_bind};
 ghost use Rattle.rdx_parts.specs.Scope.{scope_of};
@@ -48,7 +48,7 @@ fn refuse_early(
     found: &[Stand],
 ) -> Result<Option<DefRefusal>, NoMemory>
     ensures { IfOk result (λ r.
-        option_map refusal_of r ≡ inside.early_refusal names.now (stands_of found.now)) }
+        option_map refusal_of r ≡ forms.early_refusal names.now (stands_of found.now)) }
 {
     if let Some(d) = earliest_shape_fault(found) {
         return Ok(Some(unnamed(DefKind::Shape, d)));
@@ -95,7 +95,7 @@ fn refuse_late(
     requires { OutlineHas (scope_of scope.now) (can_bind names.now) (outline_of outline.now) }
     ensures { IfOk result (λ r.
         option_map refusal_of r
-        ≡ inside.late_refusal (scope_of scope.now) names.now (stands_of found.now)
+        ≡ forms.late_refusal (scope_of scope.now) names.now (stands_of found.now)
         (outline_of outline.now)) }
 {
     if let Some(d) = earliest_fault(alloc, Check::Places, scope, names, outline)? {
@@ -125,11 +125,11 @@ pub fn refuse_parts(
     found: &[Stand],
     outline: &Outline,
 ) -> Result<Option<DefRefusal>, NoMemory>
-    requires { inside.early_refusal names.now (stands_of found.now) ≡ None
+    requires { forms.early_refusal names.now (stands_of found.now) ≡ None
         → OutlineHas (scope_of scope.now) (can_bind names.now) (outline_of outline.now) }
     ensures { IfOk result (λ r.
         option_map refusal_of r
-        ≡ inside.form_refusal (scope_of scope.now) names.now (stands_of found.now)
+        ≡ forms.form_refusal (scope_of scope.now) names.now (stands_of found.now)
         (outline_of outline.now)) }
 {
     if let Some(refusal) = refuse_early(alloc, names, found)? {
