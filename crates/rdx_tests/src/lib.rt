@@ -14,8 +14,6 @@ mod data;
 #[cfg(test)]
 mod ends;
 #[cfg(test)]
-mod evaluation;
-#[cfg(test)]
 mod matchers;
 #[cfg(test)]
 mod operations;

@@ -1,11 +1,10 @@
-// The table of host operations, entries that make none, and answers at the borders of 128 bits.
+// The table of host operations, and entries that make none.
 use rdx_delta::{
-    HostAnswer, HostEntry, HostTable, TableRefusal, host_add, host_add1, host_eq, host_equal,
-    host_ge, host_gt, host_is_zero, host_le, host_lt, host_mul, host_not, host_quotient,
-    host_remainder, host_sub, host_sub1,
+    HostEntry, HostTable, TableRefusal, host_add, host_add1, host_eq, host_equal, host_ge, host_gt,
+    host_is_zero, host_le, host_lt, host_mul, host_not, host_quotient, host_remainder, host_sub,
+    host_sub1,
 };
 use rdx_lang::HostOp;
-use rdx_term::Term;
 use std::process::Abort;
 use std::test::Fail;
 
@@ -54,23 +53,5 @@ fn two_entries_of_one_operation(rt: HostRuntime) -> Result<(), Fail> {
     entries.push(HostEntry::new(HostOp::Add, host_add))?;
     let refused = HostTable::new(entries).err();
     assert!(rt; refused == Some(TableRefusal::Twice(HostOp::Add)));
-    Ok(())
-}
-
-#[test]
-fn the_least_integer(rt: HostRuntime) -> Result<(), Fail> {
-    let args = [Term::Int(i128::MIN), Term::Int(-1)];
-    assert!(rt; matches!(host_sub(&args[..1]), HostAnswer::Overflow));
-    assert!(rt; matches!(host_add(&args), HostAnswer::Overflow));
-    assert!(rt; matches!(host_quotient(&args), HostAnswer::Overflow));
-    assert!(rt; matches!(host_remainder(&args), HostAnswer::Value(Term::Int(0))));
-    Ok(())
-}
-
-#[test]
-fn a_negative_dividend(rt: HostRuntime) -> Result<(), Fail> {
-    let args = [Term::Int(-7), Term::Int(2)];
-    assert!(rt; matches!(host_quotient(&args), HostAnswer::Value(Term::Int(-3))));
-    assert!(rt; matches!(host_remainder(&args), HostAnswer::Value(Term::Int(-1))));
     Ok(())
 }
