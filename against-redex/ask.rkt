@@ -176,7 +176,7 @@
     [(list (cons forms queries) ...)
      (append*
       (for/list ([form forms] [query queries])
-        (define lines (within 20 "fault" (λ () (query answers))))
+        (define lines (within 60 "fault" (λ () (query answers))))
         (when (and (test-form? form) (string-prefix? (first lines) "fault"))
           (set! failed (add1 failed)))
         lines))]
