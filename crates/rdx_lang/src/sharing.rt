@@ -45,25 +45,27 @@ impl Pat {
             Pat::Lit(term) => Ok(Pat::Lit(term.share()?)),
             Pat::Nt(name) => Ok(Pat::Nt(name.share()?)),
             Pat::Named(name, inner) => {
-                let inner = inner.share(alloc)?;
-                Ok(Pat::Named(name.share()?, Box::new(alloc, inner)?))
+                let inner = share_boxed(alloc, inner)?;
+                Ok(Pat::Named(name.share()?, inner))
             }
             Pat::InHole(left, right) => {
-                let left = left.share(alloc)?;
-                let right = right.share(alloc)?;
-                Ok(Pat::InHole(Box::new(alloc, left)?, Box::new(alloc, right)?))
+                let left = share_boxed(alloc, left)?;
+                Ok(Pat::InHole(left, share_boxed(alloc, right)?))
             }
-            Pat::HideHole(inner) => {
-                let inner = inner.share(alloc)?;
-                Ok(Pat::HideHole(Box::new(alloc, inner)?))
-            }
-            Pat::Closed(inner) => {
-                let inner = inner.share(alloc)?;
-                Ok(Pat::Closed(Box::new(alloc, inner)?))
-            }
+            Pat::HideHole(inner) => Ok(Pat::HideHole(share_boxed(alloc, inner)?)),
+            Pat::Closed(inner) => Ok(Pat::Closed(share_boxed(alloc, inner)?)),
             Pat::Seq(items) => Ok(Pat::Seq(share_items(alloc, items)?)),
         }
     }
+}
+
+// The same pattern once more, in a box of its own.
+#[cycle(share)]
+fn share_boxed(alloc: Global, pat: &Pat) -> Result<Box<Pat>, NoMemory>
+    ensures { IfOk result (λ p. pattern_of p.value ≡ pattern_of pat.now) }
+{
+    let pat = pat.share(alloc)?;
+    Ok(Box::new(alloc, pat)?)
 }
 
 impl Item {
@@ -74,7 +76,10 @@ impl Item {
     {
         match self {
             Item::One(pat) => Ok(Item::One(pat.share(alloc)?)),
-            Item::Many(pat, length) => { Ok(Item::Many(pat.share(alloc)?, share_length(length)?)) }
+            Item::Many(pat, length) => {
+                let length = share_length(length)?;
+                Ok(Item::Many(pat.share(alloc)?, length))
+            }
         }
     }
 }

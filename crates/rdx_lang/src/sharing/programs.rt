@@ -33,8 +33,8 @@ impl Extra {
     {
         match self {
             Extra::Where(pat, template) => {
-                let pat = pat.share(alloc)?;
-                Ok(Extra::Where(pat, template.share(alloc)?))
+                let template = template.share(alloc)?;
+                Ok(Extra::Where(pat.share(alloc)?, template))
             }
             Extra::Side(expr) => Ok(Extra::Side(expr.share(alloc)?)),
             Extra::Holds(premise) => Ok(Extra::Holds(premise.share(alloc)?)),

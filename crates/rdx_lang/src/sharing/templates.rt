@@ -16,9 +16,8 @@ impl Template {
             Template::Lit(term) => Ok(Template::Lit(term.share()?)),
             Template::Var(name, depth) => Ok(Template::Var(name.share()?, *depth)),
             Template::Fill(context, inner) => {
-                let context = context.share(alloc)?;
-                let inner = inner.share(alloc)?;
-                Ok(Template::Fill(Box::new(alloc, context)?, Box::new(alloc, inner)?))
+                let context = share_boxed(alloc, context)?;
+                Ok(Template::Fill(context, share_boxed(alloc, inner)?))
             }
             Template::Call(name, items) => {
                 let items = share_parts(alloc, items)?;
@@ -31,6 +30,15 @@ impl Template {
             Template::Seq(items) => Ok(Template::Seq(share_parts(alloc, items)?)),
         }
     }
+}
+
+// The same template once more, in a box of its own.
+#[cycle(share_template)]
+fn share_boxed(alloc: Global, template: &Template) -> Result<Box<Template>, NoMemory>
+    ensures { IfOk result (λ t. template_of t.value ≡ template_of template.now) }
+{
+    let template = template.share(alloc)?;
+    Ok(Box::new(alloc, template)?)
 }
 
 impl TItem {
