@@ -65,15 +65,15 @@ impl<'a, M: Matcher + Drop> Engine<'a, M> {
         }
     }
 
-    // The names of the program, which are taken out where they are there.
-    fn names(&mut self) -> Result<Names<'a>, NoMemory>
-        ensures names { IfOk result (AreNamesOf (program_of self.old.program.now)) }
+    // Puts the names of the program in order, where that was not done.
+    fn order_names(&mut self) -> Result<(), NoMemory>
+        ensures there { OnOk result (IsSome self.new.names) }
         ensures same { self.new.program ≡ self.old.program }
     {
-        match self.names.take() {
-            Some(names) => Ok(names),
-            None => Names::new(self.alloc, self.program),
+        if self.names.is_none() {
+            self.names = Some(Names::new(self.alloc, self.program)?);
         }
+        Ok(())
     }
 
     /// The program.
@@ -89,10 +89,11 @@ impl<'a, M: Matcher + Drop> Engine<'a, M> {
             ≡ language_named (program_of self.old.program.now) name.now) }
         ensures same { self.new.program ≡ self.old.program }
     {
-        let names = self.names()?;
-        let found = names.language_named(self.program, name);
-        self.names = Some(names);
-        Ok(found)
+        self.order_names()?;
+        let Some(names) = &self.names else {
+            unreachable!()
+        };
+        Ok(names.language_named(self.program, name))
     }
 
     /// The relation of this name, where the program has one.
@@ -101,10 +102,11 @@ impl<'a, M: Matcher + Drop> Engine<'a, M> {
             ≡ relation_named (program_of self.old.program.now) name.now) }
         ensures same { self.new.program ≡ self.old.program }
     {
-        let names = self.names()?;
-        let found = names.relation_named(self.program, name);
-        self.names = Some(names);
-        Ok(found)
+        self.order_names()?;
+        let Some(names) = &self.names else {
+            unreachable!()
+        };
+        Ok(names.relation_named(self.program, name))
     }
 
     /// The judgement of this name, where the program has one.
@@ -113,10 +115,11 @@ impl<'a, M: Matcher + Drop> Engine<'a, M> {
             ≡ judgement_named (program_of self.old.program.now) name.now) }
         ensures same { self.new.program ≡ self.old.program }
     {
-        let names = self.names()?;
-        let found = names.judgement_named(self.program, name);
-        self.names = Some(names);
-        Ok(found)
+        self.order_names()?;
+        let Some(names) = &self.names else {
+            unreachable!()
+        };
+        Ok(names.judgement_named(self.program, name))
     }
 
     /// The bindings by which the pattern matches the term, as its matcher lists them.
@@ -153,8 +156,11 @@ impl<'a, M: Matcher + Drop> Engine<'a, M> {
             (binding_of b.now) (template_of t.now)) result }
         ensures same { self.new.program ≡ self.old.program }
     {
-        let names = self.names()?;
-        let setting = Setting::new(self.alloc, self.program, &names, self.host);
+        self.order_names()?;
+        let Some(names) = &self.names else {
+            unreachable!()
+        };
+        let setting = Setting::new(self.alloc, self.program, names, self.host);
         let scope = Scope {
             setting: &setting,
             height: HEIGHT,
@@ -163,7 +169,6 @@ impl<'a, M: Matcher + Drop> Engine<'a, M> {
         };
         let room = Room::whole();
         let answer = evaluation::instantiate(&scope, &mut self.matcher, room, t);
-        self.names = Some(names);
         Ok(answer?)
     }
 
@@ -173,8 +178,11 @@ impl<'a, M: Matcher + Drop> Engine<'a, M> {
             (binding_of b.now) (host_of h.now)) result }
         ensures same { self.new.program ≡ self.old.program }
     {
-        let names = self.names()?;
-        let setting = Setting::new(self.alloc, self.program, &names, self.host);
+        self.order_names()?;
+        let Some(names) = &self.names else {
+            unreachable!()
+        };
+        let setting = Setting::new(self.alloc, self.program, names, self.host);
         let scope = Scope {
             setting: &setting,
             height: HEIGHT,
@@ -183,7 +191,6 @@ impl<'a, M: Matcher + Drop> Engine<'a, M> {
         };
         let room = Room::whole();
         let answer = evaluation::evaluate(&scope, &mut self.matcher, room, h);
-        self.names = Some(names);
         Ok(answer?)
     }
 
@@ -194,11 +201,13 @@ impl<'a, M: Matcher + Drop> Engine<'a, M> {
             f.now (tree_of args.now)) result }
         ensures same { self.new.program ≡ self.old.program }
     {
-        let names = self.names()?;
-        let setting = Setting::new(self.alloc, self.program, &names, self.host);
+        self.order_names()?;
+        let Some(names) = &self.names else {
+            unreachable!()
+        };
+        let setting = Setting::new(self.alloc, self.program, names, self.host);
         let room = Room::whole();
         let answer = evaluation::call(&setting, &mut self.matcher, room, HEIGHT, f, args);
-        self.names = Some(names);
         Ok(answer?)
     }
 
@@ -210,11 +219,13 @@ impl<'a, M: Matcher + Drop> Engine<'a, M> {
             result }
         ensures same { self.new.program ≡ self.old.program }
     {
-        let names = self.names()?;
-        let setting = Setting::new(self.alloc, self.program, &names, self.host);
+        self.order_names()?;
+        let Some(names) = &self.names else {
+            unreachable!()
+        };
+        let setting = Setting::new(self.alloc, self.program, names, self.host);
         let room = Room::whole();
         let answer = evaluation::judge(&setting, &mut self.matcher, room, HEIGHT, j, ins);
-        self.names = Some(names);
         Ok(answer?)
     }
 
@@ -237,8 +248,11 @@ impl<'a, M: Matcher + Drop> Engine<'a, M> {
             (calls_at (program_of self.old.program.now) height) (premise_of premise.now)) result }
         ensures same { self.new.program ≡ self.old.program }
     {
-        let names = self.names()?;
-        let setting = Setting::new(self.alloc, self.program, &names, self.host);
+        self.order_names()?;
+        let Some(names) = &self.names else {
+            unreachable!()
+        };
+        let setting = Setting::new(self.alloc, self.program, names, self.host);
         let Some(language) = names.language_named(self.program, language) else {
             unreachable!()
         };
@@ -252,7 +266,6 @@ impl<'a, M: Matcher + Drop> Engine<'a, M> {
             premise,
             none,
         );
-        self.names = Some(names);
         Ok(listed_bindings(self.alloc, found?)?)
     }
 
@@ -272,8 +285,11 @@ impl<'a, M: Matcher + Drop> Engine<'a, M> {
             (extras_of extras.now) (bindings_in found)) result }
         ensures same { self.new.program ≡ self.old.program }
     {
-        let names = self.names()?;
-        let setting = Setting::new(self.alloc, self.program, &names, self.host);
+        self.order_names()?;
+        let Some(names) = &self.names else {
+            unreachable!()
+        };
+        let setting = Setting::new(self.alloc, self.program, names, self.host);
         let Some(language) = names.language_named(self.program, language) else {
             unreachable!()
         };
@@ -288,7 +304,6 @@ impl<'a, M: Matcher + Drop> Engine<'a, M> {
             found,
             whole,
         );
-        self.names = Some(names);
         Ok(answer?)
     }
 }

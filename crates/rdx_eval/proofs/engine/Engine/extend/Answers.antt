@@ -24,8 +24,8 @@ returns-in_err-answer-clause-answer g c =
     (bindings_in c.args.found)) c.from_residual-in_err-answer.result c.in_err-answer.field-0.0 c.from_residual-in_err-answer.ensures.1
     (subst (λ (L : Option Language). Tells bindings_in
     (ExtendOver L (calls_at (program_of p.now) height) w (extras_of c.args.extras.now) (bindings_in c.args.found)) (Err c.in_err-answer.field-0.0))
-    (c.in-Some.ensures ∙ ap (λ (p : Bor code_program.Program). language_named (program_of p.now) c.args.language.now) c.names.ensures.same)
+    (c.in-Some-language_named.ensures ∙ ap (λ (p : Bor code_program.Program). language_named (program_of p.now) c.args.language.now) c.order_names.ensures.same)
     (subst (λ (q : Bor code_program.Program). Tells bindings_in
-    (ExtendOver (Some (language_in c.in-Some.language.now)) (calls_at (program_of q.now) height) w (extras_of c.args.extras.now) (bindings_in c.args.found))
+    (ExtendOver (Some (language_in c.in-Some-language_named.language.now)) (calls_at (program_of q.now) height) w (extras_of c.args.extras.now) (bindings_in c.args.found))
     (Err c.in_err-answer.field-0.0))
-    (c.new-setting.ensures ∙ c.names.ensures.same) c.in_err-answer.ensures))
+    (c.new-setting.ensures ∙ c.order_names.ensures.same) c.in_err-answer.ensures))

@@ -22,33 +22,33 @@ pub returns-in_err-found-clause-answer : goal.returns-in_err-found-clause-answer
 returns-in_err-found-clause-answer g c =
     let P = program_of c.args.self.now.program.now in
     let C : Calls = calls_at P height in
-    let L : Language = language_in c.in-Some.language.now in
+    let L : Language = language_in c.in-Some-language_named.language.now in
     let q : Premise = premise_of c.args.premise.now in
     let b : Binding = binding_of c.new-none.result in
     let S = c.new-setting.result.program in
     let n : b ≡ no_names = c.new-none.ensures ∙ ap pairs_of c.new.ensures.items in
     told_on bindings_in bindings_in (MeetsOver (language_named P c.args.language.now) C q)
     c.from_residual-in_err-found.result c.in_err-found.field-0.0 c.from_residual-in_err-found.ensures.1
-    (subst (λ (o : Option Language). Tells bindings_in (MeetsOver o C q) (Err c.in_err-found.field-0.0)) (c.in-Some.ensures ∙ ap (λ (p : Bor code_program.Program). language_named (program_of p.now) c.args.language.now) c.names.ensures.same)
+    (subst (λ (o : Option Language). Tells bindings_in (MeetsOver o C q) (Err c.in_err-found.field-0.0)) (c.in-Some-language_named.ensures ∙ ap (λ (p : Bor code_program.Program). language_named (program_of p.now) c.args.language.now) c.order_names.ensures.same)
     (error_handed_on bindings_in bindings_in (ByPremise L (calls_at (program_of S.now) height) q b) (Meets L C q)
     (Err c.in_err-found.field-0.0) c.in_err-found.field-0.0 refl
     (λ f h. stops
     (subst (λ (d : Binding). ByPremise L C q d (fault f)) n
-    (subst (λ (p : Bor code_program.Program). ByPremise L (calls_at (program_of p.now) height) q b (fault f)) (c.new-setting.ensures ∙ c.names.ensures.same) h)))
+    (subst (λ (p : Bor code_program.Program). ByPremise L (calls_at (program_of p.now) height) q b (fault f)) (c.new-setting.ensures ∙ c.order_names.ensures.same) h)))
     c.in_err-found.ensures))
 
 pub returns-clause-answer : goal.returns-clause-answer
 returns-clause-answer g c =
     let P = program_of c.args.self.now.program.now in
     let C : Calls = calls_at P height in
-    let L : Language = language_in c.in-Some.language.now in
+    let L : Language = language_in c.in-Some-language_named.language.now in
     let q : Premise = premise_of c.args.premise.now in
     let b : Binding = binding_of c.new-none.result in
     let bs : List Binding = bindings_in c.in_ok-found.field-0 in
     let n : b ≡ no_names = c.new-none.ensures ∙ ap pairs_of c.new.ensures.items in
     let h : ByPremise L C q no_names (value bs) =
     subst (λ (d : Binding). ByPremise L C q d (value bs)) n
-    (subst (λ (p : Bor code_program.Program). ByPremise L (calls_at (program_of p.now) height) q b (value bs)) (c.new-setting.ensures ∙ c.names.ensures.same)
+    (subst (λ (p : Bor code_program.Program). ByPremise L (calls_at (program_of p.now) height) q b (value bs)) (c.new-setting.ensures ∙ c.order_names.ensures.same)
     c.in_ok-found.ensures) in
-    subst (λ (o : Option Language). MeetsOver o C q (value (bindings_in c.in_ok-listed_bindings.field-0))) (c.in-Some.ensures ∙ ap (λ (p : Bor code_program.Program). language_named (program_of p.now) c.args.language.now) c.names.ensures.same)
+    subst (λ (o : Option Language). MeetsOver o C q (value (bindings_in c.in_ok-listed_bindings.field-0))) (c.in-Some-language_named.ensures ∙ ap (λ (p : Bor code_program.Program). language_named (program_of p.now) c.args.language.now) c.order_names.ensures.same)
     (goes h (lists c.in_ok-listed_bindings.ensures))
