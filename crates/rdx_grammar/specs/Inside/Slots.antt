@@ -1,5 +1,5 @@
--- What the functions of cross nonterminals do with the items of list patterns.
-use Rattle.std.specs.Prelude.{ℕ, zero, suc, List, [], ◌∷◌, None}
+-- Items of list patterns: what the functions of cross nonterminals do with them, and the pattern of one that is no repetition.
+use Rattle.std.specs.Prelude.{ℕ, zero, suc, List, [], ◌∷◌, Option, Some, None}
 use Rattle.rdx_lang.specs.Crosses.{unnamed}
 use Rattle.rdx_lang.specs.PatternView.{Slot, just, repeated}
 use Rattle.rdx_lang.specs.Patterns.{Pattern, Items, nil, one, many}
@@ -21,3 +21,9 @@ put_at (suc i) q (many p n ps) = many p n (put_at i q ps)
 abbrev pub changed_slot : Pattern → Slot → List Slot
 changed_slot q (just p) = just q ∷ []
 changed_slot q (repeated p n) = repeated (unnamed p) None ∷ just q ∷ repeated (unnamed p) None ∷ []
+
+-- the pattern of an item that is there and is no repetition
+abbrev pub just_in : Option Slot → Option Pattern
+just_in None = None
+just_in (Some (just p)) = Some p
+just_in (Some (repeated p n)) = None

@@ -1,7 +1,7 @@
 // The alternatives of cross nonterminals.
-ghost use Rattle.std.specs.Prelude.{◌≡◌, ◌++◌, ◌∷◌, [], ◌<◌, length, IfOk, OnOk, map};
+ghost use Rattle.std.specs.Prelude.{◌≡◌, ◌++◌, ◌∷◌, [], ◌<◌, length, None, IfOk, OnOk, map};
 ghost use Rattle.rdx_lang.specs.Crosses as model;
-ghost use Rattle.rdx_lang.specs.PatternView.{pattern_of, patterns_of, slot_of, items_of};
+ghost use Rattle.rdx_lang.specs.PatternView.{pattern_of, patterns_of, slot_of, items_of, repeated};
 ghost use Rattle.rdx_lang.specs.Patterns as patterns;
 ghost use Rattle.rdx_grammar.specs.Inside.Slots.{put_at, changed_slot};
 
@@ -9,6 +9,14 @@ use crate::crosses::nameless::{add_unnamed, unnamed};
 use rdx_lang::{Item, Pat, Ref};
 use rdx_term::{Name, NoMemory};
 use std::alloc::Global;
+
+// Adds the repetition of the pattern without its names.
+fn add_repeated(alloc: Global, pat: &Pat, out: &mut Vec<Item>) -> Result<(), NoMemory>
+    ensures { OnOk result (map slot_of out.new.items ≡ map slot_of out.old.items
+        ++ repeated (model.unnamed (pattern_of pat.now)) None ∷ []) }
+{
+    Ok(out.push(Item::Many(unnamed(alloc, pat)?, None))?)
+}
 
 // Adds what stands in place of an item with a changed pattern.
 fn add_in_place(
@@ -21,14 +29,13 @@ fn add_in_place(
         ≡ map slot_of out.old.items ++ changed_slot (pattern_of changed) (slot_of item.now)) }
 {
     match item {
-        Item::One(_) => out.push(Item::One(changed))?,
+        Item::One(_) => Ok(out.push(Item::One(changed))?),
         Item::Many(pat, _) => {
-            out.push(Item::Many(unnamed(alloc, pat)?, None))?;
+            add_repeated(alloc, pat, out)?;
             out.push(Item::One(changed))?;
-            out.push(Item::Many(unnamed(alloc, pat)?, None))?;
+            add_repeated(alloc, pat, out)
         }
     }
-    Ok(())
 }
 
 // The items without their names, with a changed pattern at one place.

@@ -21,24 +21,33 @@ pub(crate) fn unnamed(alloc: Global, pat: &Pat) -> Result<Pat, NoMemory>
         Pat::Nt(name) => Ok(Pat::Nt(name.share()?)),
         Pat::Named(_, inner) => unnamed(alloc, inner),
         Pat::InHole(left, right) => {
-            let left = unnamed(alloc, left)?;
-            let right = unnamed(alloc, right)?;
-            Ok(Pat::InHole(Box::new(alloc, left)?, Box::new(alloc, right)?))
+            let left = unnamed_boxed(alloc, left)?;
+            Ok(Pat::InHole(left, unnamed_boxed(alloc, right)?))
         }
-        Pat::HideHole(inner) => {
-            let inner = unnamed(alloc, inner)?;
-            Ok(Pat::HideHole(Box::new(alloc, inner)?))
-        }
-        Pat::Closed(inner) => {
-            let inner = unnamed(alloc, inner)?;
-            Ok(Pat::Closed(Box::new(alloc, inner)?))
-        }
-        Pat::Seq(items) => {
-            let mut copies = Vec::new(alloc);
-            add_unnamed(alloc, items, &mut copies)?;
-            Ok(Pat::Seq(copies))
-        }
+        Pat::HideHole(inner) => Ok(Pat::HideHole(unnamed_boxed(alloc, inner)?)),
+        Pat::Closed(inner) => Ok(Pat::Closed(unnamed_boxed(alloc, inner)?)),
+        Pat::Seq(items) => Ok(Pat::Seq(unnamed_items(alloc, items)?)),
     }
+}
+
+// The pattern without its names, in a box of its own.
+#[cycle(unnaming)]
+fn unnamed_boxed(alloc: Global, pat: &Pat) -> Result<Box<Pat>, NoMemory>
+    ensures { IfOk result (λ p. pattern_of p.value ≡ model.unnamed (pattern_of pat.now)) }
+{
+    let pat = unnamed(alloc, pat)?;
+    Ok(Box::new(alloc, pat)?)
+}
+
+// The items without their names.
+#[cycle(unnaming)]
+fn unnamed_items(alloc: Global, items: &[Item]) -> Result<Vec<Item>, NoMemory>
+    ensures { IfOk result
+        (λ v. map slot_of v.items ≡ map unnamed_slot (map slot_of items.now)) }
+{
+    let mut copies = Vec::new(alloc);
+    add_unnamed(alloc, items, &mut copies)?;
+    Ok(copies)
 }
 
 /// Puts the items without their names behind those that are there.

@@ -4,6 +4,7 @@ ghost use Rattle.rdx_lang.specs.PatternView.{pattern_of, slot_of, items_of};
 ghost use Rattle.rdx_lang.specs.Patterns.{named};
 ghost use Rattle.rdx_grammar.specs.HeadView.{head_view};
 ghost use Rattle.rdx_grammar.specs.Reading as model;
+ghost use Rattle.rdx_grammar.specs.Inside.Slots.{just_in};
 
 use crate::patterns::heads::Head;
 use rdx_lang::{Item, Pat, Ref};
@@ -24,6 +25,16 @@ fn only_name(mut names: Vec<Name>) -> Option<Name>
     if names.len() == 1 { names.pop() } else { None }
 }
 
+// The pattern of an item that is there and is no repetition.
+fn unrepeated(item: Option<Item>) -> Option<Pat>
+    ensures { option_map pattern_of result ≡ just_in (option_map slot_of item) }
+{
+    match item {
+        Some(Item::One(pat)) => Some(pat),
+        Some(Item::Many(_, _)) | None => None,
+    }
+}
+
 // The pattern of a list of one item.
 fn only_item(mut items: Vec<Item>) -> Option<Pat>
     ensures { option_map pattern_of result ≡ model.only_item (items_of (map slot_of items.items)) }
@@ -31,10 +42,7 @@ fn only_item(mut items: Vec<Item>) -> Option<Pat>
     if items.len() != 1 {
         return None;
     }
-    match items.pop() {
-        Some(Item::One(pat)) => Some(pat),
-        Some(Item::Many(_, _)) | None => None,
-    }
+    unrepeated(items.pop())
 }
 
 // The pattern bound to the name, where there are both.
@@ -56,14 +64,9 @@ fn only_items(mut items: Vec<Item>) -> Option<(Pat, Pat)>
     ensures { option_map (λ ps. (pattern_of ps.0, pattern_of ps.1)) result
         ≡ model.only_items (items_of (map slot_of items.items)) }
 {
-    match items.pop() {
-        Some(Item::One(right)) => {
-            let left = only_item(items)?;
-            Some((left, right))
-        }
-        Some(Item::Many(_, _)) => None,
-        None => None,
-    }
+    let right = unrepeated(items.pop())?;
+    let left = only_item(items)?;
+    Some((left, right))
 }
 
 // The pattern for contexts with the one for what stands in their hole, where there are both.

@@ -1,10 +1,10 @@
 //! What stands in a pattern.
-ghost use Rattle.std.specs.Prelude.{◌≡◌, ◌<◌, ◌+◌, ◌++◌, [], IfOk, option_map};
+ghost use Rattle.std.specs.Prelude.{◌≡◌, ◌<◌, ◌+◌, ◌++◌, ◌∷◌, [], IfOk, option_map};
 ghost use Rattle.rdx_sexp.specs.Sexp.{sexps};
 ghost use Rattle.rdx_sexp.specs.Size.{sexp_depth, sexps_depth};
 ghost use Rattle.rdx_grammar.specs.HeadView.{head_view, role_view, roles_view};
 ghost use Rattle.rdx_grammar.specs.Heads.{patterns};
-ghost use Rattle.rdx_grammar.specs.OccurrenceView.{occurrences_of};
+ghost use Rattle.rdx_grammar.specs.OccurrenceView.{occurrence_of, occurrences_of};
 ghost use Rattle.rdx_grammar.specs.Occurrences as model;
 
 use crate::patterns::heads::{
@@ -34,6 +34,15 @@ pub enum Occurrence<'a> {
     Escape(&'a Datum),
 }
 
+// Adds one thing.
+fn add_one<'a>(one: Occurrence<'a>, out: &mut Vec<Occurrence<'a>>) -> Result<(), NoMemory>
+    ensures { IfOk result (λ _.
+        occurrences_of out.new.items
+        ≡ occurrences_of out.old.items ++ occurrence_of one.entry ∷ []) }
+{
+    Ok(out.push(one)?)
+}
+
 // Adds the keywords in a datum.
 fn add_keys<'a>(d: &'a Datum, out: &mut Vec<Occurrence<'a>>) -> Result<(), NoMemory>
     ensures { IfOk result (λ _.
@@ -41,7 +50,7 @@ fn add_keys<'a>(d: &'a Datum, out: &mut Vec<Occurrence<'a>>) -> Result<(), NoMem
 {
     match &d.form {
         Form::Int(_) | Form::Bool(_) | Form::Str(_) | Form::Sym(_) => Ok(()),
-        Form::Key(_) => Ok(out.push(Occurrence::Key(d))?),
+        Form::Key(_) => add_one(Occurrence::Key(d), out),
         Form::List(items) => {
             for item in items {
                 add_keys(item, out)?;
@@ -64,9 +73,9 @@ fn add_other<'a>(
         ++ model.role_occurrences depth (option_map role_view role) d.now []) }
 {
     match role {
-        Some(Role::Bound) => Ok(out.push(Occurrence::Binder(depth, d))?),
-        Some(Role::Spelt) => Ok(out.push(Occurrence::Excepted(d))?),
-        Some(Role::Ellipsis) => Ok(out.push(Occurrence::Repeats(depth, d))?),
+        Some(Role::Bound) => add_one(Occurrence::Binder(depth, d), out),
+        Some(Role::Spelt) => add_one(Occurrence::Excepted(d), out),
+        Some(Role::Ellipsis) => add_one(Occurrence::Repeats(depth, d), out),
         Some(Role::Unread) => add_keys(d, out),
         Some(Role::Word | Role::Pattern) | None => Ok(()),
     }
@@ -87,8 +96,8 @@ fn add_head<'a>(head: Head, d: &'a Datum, out: &mut Vec<Occurrence<'a>>) -> Resu
         ≡ occurrences_of out.old.items ++ model.head_occurrences (head_view head) d.now) }
 {
     match head {
-        Head::Crossing => Ok(out.push(Occurrence::Across(d))?),
-        Head::Escaping => Ok(out.push(Occurrence::Escape(d))?),
+        Head::Crossing => add_one(Occurrence::Across(d), out),
+        Head::Escaping => add_one(Occurrence::Escape(d), out),
         Head::Naming
         | Head::Avoiding
         | Head::Prefixing
@@ -112,13 +121,13 @@ pub fn add_pattern<'a>(
 {
     match &d.form {
         Form::Int(_) | Form::Bool(_) | Form::Str(_) => Ok(()),
-        Form::Sym(_) => Ok(out.push(Occurrence::Single(depth, d))?),
-        Form::Key(_) => Ok(out.push(Occurrence::Key(d))?),
+        Form::Sym(_) => add_one(Occurrence::Single(depth, d), out),
+        Form::Key(_) => add_one(Occurrence::Key(d), out),
         Form::List(items) => {
             let head = head_among(items);
             let roles = roles_of(head);
             if !fits(roles, items) {
-                out.push(Occurrence::Malformed(d))?;
+                add_one(Occurrence::Malformed(d), out)?;
                 return add_keys(d, out);
             }
             add_head(head, d, out)?;

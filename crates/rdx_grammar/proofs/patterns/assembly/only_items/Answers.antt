@@ -1,14 +1,20 @@
 use Rattle.std.proofs.Common.{arith}
 use Rattle.std.proofs.lemmas.Grind.{common_steps}
-use Rattle.rdx_lang.proofs.PatternEquations.{slot_one, slot_many}
-use Rattle.rdx_grammar.proofs.OneItem.{only_items-last, only_items-repeated}
+use Rattle.rdx_lang.specs.PatternView.{slot_of}
+use Rattle.rdx_grammar.proofs.OneItem.{only_items-popped}
 use Rattle.rdx_grammar.proofs.patterns.assembly.only_items.Goals as goal
 
-pub returns-in_err-left-in-Some-One : goal.returns-in_err-left-in-Some-One
-returns-in_err-left-in-Some-One c = grind (arith, common_steps, slot_one, only_items-last)
+pub returns-in_err-right : goal.returns-in_err-right
+returns-in_err-right c =
+    let k = only_items-popped slot_of c.args.items.items c.pop.new.self.items c.pop.result c.pop.ensures.items (λ n. grind (arith, n, c.pop.ensures.cases)) in
+    grind (arith, common_steps, k)
 
-pub returns-in_ok-left-in-Some-One : goal.returns-in_ok-left-in-Some-One
-returns-in_ok-left-in-Some-One c = grind (arith, common_steps, slot_one, only_items-last)
+pub returns-in_err-left : goal.returns-in_err-left
+returns-in_err-left c =
+    let k = only_items-popped slot_of c.args.items.items c.pop.new.self.items c.pop.result c.pop.ensures.items (λ n. grind (arith, n, c.pop.ensures.cases)) in
+    grind (arith, common_steps, k)
 
-pub returns-in-Some-Many : goal.returns-in-Some-Many
-returns-in-Some-Many c = grind (arith, common_steps, slot_many, only_items-repeated)
+pub returns : goal.returns
+returns c =
+    let k = only_items-popped slot_of c.args.items.items c.pop.new.self.items c.pop.result c.pop.ensures.items (λ n. grind (arith, n, c.pop.ensures.cases)) in
+    grind (arith, common_steps, k)
