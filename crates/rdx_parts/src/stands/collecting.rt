@@ -4,7 +4,7 @@ ghost use Rattle.rdx_grammar.specs.OccurrenceView.{occurrences_of};
 ghost use Rattle.rdx_grammar.specs.Readable.{IsReadable};
 ghost use Rattle.rdx_parts.specs.BareStands as bare;
 ghost use Rattle.rdx_parts.specs.Outlines.{taken_occurrences};
-ghost use Rattle.rdx_parts.specs.PartViews.{arguments_of, branch_of, extra_form_of, place_of, stands_of, takes_of};
+ghost use Rattle.rdx_parts.specs.PartViews.{arguments_of, branch_of, extra_form_of, place_of, stand_of, stands_of, takes_of};
 ghost use Rattle.rdx_parts.specs.PartsHave.{AreReadable, ExtraHas, ExtrasHave, PremiseHas, BranchHas, IsReadableTaken, readable};
 ghost use Rattle.rdx_parts.specs.Headed as headed;
 ghost use Rattle.rdx_parts.specs.Scope.{scope_of};
@@ -51,6 +51,14 @@ pub enum Stand<'a> {
     Repeated(&'a Datum),
 }
 
+// Adds one thing.
+fn add_one<'a>(one: Stand<'a>, out: &mut Vec<Stand<'a>>) -> Result<(), NoMemory>
+    ensures { IfOk result (λ _.
+        stands_of out.new.items ≡ stands_of out.old.items ++ stand_of one.entry ∷ []) }
+{
+    Ok(out.push(one)?)
+}
+
 /// What stands in what is taken.
 pub(crate) fn in_takes<'a>(alloc: Global, takes: Takes<'a>) -> Result<Vec<Occurrence<'a>>, NoMemory>
     requires { IsReadableTaken (takes_of takes) }
@@ -74,7 +82,7 @@ fn add_taken<'a>(alloc: Global, takes: Takes<'a>, out: &mut Vec<Stand<'a>>) -> R
         ++ model.pattern [] (taken_occurrences (takes_of takes.entry)) ∷ []) }
 {
     let found = in_takes(alloc, takes)?;
-    Ok(out.push(Stand::Pattern(found))?)
+    add_one(Stand::Pattern(found), out)
 }
 
 /// Adds a pattern that stands by itself.
@@ -141,7 +149,7 @@ fn add_argument<'a>(
     if is_pattern {
         add_alone(alloc, d, out)
     } else {
-        Ok(out.push(Stand::Template(d))?)
+        add_one(Stand::Template(d), out)
     }
 }
 
@@ -179,7 +187,7 @@ pub fn add_held<'a>(
         ++ bare.held_stands (scope_of scope.now) d.now (headed.headed d.now)) }
 {
     let Some(premise) = headed_list(d) else {
-        return Ok(out.push(Stand::Misshaped(d))?);
+        return add_one(Stand::Misshaped(d), out);
     };
     out.push(Stand::Asked(premise.head))?;
     let mode = mode_of(scope, text(premise.head));
@@ -216,14 +224,14 @@ fn add_extra<'a>(
     match extra {
         ExtraForm::SuchThat(pattern, template) => {
             add_alone(alloc, pattern, out)?;
-            Ok(out.push(Stand::Template(template))?)
+            add_one(Stand::Template(template), out)
         }
-        ExtraForm::Provided(host) => Ok(out.push(Stand::Condition(host))?),
-        ExtraForm::Confirmed(template) => Ok(out.push(Stand::Template(template))?),
+        ExtraForm::Provided(host) => add_one(Stand::Condition(host), out),
+        ExtraForm::Confirmed(template) => add_one(Stand::Template(template), out),
         ExtraForm::Holding(premise) => add_held(alloc, scope, premise, out),
         ExtraForm::Freshly(made) => add_fresh(made, out),
-        ExtraForm::Name => Ok(out.push(Stand::Named(again, d))?),
-        ExtraForm::NoExtra => Ok(out.push(Stand::Misshaped(d))?),
+        ExtraForm::Name => add_one(Stand::Named(again, d), out),
+        ExtraForm::NoExtra => add_one(Stand::Misshaped(d), out),
     }
 }
 

@@ -2,17 +2,19 @@
 ghost use Rattle.std.specs.Prelude.{◌≡◌, ◌++◌, ◌∷◌, [], IfOk, IsSome, Some, map};
 ghost use Rattle.rdx_lang.specs.Checked.{language_in, pattern_in};
 ghost use Rattle.rdx_lang.specs.PatternView.{items_of, just, pattern_of, slot_of};
+ghost use Rattle.rdx_lang.specs.Programs.{provided};
 ghost use Rattle.rdx_lang.specs.ProgramView.{extras_of, premise_of};
-ghost use Rattle.rdx_lang.specs.TemplateView.{template_of};
+ghost use Rattle.rdx_lang.specs.TemplateView.{host_of, template_of};
 ghost use Rattle.rdx_grammar.specs.Reading.{reading};
 ghost use Rattle.rdx_grammar.specs.declared.patterns.position.Position.TheVariants as positions;
 ghost use Rattle.rdx_parts.specs.Arguments.{data_at, patterns_in, templates_in};
 ghost use Rattle.rdx_parts.specs.Headed as headed;
-ghost use Rattle.rdx_parts.specs.Outlines.{each, bound_by_branch, bound_by_taken, taken_reading};
+ghost use Rattle.rdx_parts.specs.Outlines.{each, one, bound_by_branch, bound_by_taken, taken_reading};
 ghost use Rattle.rdx_parts.specs.ByNames as by_names;
 ghost use Rattle.rdx_parts.specs.ByNames.{fresh_reading};
+ghost use Rattle.rdx_parts.specs.ExtraForms.{such_that};
 ghost use Rattle.rdx_parts.specs.PartViews.{arguments_of, branch_of, extra_form_of, headed_of, place_of, takes_of};
-ghost use Rattle.rdx_parts.specs.PartsHave.{AreNames, ArgumentsHave, BranchHas, ExtraHas, ExtrasHave, IsPattern, PremiseHas, can_read};
+ghost use Rattle.rdx_parts.specs.PartsHave.{AreNames, ArgumentsHave, BranchHas, ExtraHas, ExtrasHave, IsPattern, PremiseHas, can_bind, can_read};
 ghost use Rattle.rdx_parts.specs.Scope.{mode_of, scope_of};
 ghost use Rattle.rdx_parts.specs.ExtraReading.{extras_reading, held_reading, items_reading, list_reading, premise_reading, templates_reading};
 ghost use Rattle.rdx_parts.specs.Stands as stands;
@@ -217,6 +219,37 @@ fn add_fresh(made: &[Datum], out: &mut Vec<Extra>) -> Result<(), NoMemory>
     Ok(())
 }
 
+// Adds that what the template makes matches the pattern, behind which these names are bound.
+fn add_where(
+    alloc: Global,
+    scope: &Scope,
+    language: &CheckedLang,
+    names: &Names,
+    bound: &Bound<'_>,
+    pattern: &Datum,
+    template: &Datum,
+    out: &mut Vec<Extra>,
+) -> Result<(), NoMemory>
+    requires { IsPattern (language_in language.now) names.now (one pattern.now) }
+    ensures { IfOk result (λ _.
+        extras_of out.new.items
+        ≡ extras_of out.old.items
+        ++ by_names.extra_reading (scope_of scope.now) names.now bound.now
+        (such_that pattern.now template.now)) }
+{
+    let template = templates::read_datum(alloc, scope, bound, template)?;
+    let pattern = read_takes(alloc, language, names, Takes::One(pattern))?;
+    Ok(out.push(Extra::Where(pattern, template))?)
+}
+
+// Adds that the host expression does not make false.
+fn add_side(host: HostExpr, out: &mut Vec<Extra>) -> Result<(), NoMemory>
+    ensures { IfOk result (λ _.
+        extras_of out.new.items ≡ extras_of out.old.items ++ (provided (host_of host) ∷ [])) }
+{
+    Ok(out.push(Extra::Side(host))?)
+}
+
 // Adds what an extra asks, behind which these names are bound.
 fn add_extra(
     alloc: Global,
@@ -238,17 +271,15 @@ fn add_extra(
 {
     match extra {
         ExtraForm::SuchThat(pattern, template) => {
-            let pattern = read_takes(alloc, language, names, Takes::One(pattern))?;
-            let template = templates::read_datum(alloc, scope, bound, template)?;
-            Ok(out.push(Extra::Where(pattern, template))?)
+            add_where(alloc, scope, language, names, bound, pattern, template, out)
         }
         ExtraForm::Provided(host) => {
             let host = templates::read_host_datum(alloc, scope, bound, host)?;
-            Ok(out.push(Extra::Side(host))?)
+            add_side(host, out)
         }
         ExtraForm::Confirmed(template) => {
             let template = templates::read_datum(alloc, scope, bound, template)?;
-            Ok(out.push(Extra::Side(HostExpr::Term(template)))?)
+            add_side(HostExpr::Term(template), out)
         }
         ExtraForm::Holding(premise) => {
             add_premise(alloc, scope, language, names, bound, premise, out)
@@ -293,6 +324,52 @@ pub struct ReadBranch {
     pub result: Template,
 }
 
+// What the extras of a case or a clause ask.
+fn read_extras_of(
+    alloc: Global,
+    scope: &Scope,
+    language: &CheckedLang,
+    names: &Names,
+    branch: Branch<'_>,
+) -> Result<Vec<Extra>, NoMemory>
+    requires { BranchHas (scope_of scope.now)
+        (can_read (scope_of scope.now) (language_in language.now) names.now)
+        (branch_of branch) }
+    ensures { IfOk result (λ read.
+        extras_of read.items
+        ≡ extras_reading (branch_of branch.entry).place (scope_of scope.now) names.now
+        (bound_by_taken names.now (branch_of branch.entry).takes) branch.entry.extras.now) }
+{
+    let bound = taken_names(alloc, names, branch.takes)?;
+    read_extras(
+        alloc,
+        scope,
+        language,
+        names,
+        branch.place,
+        bound,
+        branch.extras,
+    )
+}
+
+// The result of a case or a clause.
+fn read_result(
+    alloc: Global,
+    scope: &Scope,
+    names: &Names,
+    branch: Branch<'_>,
+) -> Result<Template, NoMemory>
+    requires { BranchHas (scope_of scope.now) (can_bind names.now) (branch_of branch) }
+    ensures { IfOk result (λ t.
+        template_of t
+        ≡ template_reading (scope_of scope.now)
+        (names_bound (bound_by_branch (scope_of scope.now) names.now (branch_of branch.entry)))
+        branch.entry.result.now) }
+{
+    let all = branch_names(alloc, scope, names, branch)?;
+    templates::read_datum(alloc, scope, &all, branch.result)
+}
+
 /// The pattern, the extras and the result of a case or a clause.
 pub fn read_branch(
     alloc: Global,
@@ -316,12 +393,9 @@ pub fn read_branch(
         (names_bound (bound_by_branch (scope_of scope.now) names.now (branch_of branch.entry)))
         branch.entry.result.now) }
 {
+    let extras = read_extras_of(alloc, scope, language, names, branch)?;
+    let result = read_result(alloc, scope, names, branch)?;
     let pattern = read_takes(alloc, language, names, branch.takes)?;
-    let bound = taken_names(alloc, names, branch.takes)?;
-    let place = branch.place;
-    let extras = read_extras(alloc, scope, language, names, place, bound, branch.extras)?;
-    let all = branch_names(alloc, scope, names, branch)?;
-    let result = templates::read_datum(alloc, scope, &all, branch.result)?;
     Ok(ReadBranch {
         pattern,
         extras,

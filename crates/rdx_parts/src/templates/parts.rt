@@ -1,10 +1,10 @@
 // What stands in a template or a host expression.
-ghost use Rattle.std.specs.Prelude.{◌≡◌, ◌<◌, ◌+◌, ◌++◌, drop, IfOk};
+ghost use Rattle.std.specs.Prelude.{◌≡◌, ◌<◌, ◌+◌, ◌++◌, ◌∷◌, [], drop, IfOk};
 ghost use Rattle.rdx_sexp.specs.Sexp.{sexps};
 ghost use Rattle.rdx_sexp.specs.Size.{sexp_depth, sexps_depth};
 ghost use Rattle.rdx_grammar.specs.HeadView.{roles_view};
 ghost use Rattle.rdx_grammar.specs.Occurrences as occurrences;
-ghost use Rattle.rdx_parts.specs.Inside.PartView.{parts_of, unrepeated};
+ghost use Rattle.rdx_parts.specs.Inside.PartView.{part_of, parts_of, unrepeated};
 ghost use Rattle.rdx_parts.specs.Scope.{scope_of};
 ghost use Rattle.rdx_parts.specs.TemplateOccurrences as model;
 
@@ -26,6 +26,14 @@ pub(crate) enum TemplatePart<'a> {
     Malformed(&'a Datum),
     /// What would ask Racket.
     Escape(&'a Datum),
+}
+
+// Adds one thing.
+fn add_part<'a>(part: TemplatePart<'a>, out: &mut Vec<TemplatePart<'a>>) -> Result<(), NoMemory>
+    ensures { IfOk result (λ _.
+        parts_of out.new.items ≡ parts_of out.old.items ++ part_of part.entry ∷ []) }
+{
+    Ok(out.push(part)?)
 }
 
 // One ellipsis more, where there is one.
@@ -53,11 +61,11 @@ pub(crate) fn add_template<'a>(
 {
     match &d.form {
         Form::Int(_) | Form::Bool(_) | Form::Str(_) | Form::Key(_) => Ok(()),
-        Form::Sym(_) => Ok(out.push(TemplatePart::Single(depth, d))?),
+        Form::Sym(_) => add_part(TemplatePart::Single(depth, d), out),
         Form::List(items) => match template_head(scope, bound, items) {
             TemplateHead::Filling => {
                 if items.len() != 3 {
-                    return Ok(out.push(TemplatePart::Malformed(d))?);
+                    return add_part(TemplatePart::Malformed(d), out);
                 }
                 add_items(
                     scope,
@@ -70,7 +78,7 @@ pub(crate) fn add_template<'a>(
                 )
             }
             TemplateHead::Evaluating => add_hosts(scope, bound, depth, items, out),
-            TemplateHead::Splicing => Ok(out.push(TemplatePart::Escape(d))?),
+            TemplateHead::Splicing => add_part(TemplatePart::Escape(d), out),
             TemplateHead::Calling(_) => {
                 add_items(scope, bound, depth, Roles::Patterns, 1, items, out)
             }
@@ -129,7 +137,7 @@ pub(crate) fn add_host<'a>(
 {
     match &d.form {
         Form::Int(_) | Form::Bool(_) => Ok(()),
-        Form::Str(_) | Form::Sym(_) | Form::Key(_) => Ok(out.push(TemplatePart::Escape(d))?),
+        Form::Str(_) | Form::Sym(_) | Form::Key(_) => add_part(TemplatePart::Escape(d), out),
         Form::List(items) => match host_head(items) {
             HostHead::Quoting => {
                 add_items(
@@ -146,7 +154,7 @@ pub(crate) fn add_host<'a>(
                 add_hosts(scope, bound, depth, items, out)
             }
             HostHead::Miscounted => Ok(()),
-            HostHead::Foreign => Ok(out.push(TemplatePart::Escape(d))?),
+            HostHead::Foreign => add_part(TemplatePart::Escape(d), out),
         },
     }
 }
