@@ -1,5 +1,5 @@
 // Premises by themselves, as queries have them.
-ghost use Rattle.std.specs.Prelude.{◌≡◌, [], IfOk, IfSome, option_map};
+ghost use Rattle.std.specs.Prelude.{◌≡◌, [], IfOk, IfSome, IsSome, Some, option_map};
 ghost use Rattle.rdx_lang.specs.Checked.{language_in};
 ghost use Rattle.rdx_lang.specs.ProgramView.{premise_of};
 ghost use Rattle.rdx_lang.specs.TemplateView.{template_of};
@@ -80,6 +80,40 @@ fn read_behind(
     Ok(Some(templates::read_datum(alloc, scope, &bound, template)?))
 }
 
+// The premise of a datum that is one, before which no name is bound, and the template behind it,
+// where there is one.
+fn read_parts(
+    alloc: Global,
+    scope: &Scope,
+    language: &CheckedLang,
+    names: &Names,
+    premise: &Datum,
+    behind: Option<&Datum>,
+) -> Result<ReadPremise, NoMemory>
+    requires form { IsSome (headed.headed premise.now) }
+    requires premise { PremiseHas (scope_of scope.now)
+        (can_read (scope_of scope.now) (language_in language.now) names.now)
+        (headed.headed premise.now) }
+    ensures premise { IfOk result (λ read.
+        Some (premise_of read.premise)
+        ≡ option_map (premise_reading (scope_of scope.now) names.now [])
+        (headed.headed premise.now)) }
+    ensures result { IfOk result (λ read.
+        option_map template_of read.result
+        ≡ option_map (template_reading (scope_of scope.now)
+        (premise_names (scope_of scope.now) names.now (headed.headed premise.now)))
+        (option_map (λ d. d.now) behind.entry)) }
+{
+    let Some(asked) = read_alone(alloc, scope, language, names, premise)? else {
+        unreachable!()
+    };
+    let result = read_behind(alloc, scope, names, premise, behind)?;
+    Ok(ReadPremise {
+        premise: asked,
+        result,
+    })
+}
+
 /// As [`read_premise`], over a language with nonterminals of these names.
 pub fn read_premise_over(
     alloc: Global,
@@ -101,14 +135,7 @@ pub fn read_premise_over(
         return Err(DefFault::Refused(refusal));
     }
     add_asked(alloc, language, premise)?;
-    let Some(asked) = read_alone(alloc, scope, language, names, premise)? else {
-        unreachable!()
-    };
-    let result = read_behind(alloc, scope, names, premise, behind)?;
-    Ok(ReadPremise {
-        premise: asked,
-        result,
-    })
+    Ok(read_parts(alloc, scope, language, names, premise, behind)?)
 }
 
 /// The premise that a datum stands for, before which no name is bound, its patterns over the

@@ -4,14 +4,18 @@ ghost use Rattle.std.specs.Rc.{rc_str_bytes};
 ghost use Rattle.rdx_term.specs.Spelling.{is_name};
 ghost use Rattle.rdx_lang.specs.Checked.{language_in, pattern_in};
 ghost use Rattle.rdx_lang.specs.PatternView.{items_of, slot_of};
-ghost use Rattle.rdx_lang.specs.ProgramView.{judgement_of, judgement_rule_of, judgement_rules_of};
+ghost use Rattle.rdx_lang.specs.ProgramView.{extras_of, judgement_of, judgement_rule_of, judgement_rules_of};
+ghost use Rattle.rdx_lang.specs.TemplateView.{template_of};
 ghost use Rattle.rdx_grammar.specs.Parts.{text_of};
-ghost use Rattle.rdx_parts.specs.ExtraReading.{items_reading};
+ghost use Rattle.rdx_parts.specs.Arguments.{templates_in};
+ghost use Rattle.rdx_parts.specs.ByNames as by_names;
+ghost use Rattle.rdx_parts.specs.ExtraForms.{of_rule};
+ghost use Rattle.rdx_parts.specs.ExtraReading.{items_reading, templates_reading};
 ghost use Rattle.rdx_defs.specs.Inside.FormOutlines as inside;
 ghost use Rattle.rdx_defs.specs.Inside.Contracts.{IsJudgementContract};
 ghost use Rattle.rdx_defs.specs.Inside.FormViews.{judgement_form_of, rule_form_of};
-ghost use Rattle.rdx_parts.specs.PartViews.{headed_of};
-ghost use Rattle.rdx_parts.specs.PartsHave.{RuleHas, RulesHave, can_read};
+ghost use Rattle.rdx_parts.specs.PartViews.{arguments_of, headed_of, rule_branch_of};
+ghost use Rattle.rdx_parts.specs.PartsHave.{RuleHas, RulesHave, can_bind, can_read};
 ghost use Rattle.rdx_defs.specs.JudgementForms as forms;
 ghost use Rattle.rdx_defs.specs.JudgementReading as model;
 ghost use Rattle.rdx_defs.specs.MetafunctionReading.{closed_items};
@@ -22,15 +26,16 @@ use crate::judgements::forms::{
     JudgementForm, RuleForm, contract_form, judgement_in, own_rule, rule_branch,
 };
 use rdx_grammar::{Names, Position, readings, symbol_name};
-use rdx_lang::{CheckedLang, CheckedPat, Item, JRule, Judgement, Pat};
+use rdx_lang::{CheckedLang, CheckedPat, Extra, Item, JRule, Judgement, Pat, Template};
 use rdx_parts::Scope;
 use rdx_parts::arguments::Headed;
+use rdx_parts::branches::RuleBranch;
 use rdx_parts::extras::ExtraPlace;
 use rdx_parts::stands::checks::label;
 use rdx_parts::stands::names::{input_names, rule_names};
 use rdx_parts::stands::readings::{read_extras, read_patterns, read_templates};
 use rdx_sexp::Datum;
-use rdx_term::NoMemory;
+use rdx_term::{Name, NoMemory};
 use std::alloc::Global;
 use std::rc::RcStr;
 
@@ -44,6 +49,78 @@ fn read_label(alloc: Global, name: Option<&Datum>) -> Result<Option<RcStr>, NoMe
         Some(d) => Ok(Some(RcStr::from_str(alloc, label(d))?)),
         None => Ok(None),
     }
+}
+
+// The premises of a rule, behind its inputs.
+fn read_premises(
+    alloc: Global,
+    scope: &Scope,
+    language: &CheckedLang,
+    names: &Names,
+    branch: RuleBranch<'_, '_>,
+) -> Result<Vec<Extra>, NoMemory>
+    requires { RuleHas (scope_of scope.now)
+        (can_read (scope_of scope.now) (language_in language.now) names.now)
+        (rule_branch_of branch) }
+    ensures { IfOk result (λ read.
+        extras_of read.items
+        ≡ by_names.extras_reading of_rule (scope_of scope.now) names.now
+        (by_names.input_names names.now (rule_branch_of branch.entry))
+        branch.entry.premises.now) }
+{
+    let bound = input_names(alloc, names, branch)?;
+    let place = ExtraPlace::OfRule;
+    read_extras(alloc, scope, language, names, place, bound, branch.premises)
+}
+
+// The outputs of a rule, behind all names that it binds.
+fn read_outputs(
+    alloc: Global,
+    scope: &Scope,
+    names: &Names,
+    branch: RuleBranch<'_, '_>,
+) -> Result<Vec<Template>, NoMemory>
+    requires { RuleHas (scope_of scope.now) (can_bind names.now) (rule_branch_of branch) }
+    ensures { IfOk result (λ read.
+        map template_of read.items
+        ≡ templates_reading (scope_of scope.now)
+        (by_names.rule_names (scope_of scope.now) names.now (rule_branch_of branch.entry))
+        (templates_in (arguments_of branch.entry.arguments))) }
+{
+    let all = rule_names(alloc, scope, names, branch)?;
+    read_templates(alloc, scope, &all, branch.arguments)
+}
+
+// What a rule has behind its inputs: its premises, its outputs, and the text of its name, where it
+// has one.
+fn read_behind(
+    alloc: Global,
+    scope: &Scope,
+    language: &CheckedLang,
+    names: &Names,
+    branch: RuleBranch<'_, '_>,
+    name: Option<&Datum>,
+) -> Result<(Vec<Extra>, Vec<Template>, Option<RcStr>), NoMemory>
+    requires { RuleHas (scope_of scope.now)
+        (can_read (scope_of scope.now) (language_in language.now) names.now)
+        (rule_branch_of branch) }
+    ensures premises { IfOk result (λ read.
+        extras_of read.0.items
+        ≡ by_names.extras_reading of_rule (scope_of scope.now) names.now
+        (by_names.input_names names.now (rule_branch_of branch.entry))
+        branch.entry.premises.now) }
+    ensures outputs { IfOk result (λ read.
+        map template_of read.1.items
+        ≡ templates_reading (scope_of scope.now)
+        (by_names.rule_names (scope_of scope.now) names.now (rule_branch_of branch.entry))
+        (templates_in (arguments_of branch.entry.arguments))) }
+    ensures name { IfOk result (λ read.
+        option_map rc_str_bytes read.2
+        ≡ option_map checks.label (option_map (λ d. d.now) name.entry)) }
+{
+    let extras = read_premises(alloc, scope, language, names, branch)?;
+    let outs = read_outputs(alloc, scope, names, branch)?;
+    Ok((extras, outs, read_label(alloc, name)?))
 }
 
 // A rule, by the mode of its judgement.
@@ -65,13 +142,9 @@ fn read_rule(
 {
     let branch = rule_branch(mode, rule);
     let ins = read_patterns(alloc, language, names, branch.arguments)?;
-    let bound = input_names(alloc, names, branch)?;
-    let place = ExtraPlace::OfRule;
-    let extras = read_extras(alloc, scope, language, names, place, bound, rule.premises)?;
-    let all = rule_names(alloc, scope, names, branch)?;
-    let outs = read_templates(alloc, scope, &all, branch.arguments)?;
+    let (extras, outs, name) = read_behind(alloc, scope, language, names, branch, rule.name)?;
     Ok(JRule {
-        name: read_label(alloc, rule.name)?,
+        name,
         ins,
         extras,
         outs,
@@ -105,6 +178,36 @@ fn read_rules(
         }
     }
     Ok(read)
+}
+
+// The rules of the judgement of a form by this mode, its name, and that of its language.
+fn read_named_rules(
+    alloc: Global,
+    scope: &Scope,
+    language: &CheckedLang,
+    names: &Names,
+    form: JudgementForm<'_>,
+    name: &Datum,
+    mode: &[bool],
+) -> Result<(Vec<JRule>, Name, Name), NoMemory>
+    requires rules { RulesHave (scope_of scope.now)
+        (can_read (scope_of scope.now) (language_in language.now) names.now)
+        (inside.rule_branches (forms.judgement_in (judgement_form_of form)) (Some mode.now)
+        form.rules.now) }
+    requires language { IsTrue (is_name (text_of form.language.now)) }
+    requires name { IsTrue (is_name (text_of name.now)) }
+    ensures rules { IfOk result (λ read.
+        judgement_rules_of read.0.items
+        ≡ model.rules_reading (scope_of scope.now) names.now
+        (forms.judgement_in (judgement_form_of form.entry)) (Some mode.now)
+        form.entry.rules.now) }
+    ensures name { IfOk result (λ read. read.1 ≡ text_of name.now) }
+    ensures language { IfOk result (λ read. read.2 ≡ text_of form.entry.language.now) }
+{
+    let judgement = judgement_in(form);
+    let by = Some(mode);
+    let rules = read_rules(alloc, scope, language, names, judgement, by, form.rules)?;
+    Ok((rules, symbol_name(name)?, symbol_name(form.language)?))
 }
 
 // An item for each of these patterns, each closed.
@@ -165,12 +268,12 @@ pub(crate) fn read_parts(
         (judgement_form_of form.entry)) }
 {
     let contract = read_contract(alloc, language, names, contract_form(form))?;
-    let judgement = judgement_in(form);
-    let by = Some(mode.as_slice());
-    let rules = read_rules(alloc, scope, language, names, judgement, by, form.rules)?;
+    let (rules, name, language) = read_named_rules(
+        alloc, scope, language, names, form, name, &mode,
+    )?;
     Ok(Judgement {
-        name: symbol_name(name)?,
-        language: symbol_name(form.language)?,
+        name,
+        language,
         inputs: mode,
         contract,
         rules,

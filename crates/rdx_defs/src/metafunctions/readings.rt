@@ -20,7 +20,7 @@ use rdx_parts::Scope;
 use rdx_parts::branches::{Branch, Outline};
 use rdx_parts::stands::readings::read_branch;
 use rdx_sexp::Datum;
-use rdx_term::NoMemory;
+use rdx_term::{Name, NoMemory};
 use std::alloc::Global;
 
 // The clause of a branch.
@@ -105,11 +105,11 @@ fn read_contract(
         ≡ model.contract_reading names.now (contract_form_of contract.entry)) }
 {
     let items = readings::read_items(alloc, names, Position::Query, contract.arguments)?;
-    let arguments = Pat::Seq(closed_items(alloc, items)?);
+    let arguments = closed_items(alloc, items)?;
     let value = readings::read_datum(alloc, names, Position::Query, contract.value)?;
     let value = Pat::Closed(Box::new(alloc, value)?);
     Ok((
-        CheckedPat::known(language, arguments),
+        CheckedPat::known(language, Pat::Seq(arguments)),
         CheckedPat::known(language, value),
     ))
 }
@@ -132,6 +132,31 @@ fn read_any_contract(
         Some(contract) => Ok(Some(read_contract(alloc, language, names, contract)?)),
         None => Ok(None),
     }
+}
+
+// The clauses of branches, the name of their metafunction, and that of its language.
+fn read_named_clauses(
+    alloc: Global,
+    scope: &Scope,
+    language: &CheckedLang,
+    names: &Names,
+    branches: &[Branch<'_>],
+    function: &Datum,
+    symbol: &Datum,
+) -> Result<(Vec<Clause>, Name, Name), NoMemory>
+    requires branches { BranchesHave (scope_of scope.now)
+        (can_read (scope_of scope.now) (language_in language.now) names.now)
+        (map branch_of branches.now) }
+    requires language { IsTrue (is_name (text_of symbol.now)) }
+    requires name { IsTrue (is_name (text_of function.now)) }
+    ensures clauses { IfOk result (λ read.
+        clauses_of read.0.items
+        ≡ branch_clauses (scope_of scope.now) names.now (map branch_of branches.now)) }
+    ensures name { IfOk result (λ read. read.1 ≡ text_of function.now) }
+    ensures language { IfOk result (λ read. read.2 ≡ text_of symbol.now) }
+{
+    let clauses = read_clauses(alloc, scope, language, names, branches)?;
+    Ok((clauses, symbol_name(function)?, symbol_name(symbol)?))
 }
 
 /// The metafunction of this name that a form with these parts and this outline stands for.
@@ -157,10 +182,14 @@ pub(crate) fn read_parts(
         function.now (outline_of outline.now).branches) }
 {
     let contract = read_any_contract(alloc, language, names, form.contract)?;
-    let clauses = read_clauses(alloc, scope, language, names, &outline.branches)?;
+    let branches = &outline.branches;
+    let symbol = form.language;
+    let (clauses, name, language) = read_named_clauses(
+        alloc, scope, language, names, branches, function, symbol,
+    )?;
     Ok(Metafunction {
-        name: symbol_name(function)?,
-        language: symbol_name(form.language)?,
+        name,
+        language,
         contract,
         clauses,
     })

@@ -1,5 +1,5 @@
 // Relations over languages.
-ghost use Rattle.std.specs.Prelude.{◌≡◌, Some, IfOk, IsTrue, option_map};
+ghost use Rattle.std.specs.Prelude.{◌≡◌, None, Some, IfErr, IfOk, IsTrue, option_map};
 ghost use Rattle.rdx_lang.specs.Checked.{language_in};
 ghost use Rattle.rdx_lang.specs.ProgramView.{relation_of};
 ghost use Rattle.rdx_lang.specs.Valid.{is_valid_over};
@@ -9,9 +9,10 @@ ghost use Rattle.rdx_grammar.specs.Parts.{text_of};
 ghost use Rattle.rdx_grammar.specs.Readable.{IsReadable};
 ghost use Rattle.rdx_term.specs.Spelling.{is_name};
 ghost use Rattle.rdx_defs.specs.Answers.{ReadsRelation};
-ghost use Rattle.rdx_defs.specs.Inside.FormOutlines.{domain_patterns};
-ghost use Rattle.rdx_defs.specs.Inside.ExpandedAnswers.{ReadsExpanded};
+ghost use Rattle.rdx_defs.specs.Inside.FormOutlines.{domain_patterns, relation_outline};
+ghost use Rattle.rdx_defs.specs.Inside.ExpandedAnswers.{IsExpandedFault, ReadsExpanded, expanded_refusal};
 ghost use Rattle.rdx_defs.specs.Inside.FormViews.{relation_form_of};
+ghost use Rattle.rdx_parts.specs.PartViews.{outline_of};
 ghost use Rattle.rdx_parts.specs.PartsHave.{AreReadable};
 ghost use Rattle.rdx_defs.specs.RelationEnds.{expanded_ends, relation_ends};
 ghost use Rattle.rdx_parts.specs.Scope.{callable, scope_of};
@@ -27,10 +28,40 @@ use rdx_grammar::unbuilt::has_word_to_come;
 use rdx_grammar::{DefFault, DefKind, Names};
 use rdx_lang::{CheckedLang, Relation};
 use rdx_parts::Scope;
+use rdx_parts::branches::Outline;
 use rdx_parts::stands::refusals::refuse_parts;
 use rdx_sexp::Datum;
 use rdx_term::Name;
 use std::alloc::Global;
+
+// The outline of a form without shorthand with these parts, which was written with these shortcuts,
+// where no check refuses it.
+fn passed_outline<'a>(
+    alloc: Global,
+    scope: &Scope,
+    names: &Names,
+    form: RelationForm<'a>,
+    shortcuts: &'a [Datum],
+) -> Result<Outline<'a, 'a>, DefFault>
+    requires domain { AreReadable (domain_patterns (option_map (λ d. d.now) form.domain)) }
+    requires cases { AreReadable form.cases.now }
+    requires named { IsTrue (is_name (text_of form.language.now)) }
+    ensures passes { IfOk result (λ _.
+        expanded_refusal (scope_of scope.now) names.now (relation_form_of form.entry)
+        shortcuts.now ≡ None) }
+    ensures outline { IfOk result (λ outline.
+        outline_of outline ≡ relation_outline (relation_form_of form.entry)) }
+    ensures refused { IfErr result (λ fault.
+        IsExpandedFault (scope_of scope.now) names.now (relation_form_of form.entry)
+        shortcuts.now fault) }
+{
+    let found = relation_stands(alloc, scope, form, shortcuts)?;
+    let outline = relation_outline(alloc, form)?;
+    if let Some(refusal) = refuse_parts(alloc, scope, names, &found, &outline)? {
+        return Err(DefFault::Refused(refusal));
+    }
+    Ok(outline)
+}
 
 // The relation of this name that a form without shorthand with these parts stands for, which was
 // written with these shortcuts.
@@ -55,11 +86,7 @@ fn read_expanded<'a>(
         IsTrue (is_valid_over (callable (scope_of scope.now))
         (Some (language_in language.new)) (relation_of r))) }
 {
-    let found = relation_stands(alloc, scope, form, shortcuts)?;
-    let outline = relation_outline(alloc, form)?;
-    if let Some(refusal) = refuse_parts(alloc, scope, names, &found, &outline)? {
-        return Err(DefFault::Refused(refusal));
-    }
+    let outline = passed_outline(alloc, scope, names, form, shortcuts)?;
     add_ends_of(alloc, language, form)?;
     Ok(read_parts(alloc, scope, language, names, name, form, &outline)?)
 }

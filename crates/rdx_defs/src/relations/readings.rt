@@ -105,6 +105,30 @@ fn read_domain(
     }
 }
 
+// The rules of cases, the name of their relation, and that of its language.
+fn read_named_rules(
+    alloc: Global,
+    scope: &Scope,
+    language: &CheckedLang,
+    names: &Names,
+    branches: &[Branch<'_>],
+    name: &Name,
+    symbol: &Datum,
+) -> Result<(Vec<Rule>, Name, Name), NoMemory>
+    requires branches { BranchesHave (scope_of scope.now)
+        (can_read (scope_of scope.now) (language_in language.now) names.now)
+        (map branch_of branches.now) }
+    requires named { IsTrue (is_name (text_of symbol.now)) }
+    ensures rules { IfOk result (λ read.
+        map rule_of read.0.items
+        ≡ branch_rules (scope_of scope.now) names.now (map branch_of branches.now)) }
+    ensures name { IfOk result (λ read. read.1 ≡ name.now) }
+    ensures language { IfOk result (λ read. read.2 ≡ text_of symbol.now) }
+{
+    let rules = read_rules(alloc, scope, language, names, branches)?;
+    Ok((rules, name.share()?, symbol_name(symbol)?))
+}
+
 /// The relation of this name that a form without shorthand with these parts and this outline
 /// stands for.
 pub(crate) fn read_parts(
@@ -127,10 +151,14 @@ pub(crate) fn read_parts(
         (relation_form_of form.entry)) }
 {
     let domain = read_domain(alloc, language, names, form.domain)?;
-    let rules = read_rules(alloc, scope, language, names, &outline.branches)?;
+    let branches = &outline.branches;
+    let symbol = form.language;
+    let (rules, name, language) = read_named_rules(
+        alloc, scope, language, names, branches, name, symbol,
+    )?;
     Ok(Relation {
-        name: name.share()?,
-        language: symbol_name(form.language)?,
+        name,
+        language,
         domain,
         rules,
     })

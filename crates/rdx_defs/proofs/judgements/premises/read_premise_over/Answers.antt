@@ -1,5 +1,5 @@
-use Rattle.std.proofs.Common.{◌≡◌, ◌∙◌, ℕ, List, [], Some, None, sym, ap, subst}
-use Rattle.std.specs.Prelude.{option_map}
+use Rattle.std.proofs.Common.{◌≡◌, ◌∙◌, ℕ, List, [], Option, Some, None, refl, sym, ap, subst}
+use Rattle.std.specs.Prelude.{IsSome, option_map}
 use Rattle.rdx_lang.specs.Checked.{language_in}
 use Rattle.rdx_lang.specs.Patterns.{Language}
 use Rattle.rdx_lang.specs.ProgramView.{premise_of}
@@ -7,15 +7,14 @@ use Rattle.rdx_grammar.specs.Nonterminals.{names_of}
 use Rattle.rdx_grammar.specs.Refusal.{refusal_of}
 use Rattle.rdx_parts.specs.Bound.{Bound}
 use Rattle.rdx_parts.specs.ExtraReading.{premise_reading}
-use Rattle.rdx_parts.specs.Headed.{headed}
+use Rattle.rdx_parts.specs.Headed.{Headed, headed}
 use Rattle.rdx_parts.specs.ByNames.{premise_names}
-use Rattle.rdx_parts.specs.PartsHave.{PremiseHas, can_bind, can_read}
+use Rattle.rdx_parts.specs.PartsHave.{PremiseHas, can_read}
 use Rattle.rdx_defs.specs.JudgementRefusal.{premise_refusal}
 use Rattle.rdx_parts.specs.Scope.{scope_of}
 use Rattle.rdx_parts.specs.Stands.{names_bound, bound_by_premise}
 use Rattle.rdx_parts.specs.TemplateReading.{template_reading}
 use Rattle.rdx_parts.proofs.NamesBound as names
-use Rattle.rdx_parts.proofs.PartsAt.{premise-weaker}
 use Rattle.rdx_defs.proofs.PassedForms.{gained, question-valid}
 use Rattle.rdx_defs.proofs.ReadJudgements.{readable-behind, read-some}
 use Rattle.rdx_defs.proofs.judgements.premises.read_premise_over.Goals as goal
@@ -29,8 +28,8 @@ returns-in-Some-clause-reads c =
     let n : c.args.names.now ≡ names_of L = c.requires.names in
     (λ i. premise_refusal S (sym n i) d t) ∙ sym c.in_ok-refusal.ensures ∙ ap (option_map refusal_of) c.in-Some.is
 
-pub read_alone-requires : goal.read_alone-requires
-read_alone-requires c =
+pub read_parts-requires-clause-premise : goal.read_parts-requires-clause-premise
+read_parts-requires-clause-premise c =
     let S = scope_of c.args.scope.now in
     let L = language_in c.args.language.now in
     let d = c.args.premise.now in
@@ -43,8 +42,8 @@ read_alone-requires c =
     subst (λ (xs : List (List ℕ)). PremiseHas S (can_read S (language_in c.add_asked.new.language) xs) (headed d)) (sym n)
     (subst (λ (M : Language). PremiseHas S (can_read S M (names_of L)) (headed d)) (sym w) v.parts.questions.0.premise)
 
-pub read_behind-requires : goal.read_behind-requires
-read_behind-requires c =
+pub read_parts-requires-clause-form : goal.read_parts-requires-clause-form
+read_parts-requires-clause-form c =
     let S = scope_of c.args.scope.now in
     let L = language_in c.args.language.now in
     let d = c.args.premise.now in
@@ -53,8 +52,7 @@ read_behind-requires c =
     let e : premise_refusal S (names_of L) d t ≡ None =
     (λ i. premise_refusal S (sym n i) d t) ∙ sym c.in_ok-refusal.ensures ∙ ap (option_map refusal_of) c.in_default.is in
     let v = question-valid S L d t c.requires.premise (readable-behind c.args.behind c.requires.behind) e in
-    subst (λ (xs : List (List ℕ)). PremiseHas S (can_bind xs) (headed d)) (sym n)
-    (premise-weaker S (can_read S (gained L d) (names_of L)) (can_bind (names_of L)) (λ w h. h.binds) (λ q h. tt) (λ ds h. h) (headed d) v.parts.questions.0.premise)
+    subst (λ (o : Option Headed). IsSome o) (sym v.is_form) refl
 
 pub returns-clause-reads : goal.returns-clause-reads
 returns-clause-reads c =
@@ -66,14 +64,14 @@ returns-clause-reads c =
     let e : premise_refusal S (names_of L) d t ≡ None =
     (λ i. premise_refusal S (sym n i) d t) ∙ sym c.in_ok-refusal.ensures ∙ ap (option_map refusal_of) c.in_default.is in
     let v = question-valid S L d t c.requires.premise (readable-behind c.args.behind c.requires.behind) e in
-    let r : option_map premise_of (Some c.in-Some-2.asked) ≡ option_map (premise_reading S (names_of L) []) (headed d) =
-    sym (ap (option_map premise_of) c.in-Some-2.is) ∙ c.in_ok-asked.ensures ∙ (λ i. option_map (premise_reading S (n i) []) (headed d)) in
+    let r : option_map premise_of (Some c.in_ok-read_parts.field-0.premise) ≡ option_map (premise_reading S (names_of L) []) (headed d) =
+    c.in_ok-read_parts.ensures.premise ∙ (λ i. option_map (premise_reading S (n i) []) (headed d)) in
     let bound : premise_names S c.args.names.now (headed d) ≡ names_bound (bound_by_premise S (names_of L) (headed d)) =
     ap (λ (xs : List (List ℕ)). premise_names S xs (headed d)) n ∙ names.premise-names S (names_of L) (headed d) in
     record {
       passes = e;
       parts = v.form;
       is_form = v.is_form;
-      is_read = read-some (premise_reading S (names_of L) []) (headed d) v.form c.in-Some-2.asked v.is_form r;
-      result = c.in_ok-result.ensures ∙ ap (λ (es : Bound). option_map (template_reading S es) t) bound;
+      is_read = read-some (premise_reading S (names_of L) []) (headed d) v.form c.in_ok-read_parts.field-0.premise v.is_form r;
+      result = c.in_ok-read_parts.ensures.result ∙ ap (λ (es : Bound). option_map (template_reading S es) t) bound;
     }

@@ -14,13 +14,12 @@ use Rattle.rdx_parts.specs.Outlines.{RuleBranch, each}
 use Rattle.rdx_parts.specs.ByNames.{extras_reading, input_names, rule_names}
 use Rattle.rdx_defs.specs.Inside.FormViews.{rule_form_of}
 use Rattle.rdx_parts.specs.PartViews.{arguments_of, rule_branch_of}
-use Rattle.rdx_parts.specs.PartsHave.{CanBind, IsPattern, RuleHas, can_bind, can_read}
+use Rattle.rdx_parts.specs.PartsHave.{IsPattern, RuleHas, can_read}
 use Rattle.rdx_defs.specs.JudgementStands.{bound_by_inputs, bound_by_rule, rule_arguments}
 use Rattle.rdx_parts.specs.Scope.{scope_of}
 use Rattle.rdx_parts.specs.Stands.{names_bound}
 use Rattle.rdx_defs.proofs.FormFaults as names
 use Rattle.rdx_parts.proofs.NamesBound.{extras-reads}
-use Rattle.rdx_parts.proofs.PartsAt.{rule-weaker}
 use Rattle.rdx_defs.proofs.judgements.readings.read_rule.Goals as goal
 
 pub read_patterns-requires : goal.read_patterns-requires
@@ -29,22 +28,11 @@ read_patterns-requires c =
     let ns = c.args.names.now in
     subst (λ (b : RuleBranch). IsPattern L ns (each (patterns_in b.arguments))) (sym c.rule_branch-branch.ensures) c.requires.arguments.patterns
 
-pub input_names-requires : goal.input_names-requires
-input_names-requires c =
-    let ns = c.args.names.now in
-    subst (λ (b : RuleBranch). CanBind ns (each (patterns_in b.arguments))) (sym c.rule_branch-branch.ensures) c.requires.arguments.patterns.binds
-
-pub read_extras-requires : goal.read_extras-requires
-read_extras-requires c = c.requires.premises
-
-pub rule_names-requires : goal.rule_names-requires
-rule_names-requires c =
+pub read_behind-requires : goal.read_behind-requires
+read_behind-requires c =
     let S = scope_of c.args.scope.now in
-    let L = language_in c.args.language.now in
-    let ns = c.args.names.now in
-    let b = rule_branch (option_map (λ m. m.now) c.args.mode) (rule_form_of c.args.rule) in
-    subst (λ (x : RuleBranch). RuleHas S (can_bind ns) x) (sym c.rule_branch-branch.ensures)
-    (rule-weaker S (can_read S L ns) (can_bind ns) (λ w h. h.binds) (λ q h. tt) (λ ds h. h) b c.requires)
+    let W = can_read S (language_in c.args.language.now) c.args.names.now in
+    subst (λ (b : RuleBranch). RuleHas S W b) (sym c.rule_branch-branch.ensures) c.requires
 
 pub returns : goal.returns
 returns c =
@@ -56,12 +44,10 @@ returns c =
     let a : arguments_of c.rule_branch-branch.result.arguments ≡ rule_arguments m r = ap (λ (b : RuleBranch). b.arguments) same in
     let inputs : pattern_in c.in_ok-ins.ins ≡ list_reading ns (patterns_in (rule_arguments m r)) =
     c.in_ok-ins.ensures ∙ ap (λ (x : arguments.Arguments). list_reading ns (patterns_in x)) a in
-    let bound : c.in_ok-bound.bound ≡ names_bound (bound_by_inputs ns m r) =
-    c.in_ok-bound.ensures ∙ ap (input_names ns) same ∙ names.input-names S ns m r in
     let extras : extras_of c.in_ok-extras.extras.items ≡ model.extras_reading of_rule S ns (bound_by_inputs ns m r) r.premises =
-    c.in_ok-extras.ensures ∙ ap (λ (es : Bound). extras_reading of_rule S ns es r.premises) bound ∙ sym (extras-reads S ns of_rule (bound_by_inputs ns m r) r.premises) in
-    let all : c.in_ok-all.all ≡ names_bound (bound_by_rule S ns m r) =
-    c.in_ok-all.ensures ∙ ap (rule_names S ns) same ∙ names.rule-names S ns m r in
-    let outputs : map template_of c.in_ok-outs.outs.items ≡ templates_reading S (names_bound (bound_by_rule S ns m r)) (templates_in (rule_arguments m r)) =
-    c.in_ok-outs.ensures ∙ (λ i. templates_reading S (all i) (templates_in (a i))) in
-    λ i. record { name = c.in_ok-read_label.ensures i; inputs = inputs i; extras = extras i; outputs = outputs i }
+    c.in_ok-extras.ensures.premises ∙ ap (λ (b : RuleBranch). extras_reading of_rule S ns (input_names ns b) b.premises) same
+    ∙ ap (λ (es : Bound). extras_reading of_rule S ns es r.premises) (names.input-names S ns m r) ∙ sym (extras-reads S ns of_rule (bound_by_inputs ns m r) r.premises) in
+    let all : rule_names S ns (rule_branch_of c.rule_branch-branch.result) ≡ names_bound (bound_by_rule S ns m r) = ap (rule_names S ns) same ∙ names.rule-names S ns m r in
+    let outputs : map template_of c.in_ok-extras.outs.items ≡ templates_reading S (names_bound (bound_by_rule S ns m r)) (templates_in (rule_arguments m r)) =
+    c.in_ok-extras.ensures.outputs ∙ (λ i. templates_reading S (all i) (templates_in (a i))) in
+    λ i. record { name = c.in_ok-extras.ensures.name i; inputs = inputs i; extras = extras i; outputs = outputs i }

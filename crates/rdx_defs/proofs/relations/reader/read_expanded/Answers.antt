@@ -1,5 +1,4 @@
 use Rattle.std.proofs.Common.{◌≡◌, ◌∙◌, ℕ, List, [], Some, None, true, sym, ap, subst}
-use Rattle.std.specs.Prelude.{option_map}
 use Rattle.rdx_lang.specs.Checked.{language_in}
 use Rattle.rdx_lang.specs.Patterns.{Language}
 use Rattle.rdx_lang.specs.ProgramView.{relation_of}
@@ -8,45 +7,19 @@ use Rattle.rdx_lang.specs.Valid.{is_valid_over}
 use Rattle.rdx_grammar.specs.Ends.{crossed_for}
 use Rattle.rdx_grammar.specs.Nonterminals.{names_of}
 use Rattle.rdx_grammar.specs.Readable.{IsReadable}
-use Rattle.rdx_grammar.specs.Refusal.{refusal_of}
-use Rattle.rdx_defs.specs.Inside.BareForms.{relation_stands}
 use Rattle.rdx_defs.specs.Inside.FormOutlines.{domain_patterns, relation_outline}
 use Rattle.rdx_parts.specs.Outlines.{Outline}
 use Rattle.rdx_defs.specs.Inside.ExpandedAnswers.{expanded_refusal}
-use Rattle.rdx_parts.specs.FormRefusals.{form_refusal}
 use Rattle.rdx_defs.specs.Inside.FormViews.{relation_form_of}
-use Rattle.rdx_parts.specs.PartViews.{outline_of, stands_of}
-use Rattle.rdx_parts.specs.PartsHave.{OutlineHas, can_bind, can_read}
+use Rattle.rdx_parts.specs.PartViews.{outline_of}
+use Rattle.rdx_parts.specs.PartsHave.{OutlineHas, can_read}
 use Rattle.rdx_defs.specs.RelationEnds.{expanded_ends}
 use Rattle.rdx_defs.specs.RelationReading.{expanded_reading}
 use Rattle.rdx_parts.specs.Scope.{scope_of, callable}
-use Rattle.rdx_defs.proofs.FormRefusals.{relation-refused}
 use Rattle.rdx_defs.proofs.PartsOfForms.{RelationHas}
-use Rattle.rdx_defs.proofs.PassedForms.{relation-early, relation-valid}
+use Rattle.rdx_defs.proofs.PassedForms.{relation-valid}
 use Rattle.rdx_defs.proofs.ReadableParts.{each-readable}
 use Rattle.rdx_defs.proofs.relations.reader.read_expanded.Goals as goal
-
-pub refuse_parts-requires : goal.refuse_parts-requires
-refuse_parts-requires c =
-    let S = scope_of c.args.scope.now in
-    let r = relation_form_of c.args.form in
-    let ds = c.args.shortcuts.now in
-    let h : RelationHas IsReadable r =
-    record { domain = each-readable (domain_patterns r.domain) c.requires.domain; cases = each-readable r.cases c.requires.cases; language = c.requires.named } in
-    let q : stands_of c.deref.result.now ≡ relation_stands S r ds = ap stands_of c.deref.ensures.value ∙ c.in_ok-found.ensures in
-    λ e. subst (λ (o : Outline). OutlineHas S (can_bind c.args.names.now) o) (sym c.in_ok-outline.ensures)
-    (relation-early S c.args.names.now r ds (stands_of c.deref.result.now) h q e)
-
-pub returns-in-Some-clause-reads : goal.returns-in-Some-clause-reads
-returns-in-Some-clause-reads c =
-    let S = scope_of c.args.scope.now in
-    let L = language_in c.args.language.now in
-    let r = relation_form_of c.args.form in
-    let ds = c.args.shortcuts.now in
-    let n : c.args.names.now ≡ names_of L = c.requires.names in
-    let q : stands_of c.deref.result.now ≡ relation_stands S r ds = ap stands_of c.deref.ensures.value ∙ c.in_ok-found.ensures in
-    let o : outline_of c.in_ok-outline.outline ≡ relation_outline r = c.in_ok-outline.ensures in
-    relation-refused S (names_of L) r ds ∙ (λ i. form_refusal S (sym n i) (sym q i) (sym o i)) ∙ sym c.in_ok-refusal.ensures ∙ ap (option_map refusal_of) c.in-Some.is
 
 pub read_parts-requires-clause-parts : goal.read_parts-requires-clause-parts
 read_parts-requires-clause-parts c =
@@ -55,12 +28,11 @@ read_parts-requires-clause-parts c =
     let r = relation_form_of c.args.form in
     let ds = c.args.shortcuts.now in
     let n : c.args.names.now ≡ names_of L = c.requires.names in
-    let q : stands_of c.deref.result.now ≡ relation_stands S r ds = ap stands_of c.deref.ensures.value ∙ c.in_ok-found.ensures in
-    let o : outline_of c.in_ok-outline.outline ≡ relation_outline r = c.in_ok-outline.ensures in
+    let o : outline_of c.in_ok-outline.outline ≡ relation_outline r = c.in_ok-outline.ensures.outline in
     let h : RelationHas IsReadable r =
     record { domain = each-readable (domain_patterns r.domain) c.requires.domain; cases = each-readable r.cases c.requires.cases; language = c.requires.named } in
     let e : expanded_refusal S (names_of L) r ds ≡ None =
-    relation-refused S (names_of L) r ds ∙ (λ i. form_refusal S (sym n i) (sym q i) (sym o i)) ∙ sym c.in_ok-refusal.ensures ∙ ap (option_map refusal_of) c.in_default.is in
+    (λ i. expanded_refusal S (sym n i) r ds) ∙ c.in_ok-outline.ensures.passes in
     let w : language_in c.add_ends_of.new.language ≡ crossed_for (expanded_ends r) L = c.in_ok-add_ends_of.ensures.added in
     subst (λ (xs : List (List ℕ)). OutlineHas S (can_read S (language_in c.add_ends_of.new.language) xs) (outline_of c.in_ok-outline.outline)) (sym n)
     (subst (λ (p : Outline). OutlineHas S (can_read S (language_in c.add_ends_of.new.language) (names_of L)) p) (sym o)
@@ -73,10 +45,8 @@ returns-clause-reads c =
     let r = relation_form_of c.args.form in
     let ds = c.args.shortcuts.now in
     let n : c.args.names.now ≡ names_of L = c.requires.names in
-    let q : stands_of c.deref.result.now ≡ relation_stands S r ds = ap stands_of c.deref.ensures.value ∙ c.in_ok-found.ensures in
-    let o : outline_of c.in_ok-outline.outline ≡ relation_outline r = c.in_ok-outline.ensures in
     let e : expanded_refusal S (names_of L) r ds ≡ None =
-    relation-refused S (names_of L) r ds ∙ (λ i. form_refusal S (sym n i) (sym q i) (sym o i)) ∙ sym c.in_ok-refusal.ensures ∙ ap (option_map refusal_of) c.in_default.is in
+    (λ i. expanded_refusal S (sym n i) r ds) ∙ c.in_ok-outline.ensures.passes in
     let g : relation_of c.in_ok-read_parts.field-0 ≡ expanded_reading S (names_of L) c.args.name.now r =
     c.in_ok-read_parts.ensures ∙ ap (λ xs. expanded_reading S xs c.args.name.now r) n in
     record { passes = e; is_read = g }
@@ -88,12 +58,10 @@ returns-clause-valid c =
     let r = relation_form_of c.args.form in
     let ds = c.args.shortcuts.now in
     let n : c.args.names.now ≡ names_of L = c.requires.names in
-    let q : stands_of c.deref.result.now ≡ relation_stands S r ds = ap stands_of c.deref.ensures.value ∙ c.in_ok-found.ensures in
-    let o : outline_of c.in_ok-outline.outline ≡ relation_outline r = c.in_ok-outline.ensures in
     let h : RelationHas IsReadable r =
     record { domain = each-readable (domain_patterns r.domain) c.requires.domain; cases = each-readable r.cases c.requires.cases; language = c.requires.named } in
     let e : expanded_refusal S (names_of L) r ds ≡ None =
-    relation-refused S (names_of L) r ds ∙ (λ i. form_refusal S (sym n i) (sym q i) (sym o i)) ∙ sym c.in_ok-refusal.ensures ∙ ap (option_map refusal_of) c.in_default.is in
+    (λ i. expanded_refusal S (sym n i) r ds) ∙ c.in_ok-outline.ensures.passes in
     let g : relation_of c.in_ok-read_parts.field-0 ≡ expanded_reading S (names_of L) c.args.name.now r =
     c.in_ok-read_parts.ensures ∙ ap (λ xs. expanded_reading S xs c.args.name.now r) n in
     let w : language_in c.add_ends_of.new.language ≡ crossed_for (expanded_ends r) L = c.in_ok-add_ends_of.ensures.added in

@@ -14,6 +14,6 @@ returns c =
     let S = scope_of c.args.scope.now in
     let ns = c.args.names.now in
     let rules : map rule_of c.in_ok-rules.rules.items ≡ rules_reading S ns c.args.form.cases.now =
-    c.in_ok-rules.ensures ∙ ap (λ (bs : List Branch). branch_rules S ns (map branch_of bs)) c.deref.ensures.value
+    c.in_ok-rules.ensures.rules ∙ ap (λ (bs : List Branch). branch_rules S ns (map branch_of bs)) c.deref.ensures.value
     ∙ ap (λ (o : inside.Outline). branch_rules S ns o.branches) c.requires.outline ∙ sym (rules-branches S ns c.args.form.cases.now) in
-    λ i. record { name = c.in_ok-share.ensures i; language = c.in_ok-symbol_name.ensures i; domain = c.in_ok-domain.ensures i; rules = rules i }
+    λ i. record { name = c.in_ok-rules.ensures.name i; language = c.in_ok-rules.ensures.language i; domain = c.in_ok-domain.ensures i; rules = rules i }
