@@ -1,5 +1,5 @@
 -- What is known of patterns and terms stays known where patterns are added.
-use Rattle.std.proofs.Common.{ℕ, ◌-◌, ◌<◌, ◌≤◌, List, [], ◌∷◌, ◌++◌, length, take, drop, refl, sym, ◌∙◌, ap, subst, arith, append-nil, append_assoc, length-append}
+use Rattle.std.proofs.Common.{◌≡◌, ℕ, ◌-◌, ◌<◌, ◌≤◌, List, [], ◌∷◌, ◌++◌, Result, Ok, Err, OnOk, length, take, drop, refl, sym, ◌∙◌, ap, subst, arith, append-nil, append_assoc, length-append}
 use Rattle.std.specs.HashMap.{HashMap}
 use Rattle.rdx_term.specs.Tree.{Tree, Trees, trees}
 use Rattle.rdx_lang.specs.Patterns.{Pattern, Language}
@@ -11,9 +11,11 @@ use Rattle.rdx_bind.specs.Spots.{SplitsAt}
 use Rattle.rdx_bind.specs.declared.rows.Row.{Row}
 use Rattle.rdx_store.specs.Stored.{tree_by_id}
 use Rattle.rdx_table.specs.Inside.Frames.{tasks_of, IsFrame, AreFrames}
+use Rattle.rdx_table.specs.Inside.Looks.{IsStop, Heeds, is_asked, is_opened}
 use Rattle.rdx_table.specs.Inside.Memos.{IsEntryAt, IsMemo}
 use Rattle.rdx_table.proofs.NodePatterns.{pattern_at-append}
-use Rattle.rdx_table.specs.Inside.Settings.{language_at, patterns_at_hand, trees_at_hand, Grows}
+use Rattle.rdx_table.specs.Inside.Remaining.{doors_left}
+use Rattle.rdx_table.specs.Inside.Settings.{language_at, patterns_at_hand, trees_at_hand, Grows, IsReady}
 use Rattle.rdx_table.specs.Inside.Tasks.{slots_in, column_trees, asked_where, IsGoal, IsColumnTask, IsTask, AreTasks, IsRow, IsColumnOf, IsFound, AreAnswers}
 use Rattle.rdx_table.specs.declared.entry.Entry.{Entry}
 use Rattle.rdx_table.specs.declared.frame.Frame.{Frame}
@@ -21,6 +23,8 @@ use Rattle.rdx_table.specs.declared.setting.Setting.{Setting}
 use Rattle.rdx_table.specs.declared.task.Answer.{Answer}
 use Rattle.rdx_table.specs.declared.task.Column.{Column}
 use Rattle.rdx_table.specs.declared.task.Goal.{Goal}
+use Rattle.rdx_table.specs.declared.task.Stop.{Stop}
+use Rattle.rdx_table.specs.declared.task.Stop.TheVariants.{Opens}
 use Rattle.rdx_table.specs.declared.task.Task.{Task}
 use Rattle.rdx_table.specs.declared.task.Task.TheVariants as task
 
@@ -174,3 +178,29 @@ module _ (old new : Setting) (g : Grows old new) where
       → IsRow (language_at old) (patterns_at_hand old) (trees_at_hand old) k row
   row-before k row i h = row-was (language_at old) (patterns_at_hand old) g.more (trees_at_hand old) k row i.number
       (back (λ L ps ts. IsRow L ps ts k row) old new g h)
+
+-- ---- what is done where a look stops
+
+pub heeds-ready : {s t : Setting} {f k : Frame} {x : Stop} → IsReady s → Heeds s f x t k → IsReady t
+heeds-ready r (is_asked) = r
+heeds-ready r (is_opened i g l) = i
+
+pub heeds-grows : {s t : Setting} {f k : Frame} {x : Stop} → Heeds s f x t k → Grows s t
+heeds-grows {s} (is_asked) = grows-not s
+heeds-grows (is_opened i g l) = g
+
+-- the frame on top stays right, and its task stays
+pub heeds-frame : {s t : Setting} {f k : Frame} {x : Stop} → IsStop s x → IsFrame (language_at s) (patterns_at_hand s) (trees_at_hand s) f → Heeds s f x t k
+    → IsFrame (language_at t) (patterns_at_hand t) (trees_at_hand t) k
+heeds-frame a i (is_asked) = record { task = i.task; wanted = a.tasks; asked = i.asked; answers = i.answers }
+heeds-frame {s} {t} {f} a i (is_opened r g l) = frame-grows s t g f i
+
+pub heeds-task : {s t : Setting} {f k : Frame} {x : Stop} → Heeds s f x t k → k.task ≡ f.task
+heeds-task (is_asked) = refl
+heeds-task (is_opened r g l) = refl
+
+-- nodes that the alternatives got
+pub opened-heeds : {A E : Type 0} (r : Result A E) (s t : Setting) (f : Frame) (n : ℕ) → OnOk r (IsReady t) → OnOk r (Grows s t)
+    → OnOk r (doors_left t < doors_left s) → OnOk r (Heeds s f (Opens n) t f)
+opened-heeds (Ok u) s t f n i g l = is_opened i g l
+opened-heeds (Err e) s t f n i g l = tt

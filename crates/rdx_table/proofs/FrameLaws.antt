@@ -1,9 +1,11 @@
 -- Frames, as tasks are asked for and answered.
-use Rattle.std.proofs.Common.{◌≡◌, List, [], ◌∷◌, ◌++◌, refl, sym, ◌∙◌, subst}
+use Rattle.std.proofs.Common.{◌≡◌, List, [], ◌∷◌, ◌++◌, Result, Ok, Err, IfOk, refl, sym, ◌∙◌, ap, subst}
+use Rattle.std.specs.Prelude.{Vec}
+use Rattle.std.specs.declared.alloc.Global.{Global}
 use Rattle.rdx_term.specs.Tree.{Tree}
 use Rattle.rdx_lang.specs.Patterns.{Pattern, Language}
 use Rattle.rdx_bind.specs.declared.rows.Row.{Row}
-use Rattle.rdx_table.specs.Inside.Frames.{tasks_of, lowest, IsFrame, AreFrames}
+use Rattle.rdx_table.specs.Inside.Frames.{tasks_of, lowest, IsFrame, AreFrames, TakesUp, is_answered, is_below}
 use Rattle.rdx_table.specs.Inside.Tasks.{IsTask, AreTasks, IsRow, IsFound, IsOneRow, IsAnswer, AreAnswers}
 use Rattle.rdx_table.specs.declared.frame.Frame.{Frame}
 use Rattle.rdx_table.specs.declared.task.Answer.{Answer}
@@ -75,6 +77,19 @@ module _ (L : Language) (ps : List Pattern) (ts : List Tree) where
   frames-push [] f h i = (i, tt)
   frames-push (k ∷ fs) f h i = (h.0, frames-push fs f h.1 i)
 
+  -- what is f with an answer more has taken up what f wants
+  pub answered-taken : {E : Type 0} (r : Result Frame E) (f : Frame) (x : Task) (old : List Frame) (rows : Vec Row Global) → IsFound L ps ts x rows.items
+      → IfOk r (λ k. k.task ≡ f.task) → IfOk r (λ k. k.answers.items ≡ f.answers.items ++ record { task = x; rows = rows } ∷ [])
+      → IfOk r (λ k. k.wanted ≡ f.wanted) → IfOk r (TakesUp L ps ts f x old old)
+  answered-taken (Ok k) f x old rows a d e w = is_answered rows a d e w
+  answered-taken (Err e) f x old rows a d h w = tt
+
+  -- so are the frames where the top takes up what it wants
+  pub taken-up : {f k : Frame} {x : Task} {old new : List Frame} → TakesUp L ps ts f x old new k → AreFrames L ps ts old → IsFrame L ps ts f
+      → IsTask L ps ts x → AreFrames L ps ts new × IsFrame L ps ts k
+  taken-up {f} {k} {x} (is_answered rows a d e w) b i t = (b, frame-answered f k (record { task = x; rows = rows }) d w e i t a)
+  taken-up {f} {k} {x} {old} (is_below n d e w) b i t = (subst (AreFrames L ps ts) (sym n) (frames-push old f b i), frame-new k x d e w t)
+
   -- the last of some frames, and the others
   pub frames-pop : (fs : List Frame) (f : Frame) → AreFrames L ps ts (fs ++ f ∷ []) → AreFrames L ps ts fs × IsFrame L ps ts f
   frames-pop [] f h = (tt, h.0)
@@ -84,3 +99,9 @@ module _ (L : Language) (ps : List Pattern) (ts : List Tree) where
 pub lowest-push : (fs : List Frame) (f : Frame) (x : Task) → lowest (fs ++ f ∷ []) x ≡ lowest fs f.task
 lowest-push [] f x = refl
 lowest-push (k ∷ fs) f x = refl
+
+-- so it does where the top takes up what it wants
+pub lowest-taken : {L : Language} {ps : List Pattern} {ts : List Tree} {f k : Frame} {x : Task} {old new : List Frame}
+    → TakesUp L ps ts f x old new k → lowest new k.task ≡ lowest old f.task
+lowest-taken {old = old} (is_answered rows a d e w) = ap (lowest old) d
+lowest-taken {f = f} {k} {old = old} (is_below n d e w) = ap (λ (gs : List Frame). lowest gs k.task) n ∙ lowest-push old f k.task

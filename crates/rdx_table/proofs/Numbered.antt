@@ -1,5 +1,5 @@
 -- The pattern of a number that was made for a pattern.
-use Rattle.std.proofs.Common.{◌≡◌, ◌<◌, ◌++◌, ◌⊎◌, inl, inr, ℕ, List, [], ◌∷◌, Bool, true, Result, Ok, Err, IfOk, OnOk, length, refl, sym, ◌∙◌, ap, subst, arith, append_assoc, HashMap, Bor}
+use Rattle.std.proofs.Common.{◌≡◌, ◌<◌, ◌++◌, ◌⊎◌, inl, inr, ℕ, List, [], ◌∷◌, Bool, true, Result, Ok, Err, IfOk, length, refl, sym, ◌∙◌, ap, subst, arith, append_assoc, HashMap, Bor}
 use Rattle.std.specs.Prelude.{◌↔◌}
 use Rattle.std.proofs.lemmas.List.{map-append}
 use Rattle.rdx_term.specs.Tree.{Tree}
@@ -12,7 +12,7 @@ use Rattle.rdx_lang.proofs.Collecting.{only}
 use Rattle.rdx_lang.proofs.MemberLaws.{in-append, append-left, append-right}
 use Rattle.rdx_bind.specs.Searching.{AnyMatches, AnySplits}
 use Rattle.rdx_bind.specs.Spots.{Spot, SplitsAt}
-use Rattle.rdx_table.specs.Inside.Forgetting.{binders, Forgets, ForgetsItems, forgets_open, forgets_one, forgets_many, StandOnce}
+use Rattle.rdx_table.specs.Inside.Forgetting.{binders, Forgets, ForgetsItems, forgets_closed, forgets_open, forgets_one, forgets_many, LeavesOut, StandOnce}
 use Rattle.rdx_table.specs.Inside.Nodes.{pattern_at, patterns_at, patterns_in, slot_at, slots_at, AreBelow, AreEntries, DoAsWell}
 use Rattle.rdx_table.specs.Inside.Numbering.{Adds, ForgetsSlot, forgets_just, forgets_repeated}
 use Rattle.rdx_table.specs.Inside.Once.{is_once, AreTold, Tells}
@@ -20,7 +20,7 @@ use Rattle.rdx_table.specs.Inside.Settings.{language_at, patterns_at_hand, DoesA
 use Rattle.rdx_table.specs.declared.node.Entry.{Entry}
 use Rattle.rdx_table.specs.declared.node.Node.{Node}
 use Rattle.rdx_table.specs.declared.setting.Setting.{Setting}
-use Rattle.rdx_table.proofs.Adding.{adds-then, adds-length, adds-patterns_at, adds-slots}
+use Rattle.rdx_table.proofs.Adding.{adds-length, adds-patterns_at, adds-slots}
 use Rattle.rdx_table.proofs.Forgetting.{match-same, split-same, some_match-same, some_split-same}
 use Rattle.rdx_table.proofs.NodePatterns.{below-more, below-push, patterns_in-length}
 use Rattle.rdx_table.proofs.OnceTold.{once_among, once_among-told, once_among-once, none-told, no_names-left}
@@ -44,23 +44,40 @@ pub left-through : {S T E : Type 0} (m : HashMap (Bor (List ℕ)) Bool S) (k : H
 left-through m k (Ok n) ps p q f h = f n h
 left-through m k (Err e) ps p q f h = tt
 
--- a closed pattern all of whose names stand once is what is left of its part
-pub left-closed : {S T E : Type 0} (m : HashMap (Bor (List ℕ)) Bool S) (k : HashMap (Bor (List ℕ)) Bool T) (r : Result ℕ E) (ps : List Pattern)
-    (c p : Pattern)
-    → c ≡ closed p → Tells k (binders p) → ((x : List ℕ) → In x (binders p) → is_once k x ≡ true) → IfOk r (IsLeft k ps p) → IfOk r (IsLeft m ps c)
-left-closed m k r ps c p e t all h = left-through m k r ps c p opened h
-  where
-    opened : (n : ℕ) → IsLeft k ps p n → IsLeft m ps c n
-    opened n g xs told =
-        let told_once = once_among-told k (binders p) t in
-        let f = g (once_among k (binders p)) told_once in
-        subst (λ (z : Pattern). Forgets xs z (pattern_at ps n)) (sym e)
-        (forgets_open (once_among-once k (binders p) t) f (no_names-left k (once_among k (binders p)) told_once p (pattern_at ps n) f all))
+-- what is q without any names, p is where it is q
+pub left-anyhow : {S E : Type 0} (m : HashMap (Bor (List ℕ)) Bool S) (r : Result ℕ E) (ps : List Pattern) (p q : Pattern) → p ≡ q
+    → IfOk r (λ n. (xs : List (List ℕ)) → Forgets xs q (pattern_at ps n)) → IfOk r (IsLeft m ps p)
+left-anyhow m (Ok n) ps p q e f = λ xs t. subst (λ (z : Pattern). Forgets xs z (pattern_at ps n)) (sym e) (f xs)
+left-anyhow m (Err e) ps p q f h = tt
 
--- nodes of which the last ones were made last
-pub adds-last : {A E : Type 0} (r : Result A E) (s t u : Setting) → Adds s t → OnOk r (Adds t u) → OnOk r (Adds s u)
-adds-last (Ok n) s t u a b = adds-then s t u a b
-adds-last (Err e) s t u a b = tt
+-- a closed pattern all of whose names stand once is what is left of its part
+pub left-open : {S E : Type 0} (k : HashMap (Bor (List ℕ)) Bool S) (r : Result ℕ E) (ps : List Pattern) (p : Pattern)
+    → Tells k (binders p) → ((x : List ℕ) → In x (binders p) → is_once k x ≡ true) → IfOk r (IsLeft k ps p)
+    → IfOk r (λ n. (xs : List (List ℕ)) → Forgets xs (closed p) (pattern_at ps n))
+left-open k (Ok n) ps p t all g = λ xs.
+    let told_once = once_among-told k (binders p) t in
+    let f = g (once_among k (binders p)) told_once in
+    forgets_open (once_among-once k (binders p) t) f (no_names-left k (once_among k (binders p)) told_once p (pattern_at ps n) f all)
+left-open k (Err e) ps p t all g = tt
+
+-- another one is what is left of its part, closed
+pub left-closed : {S E : Type 0} (k : HashMap (Bor (List ℕ)) Bool S) (r : Result ℕ E) (ps : List Pattern) (p q : Pattern)
+    → Tells k (binders p) → ((xs : List (List ℕ)) → AreTold xs k → Forgets xs p q) → IfOk r (λ n. pattern_at ps n ≡ closed q)
+    → IfOk r (λ n. (xs : List (List ℕ)) → Forgets xs (closed p) (pattern_at ps n))
+left-closed k (Ok n) ps p q t f e = λ xs.
+    subst (λ (z : Pattern). Forgets xs (closed p) z) (sym e)
+    (forgets_closed (once_among-once k (binders p) t) (f (once_among k (binders p)) (once_among-told k (binders p) t)))
+left-closed k (Err e) ps p q t f h = tt
+
+-- what is left of a pattern by itself, where the map tells of its names
+pub left-out : {S E : Type 0} (k : HashMap (Bor (List ℕ)) Bool S) (r : Result ℕ E) (ps : List Pattern) (p : Pattern) → Tells k (binders p)
+    → IfOk r (IsLeft k ps p) → IfOk r (λ n. LeavesOut p (pattern_at ps n))
+left-out k (Ok n) ps p t f = record {
+  names = once_among k (binders p);
+  once = once_among-once k (binders p) t;
+  left = f (once_among k (binders p)) (once_among-told k (binders p) t);
+}
+left-out k (Err e) ps p t h = tt
 
 -- ---- items
 

@@ -2,9 +2,15 @@
 use Rattle.std.proofs.Common.{◌≡◌, ℕ, zero, suc, ◌+◌, ◌*◌, ◌-◌, ◌<◌, ◌≤◌, List, [], ◌∷◌, ◌++◌, length, refl, sym, ◌∙◌, ap, subst, arith, length-append}
 use Rattle.std.proofs.Math.Nat.{mul-le-mul}
 use Rattle.std.specs.Prelude.{Vec}
-use Rattle.rdx_table.specs.Inside.Remaining.{most, power, unit_at, answers_left, looks_left, top_left, waiting_left, below_left, all_left}
+use Rattle.rdx_term.specs.Tree.{Tree}
+use Rattle.rdx_lang.specs.Patterns.{Pattern, Language}
+use Rattle.rdx_table.specs.Inside.Frames.{TakesUp, is_answered, is_below}
+use Rattle.rdx_table.specs.Inside.Looks.{IsStop, Heeds, is_asked, is_opened}
+use Rattle.rdx_table.specs.Inside.Remaining.{doors_left, most, power, unit_at, answers_left, looks_left, top_left, waiting_left, below_left, all_left}
 use Rattle.rdx_table.specs.declared.frame.Frame.{Frame}
+use Rattle.rdx_table.specs.declared.setting.Setting.{Setting}
 use Rattle.rdx_table.specs.declared.task.Answer.{Answer}
+use Rattle.rdx_table.specs.declared.task.Stop.{Stop}
 use Rattle.rdx_table.specs.declared.task.Task.{Task}
 
 -- ---- plain numbers
@@ -152,3 +158,28 @@ left-popped bs fs t f h x d w e =
     let r : y + top_left h * p < y + waiting_left f * p + top_left t * unit_at (length bs) =
     pop-less y (waiting_left f) (top_left h) p (top_left t) (unit_at (length bs)) (omega (arith, a, n)) (omega (arith, b)) (unit-some (length bs)) in
     subst (λ (j : ℕ). y + top_left h * p < j + top_left t * unit_at (length bs)) (sym c) r
+
+-- the top f takes up x, which was the last that it wants: it is g without that
+pub left-taken : {L : Language} {ps : List Pattern} {ts : List Tree} (f g k : Frame) (x : Task) (old new : List Frame) → length old < most
+    → g.answers ≡ f.answers → f.wanted.items ≡ g.wanted.items ++ x ∷ [] → TakesUp L ps ts g x old new k → all_left new k < all_left old f
+left-taken f g k x old new l h i (is_answered rows a d e w) =
+    let y : Answer = record { task = x; rows = rows } in
+    left-answered old f k y g.wanted.items x i (e ∙ ap (λ (v : _). v.items ++ y ∷ []) h)
+left-taken f g k x old new l h i (is_below n d e w) = left-pushed old new f g k l n (ap (λ (v : _). v.items) h) e w
+
+-- as much, and less, is less
+less-behind : (m n a b : ℕ) → m ≡ n → a < b → m + a < n + b
+less-behind m n a b e h = omega (arith, e, h)
+
+less-before : (m n d : ℕ) → m < n → m + d < n + d
+less-before m n d h = omega arith
+
+-- what is done where a look at the top stops, of which nothing is wanted
+pub left-heeded : {s t : Setting} {k : Frame} {x : Stop} (fs : List Frame) (f g : Frame) → g.answers.items ≡ f.answers.items → f.wanted.items ≡ []
+    → g.wanted.items ≡ [] → IsStop s x → Heeds s g x t k → all_left fs k + doors_left t < all_left fs f + doors_left s
+left-heeded {s} {k = k} fs f g a d e i (is_asked) = less-before _ _ (doors_left s) (left-asked fs f k d i.some a)
+left-heeded fs f g a d e i (is_opened r h l) =
+    let n : answers_left g ≡ answers_left f = ap (λ (xs : List Answer). 2 * (most - length xs)) a in
+    let w : looks_left g.wanted.items ≡ looks_left f.wanted.items = ap looks_left (e ∙ sym d) in
+    let q : top_left g ≡ top_left f = omega (arith, n, w) in
+    less-behind _ _ _ _ (ap (λ (j : ℕ). below_left 0 fs + j * unit_at (length fs)) q) l

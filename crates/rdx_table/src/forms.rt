@@ -1,15 +1,22 @@
 // A look at a goal whose pattern is no list: what its parts bind and split, put together.
-ghost use Rattle.std.specs.Prelude.{◌≡◌, ◌<◌, ◌≤◌, IfOk, length, None};
+ghost use Rattle.std.specs.Prelude.{◌≡◌, ◌∷◌, [], ◌<◌, ◌≤◌, IfOk, OnOk, length, None};
+ghost use Rattle.std.specs.Prelude.{if◌then◌else◌};
 ghost use Rattle.rdx_term.specs.AtPaths.{tree_at, IsPlace};
 ghost use Rattle.rdx_lang.specs.Bindings.{no_names};
+ghost use Rattle.rdx_lang.specs.Inside.Collecting.{Adds, Arises, HasExactly};
+ghost use Rattle.rdx_lang.specs.Listing.{IsListing};
 ghost use Rattle.rdx_lang.specs.Members.{In};
+ghost use Rattle.rdx_lang.specs.Order.{binding_cmp};
 ghost use Rattle.rdx_lang.specs.Patterns.{named, in_hole, hide_hole, closed, nt};
 ghost use Rattle.rdx_lang.specs.PatternView.{patterns_of};
 ghost use Rattle.rdx_lang.specs.Rules.{AreAlternatives};
+ghost use Rattle.rdx_lang.specs.Shown.{bindings_of};
 ghost use Rattle.rdx_bind.specs.Columns.{HasAsked};
+ghost use Rattle.rdx_bind.specs.Combining.{AddsBindings, JoinsWith};
 ghost use Rattle.rdx_bind.specs.Rows.{split_row_of};
 ghost use Rattle.rdx_bind.specs.Searching.{AnyMatches, AnySplits};
 ghost use Rattle.rdx_bind.specs.Spots.{spot_of, spots_of};
+ghost use Rattle.rdx_bind.specs.Splitting.{gathered_spots, GoesOn, IsNameless};
 ghost use Rattle.rdx_store.specs.Stored.{tree_by_id};
 ghost use Rattle.rdx_table.specs.Inside.Looks.{aim_pattern, aim_tree, AreAsked, IsAim, IsLook};
 ghost use Rattle.rdx_table.specs.Inside.Looks.{language_of_look, patterns_of_look, trees_of_look};
@@ -28,8 +35,41 @@ use rdx_bind::extending::add_going_on;
 use rdx_bind::listing;
 use rdx_bind::rows::Row;
 use rdx_bind::spots::{Gathered, Spot};
+use rdx_lang::Binding;
 use rdx_term::{Name, NoMemory};
+use std::alloc::Global;
 use std::slice::from_ref;
+
+// Puts what the row of the part at a spot gives, together with the spot, to what was found.
+fn add_inside(
+    alloc: Global,
+    spot: &Spot,
+    row: Row,
+    found: &mut Vec<Binding>,
+    gathered: &mut Gathered,
+) -> Result<(), NoMemory>
+    ensures found { OnOk result (AddsBindings
+        (JoinsWith (bindings_of row.matches.items) (spot_of spot.now).binding)
+        found.old found.new) }
+    ensures gathered { OnOk result (Adds
+        (Arises (GoesOn (spot_of spot.now)) (spots_of row.spots.items))
+        (gathered_spots gathered.old) (gathered_spots gathered.new)) }
+{
+    add_all_joins(alloc, &spot.binding, row.matches, found)?;
+    add_going_on(alloc, spot, row.spots, gathered)
+}
+
+// The row of what was found and gathered, all of it once.
+fn distinct_row(alloc: Global, found: Vec<Binding>, gathered: Gathered) -> Result<Row, NoMemory>
+    ensures matches { IfOk result (λ row. IsListing binding_cmp (bindings_of row.matches.items)
+        (λ b. In b (bindings_of found.items))) }
+    ensures spots { IfOk result (λ row. HasExactly (spots_of row.spots.items)
+        (λ s. In s (gathered_spots gathered))) }
+{
+    let matches = listing(alloc, found)?;
+    let spots = gathered.distinct(alloc)?;
+    Ok(Row { matches, spots })
+}
 
 impl<'s, 'a> Look<'s, 'a> {
     // The row of a part, which is asked for where it is not there yet.
@@ -64,6 +104,35 @@ impl<'s, 'a> Look<'s, 'a> {
         Ok(tasks)
     }
 
+    // The row of a goal. Where it is not there yet, it is asked for with those of other patterns at
+    // its term: the numbers are that of its own pattern and those of the others behind it.
+    fn row_of_first(&self, goal: Goal, numbers: &[usize], next: &mut usize) -> Result<Row, Stop>
+        requires look { IsLook self.now }
+        requires goal { IsAim self.now goal }
+        requires some { 1 ≤ length numbers.now }
+        requires numbers { AreBelow numbers.now (length (patterns_of_look self.now)) }
+        ensures found { IfOk result (λ row. Meets self.now goal row) }
+        ensures stop { Stops self.now.setting.now result }
+    {
+        match self.row(goal, next)? {
+            Some(row) => Ok(row),
+            None => Err(Stop::Asks(self.asks_of(numbers, goal, *next)?)),
+        }
+    }
+
+    // The row with the empty binding, or none, and with these spots without names.
+    fn nameless_row(&self, any: bool, gathered: Gathered) -> Result<Row, NoMemory>
+        ensures matches { IfOk result (λ row. bindings_of row.matches.items
+            ≡ (if any then no_names ∷ [] else [])) }
+        ensures spots { IfOk result (λ row. HasExactly (spots_of row.spots.items)
+            (Arises IsNameless (gathered_spots gathered))) }
+    {
+        let alloc = self.setting.alloc;
+        let matches = empty_where(alloc, any)?;
+        let spots = gathered.nameless(alloc)?;
+        Ok(Row { matches, spots })
+    }
+
     // Whether one of the patterns with these numbers matches the term of the goal, and where they
     // split it, with no names; the matches of the row are the empty binding, or none.
     fn any_of(&self, numbers: &[usize], goal: Goal) -> Result<Row, Stop>
@@ -87,9 +156,7 @@ impl<'s, 'a> Look<'s, 'a> {
                 number: numbers[i],
                 ..goal
             };
-            let Some(row) = self.row(part, &mut next)? else {
-                return Err(Stop::Asks(self.asks_of(&numbers[i..], goal, next)?));
-            };
+            let row = self.row_of_first(part, &numbers[i..], &mut next)?;
             any |= !row.matches.is_empty();
             if any && !goal.splits {
                 let matches = empty_where(alloc, any)?;
@@ -98,9 +165,7 @@ impl<'s, 'a> Look<'s, 'a> {
             }
             gathered.add(row.spots)?;
         }
-        let matches = empty_where(alloc, any)?;
-        let spots = gathered.nameless(alloc)?;
-        Ok(Row { matches, spots })
+        Ok(self.nameless_row(any, gathered)?)
     }
 
     /// The row of a goal whose pattern is this nonterminal.
@@ -214,6 +279,30 @@ impl<'s, 'a> Look<'s, 'a> {
         Ok(tasks)
     }
 
+    // The row of a goal at a part. Where it is not there yet, it is asked for with those of its
+    // pattern at other parts: the spots are that of its own part and those of the others behind it.
+    fn row_at_first(
+        &self,
+        inner: Goal,
+        spots: &[Spot],
+        goal: Goal,
+        next: &mut usize,
+    ) -> Result<Row, Stop>
+        requires look { IsLook self.now }
+        requires inner { IsAim self.now inner }
+        requires goal { IsAim self.now goal }
+        requires some { 1 ≤ length spots.now }
+        requires places { (s : _) → In s (spots_of spots.now)
+            → IsPlace (aim_tree self.now goal) s.path }
+        ensures found { IfOk result (λ row. Meets self.now inner row) }
+        ensures stop { Stops self.now.setting.now result }
+    {
+        match self.row(inner, next)? {
+            Some(row) => Ok(row),
+            None => Err(Stop::Asks(self.asks_at(spots, inner.number, goal, *next)?)),
+        }
+    }
+
     /// The row of a goal whose pattern is the right part in the hole of the left one.
     pub(crate) fn in_hole(&self, left: usize, right: usize, goal: Goal) -> Result<Row, Stop>
         requires look { IsLook self.now }
@@ -238,14 +327,10 @@ impl<'s, 'a> Look<'s, 'a> {
         let mut gathered = Gathered::new(alloc);
         for i in 0..spots.len() {
             let spot = &spots[i];
-            let Some(row) = self.row(self.goal_of_spot(spot, right, goal), &mut next)? else {
-                return Err(Stop::Asks(self.asks_at(&spots[i..], right, goal, next)?));
-            };
-            add_all_joins(alloc, &spot.binding, row.matches, &mut found)?;
-            add_going_on(alloc, spot, row.spots, &mut gathered)?;
+            let inner = self.goal_of_spot(spot, right, goal);
+            let row = self.row_at_first(inner, &spots[i..], goal, &mut next)?;
+            add_inside(alloc, spot, row, &mut found, &mut gathered)?;
         }
-        let matches = listing(alloc, found)?;
-        let spots = gathered.distinct(alloc)?;
-        Ok(Row { matches, spots })
+        Ok(distinct_row(alloc, found, gathered)?)
     }
 }

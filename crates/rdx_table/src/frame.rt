@@ -1,7 +1,9 @@
 // Pending tasks.
-ghost use Rattle.std.specs.Prelude.{◌≡◌, []};
+ghost use Rattle.std.specs.Prelude.{◌≡◌, ◌++◌, ◌∷◌, [], IfOk};
 
 use crate::task::{Answer, Task};
+use rdx_bind::rows::Row;
+use rdx_term::NoMemory;
 use std::alloc::Global;
 
 /// A pending task.
@@ -26,5 +28,24 @@ impl Frame {
             answers: Vec::new(alloc),
             wanted: Vec::new(alloc),
         }
+    }
+
+    /// The frame with one answer more.
+    pub(crate) fn answered(self, task: Task, rows: Vec<Row>) -> Result<Frame, NoMemory>
+        ensures task { IfOk result (λ f. f.task ≡ self.task) }
+        ensures answers { IfOk result (λ f. f.answers.items
+            ≡ self.answers.items ++ record { task = task; rows = rows } ∷ []) }
+        ensures wanted { IfOk result (λ f. f.wanted ≡ self.wanted) }
+    {
+        let mut frame = self;
+        frame.answers.push(Answer { task, rows })?;
+        Ok(frame)
+    }
+
+    /// Its task; the rest is given up.
+    pub(crate) fn into_task(self) -> Task
+        ensures { result ≡ self.task }
+    {
+        self.task
     }
 }

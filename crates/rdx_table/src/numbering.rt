@@ -1,8 +1,8 @@
 // The nodes of patterns, made behind those that are there.
 ghost use Rattle.std.specs.Prelude.{◌≡◌, ◌<◌, List, ℕ, IfOk, OnOk, length, map};
-ghost use Rattle.rdx_lang.specs.Patterns.{nt};
+ghost use Rattle.rdx_lang.specs.Patterns.{closed, named, nt};
 ghost use Rattle.rdx_lang.specs.PatternView.{pattern_of, patterns_of, slot_of, items_of};
-ghost use Rattle.rdx_table.specs.Inside.Forgetting.{Forgets, ForgetsItems};
+ghost use Rattle.rdx_table.specs.Inside.Forgetting.{Forgets, ForgetsItems, LeavesOut};
 ghost use Rattle.rdx_table.specs.Inside.Nodes.{
   pattern_at,
   patterns_at,
@@ -24,7 +24,7 @@ use crate::once::{Once, places_of};
 use crate::places::alternatives_at;
 use crate::setting::Setting;
 use rdx_lang::{Item, Pat, Ref};
-use rdx_term::NoMemory;
+use rdx_term::{Name, NoMemory};
 
 impl<'a> Setting<'a> {
     // Adds a node whose parts are there, and gives its number.
@@ -87,14 +87,7 @@ impl<'a> Setting<'a> {
             Pat::Hole => self.push(Form::Hole, kept),
             Pat::Lit(term) => self.push(Form::Lit(term), kept),
             Pat::Nt(name) => self.nonterminal(name),
-            Pat::Named(name, inner) => {
-                if once.has(name.text()) {
-                    self.number(inner, once, kept)
-                } else {
-                    let part = self.number(inner, once, false)?;
-                    self.push(Form::Named(name, part), kept)
-                }
-            }
+            Pat::Named(name, inner) => self.number_named(name, inner, once, kept),
             Pat::InHole(left, right) => {
                 let left = self.number(left, once, false)?;
                 let right = self.number(right, once, true)?;
@@ -104,21 +97,57 @@ impl<'a> Setting<'a> {
                 let part = self.number(inner, once, false)?;
                 self.push(Form::HideHole(part), kept)
             }
-            Pat::Closed(inner) => {
-                let places = places_of(self.alloc, inner)?;
-                let once = Once::among(self.alloc, &places)?;
-                if once.has_all(&places) {
-                    self.number(inner, &once, kept)
-                } else {
-                    let part = self.number(inner, &once, false)?;
-                    self.push(Form::Closed(part), kept)
-                }
-            }
+            Pat::Closed(inner) => self.number_closed(inner, kept),
             Pat::Seq(items) => {
                 let entries = self.entries(items, once)?;
                 self.push(Form::Seq(entries), kept)
             }
         }
+    }
+
+    // Adds the nodes of a pattern with a name, and gives its number: that of the part itself, where
+    // the name stands once.
+    #[cycle(numbering)]
+    fn number_named(
+        &mut self,
+        name: &'a Name,
+        inner: &'a Pat,
+        once: &Once<'a>,
+        kept: bool,
+    ) -> Result<usize, NoMemory>
+        requires ready { IsReady self.old }
+        requires once { AreSomeTold once.now.told }
+        ensures adds { OnOk result (Adds self.old self.new) }
+        ensures number { IfOk result (λ n. n < length self.new.nodes.items) }
+        ensures pattern { IfOk result (λ n. (xs : List (List ℕ)) → AreTold xs once.now.told
+            → Forgets xs (named name.now (pattern_of inner.now))
+            (pattern_at (patterns_at_hand self.new) n)) }
+    {
+        if once.has(name.text()) {
+            return self.number(inner, once, kept);
+        }
+        let part = self.number(inner, once, false)?;
+        self.push(Form::Named(name, part), kept)
+    }
+
+    // Adds the nodes of a closed pattern with this part, in which names that stand once are left
+    // out, and gives its number: that of the part itself, where no names are left.
+    #[cycle(numbering)]
+    fn number_closed(&mut self, inner: &'a Pat, kept: bool) -> Result<usize, NoMemory>
+        requires ready { IsReady self.old }
+        ensures adds { OnOk result (Adds self.old self.new) }
+        ensures number { IfOk result (λ n. n < length self.new.nodes.items) }
+        ensures pattern { IfOk result (λ n. (xs : List (List ℕ))
+            → Forgets xs (closed (pattern_of inner.now))
+            (pattern_at (patterns_at_hand self.new) n)) }
+    {
+        let places = places_of(self.alloc, inner)?;
+        let once = Once::among(self.alloc, &places)?;
+        if once.has_all(&places) {
+            return self.number(inner, &once, kept);
+        }
+        let part = self.number(inner, &once, false)?;
+        self.push(Form::Closed(part), kept)
     }
 
     // Adds the nodes of items, and gives the entries for them.
@@ -167,6 +196,20 @@ impl<'a> Setting<'a> {
         }
     }
 
+    // Adds the nodes of a pattern, and gives the number of its own. Names that stand once in it are
+    // left out.
+    fn number_alone(&mut self, pat: &'a Pat) -> Result<usize, NoMemory>
+        requires { IsReady self.old }
+        ensures adds { OnOk result (Adds self.old self.new) }
+        ensures number { IfOk result (λ n. n < length self.new.nodes.items) }
+        ensures pattern { IfOk result (λ n. LeavesOut (pattern_of pat.now)
+            (pattern_at (patterns_at_hand self.new) n)) }
+    {
+        let places = places_of(self.alloc, pat)?;
+        let once = Once::among(self.alloc, &places)?;
+        self.number(pat, &once, false)
+    }
+
     /// Adds the nodes of alternatives, and gives their numbers. In each, names that stand once are
     /// left out.
     pub(crate) fn number_all(&mut self, pats: &'a [Pat]) -> Result<Vec<usize>, NoMemory>
@@ -178,9 +221,7 @@ impl<'a> Setting<'a> {
     {
         let mut numbers = Vec::with_capacity(self.alloc, pats.len())?;
         for pat in pats {
-            let places = places_of(self.alloc, pat)?;
-            let once = Once::among(self.alloc, &places)?;
-            let number = self.number(pat, &once, false)?;
+            let number = self.number_alone(pat)?;
             numbers.push(number)?;
         }
         Ok(numbers)

@@ -81,6 +81,12 @@ mutual
     forgets_many : {xs : List (List ℕ)} {p q : Pattern} {n m : Option (List ℕ)} {ps qs : Items} →
         Forgets xs p q → ForgetsLength xs n m → ForgetsItems xs ps qs → ForgetsItems xs (many p n ps) (many q m qs)
 
+-- q is p without names, each of which stands once in it
+pub record LeavesOut (p q : Pattern) : Type 0 where
+  pub names : List (List ℕ)
+  pub once : StandOnce names p
+  pub left : Forgets names p q
+
 -- ---- a binding without names
 
 -- the pairs of a binding whose names are not among xs

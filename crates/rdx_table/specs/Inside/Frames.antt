@@ -1,8 +1,10 @@
 -- Pending tasks.
-use Rattle.std.specs.Prelude.{List, [], ◌∷◌, map}
+use Rattle.std.specs.Prelude.{◌≡◌, List, [], ◌∷◌, ◌++◌, map, Vec}
+use Rattle.std.specs.declared.alloc.Global.{Global}
 use Rattle.rdx_term.specs.Tree.{Tree}
 use Rattle.rdx_lang.specs.Patterns.{Pattern, Language}
-use Rattle.rdx_table.specs.Inside.Tasks.{IsTask, AreTasks, AreAnswers}
+use Rattle.rdx_bind.specs.declared.rows.Row.{Row}
+use Rattle.rdx_table.specs.Inside.Tasks.{IsTask, AreTasks, IsFound, AreAnswers}
 use Rattle.rdx_table.specs.declared.frame.Frame.{Frame}
 use Rattle.rdx_table.specs.declared.task.Answer.{Answer}
 use Rattle.rdx_table.specs.declared.task.Task.{Task}
@@ -28,3 +30,10 @@ module _ (L : Language) (ps : List Pattern) (ts : List Tree) where
   abbrev pub AreFrames : List Frame → Type 0
   AreFrames [] = Unit {0}
   AreFrames (f ∷ fs) = IsFrame f × AreFrames fs
+
+  -- what the frames are, and the one on top, where that was f and wants x: f gets an answer to x, or goes below a new frame for x
+  pub data TakesUp (f : Frame) (x : Task) (old : List Frame) : List Frame → Frame → Type 0 where
+    is_answered : {k : Frame} (rows : Vec Row Global) → IsFound L ps ts x rows.items → k.task ≡ f.task
+        → k.answers.items ≡ f.answers.items ++ record { task = x; rows = rows } ∷ [] → k.wanted ≡ f.wanted → TakesUp f x old old k
+    is_below : {new : List Frame} {k : Frame} → new ≡ old ++ f ∷ [] → k.task ≡ x → k.answers.items ≡ [] → k.wanted.items ≡ []
+        → TakesUp f x old new k

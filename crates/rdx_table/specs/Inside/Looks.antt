@@ -1,11 +1,14 @@
 -- What a look at a task has at hand, and when it stops.
-use Rattle.std.specs.Prelude.{◌≡◌, List, [], Result}
+use Rattle.std.specs.Prelude.{◌≡◌, ◌<◌, ℕ, List, [], Result, Vec}
+use Rattle.std.specs.declared.alloc.Global.{Global}
 use Rattle.std.specs.declared.result.Result.TheVariants.{Ok, Err}
 use Rattle.rdx_term.specs.Tree.{Tree}
 use Rattle.rdx_lang.specs.Patterns.{Pattern, Language}
-use Rattle.rdx_table.specs.Inside.Settings.{language_at, patterns_at_hand, trees_at_hand, IsReady, IsClosedDoor}
+use Rattle.rdx_table.specs.Inside.Remaining.{doors_left}
+use Rattle.rdx_table.specs.Inside.Settings.{language_at, patterns_at_hand, trees_at_hand, Grows, IsReady, IsClosedDoor}
 use Rattle.rdx_table.specs.Inside.Tasks.{IsGoal, goal_pattern, goal_tree, AreTasks, IsRow, IsColumnOf, AreAnswers}
 use Rattle.rdx_bind.specs.declared.rows.Row.{Row}
+use Rattle.rdx_table.specs.declared.frame.Frame.{Frame}
 use Rattle.rdx_table.specs.declared.task.Column.{Column}
 use Rattle.rdx_table.specs.declared.task.Goal.{Goal}
 use Rattle.rdx_table.specs.declared.look.Look.{Look}
@@ -67,3 +70,8 @@ IsStop s NoMemory = Unit {0}
 abbrev pub Stops : {A : Type 0} → Setting → Result A Stop → Type 0
 Stops s (Ok x) = Unit {0}
 Stops s (Err e) = IsStop s e
+
+-- what is done where a look at f, the frame on top, stops so: the tasks are what f wants, or the alternatives of the nonterminal get nodes
+pub data Heeds (s : Setting) (f : Frame) : Stop → Setting → Frame → Type 0 where
+  is_asked : {ts : Vec Task Global} → Heeds s f (Asks ts) s (record { task = f.task; answers = f.answers; wanted = ts })
+  is_opened : {n : ℕ} {t : Setting} → IsReady t → Grows s t → doors_left t < doors_left s → Heeds s f (Opens n) t f

@@ -1,4 +1,4 @@
-use Rattle.std.proofs.Common.{◌≡◌, ℕ, ◌+◌, ◌<◌, nat_eq, Bool, ◌||◌, IfSome, List, length, drop, sym, ◌∙◌, ap, subst, arith}
+use Rattle.std.proofs.Common.{◌≡◌, ℕ, ◌+◌, ◌<◌, nat_eq, Bool, ◌||◌, List, length, drop, sym, ◌∙◌, ap, subst, arith}
 use Rattle.std.proofs.lemmas.List.{take_rest}
 use Rattle.std.specs.Prelude.{not}
 use Rattle.rdx_bind.specs.Spots.{Spot, spots_of}
@@ -11,13 +11,13 @@ use Rattle.rdx_table.proofs.AskedForms.{below-at, below-rest}
 use Rattle.rdx_table.proofs.TriedPatterns.{goal_among, AnyUpTo, any-more, spots-more, any-found, any-all}
 use Rattle.rdx_table.proofs.look.Look.any_of.Goals as goal
 
-pub row-requires-clause-goal : goal.row-requires-clause-goal
-row-requires-clause-goal c =
+pub row_of_first-requires-clause-goal : goal.row_of_first-requires-clause-goal
+row_of_first-requires-clause-goal c =
     let n : ℕ = length (patterns_of_look c.args.self.now) in
     record { number = below-at c.args.numbers.now n c.loop-i.i c.requires.numbers (omega arith); id = c.requires.goal.id }
 
-pub asks_of-requires-clause-numbers : goal.asks_of-requires-clause-numbers
-asks_of-requires-clause-numbers c =
+pub row_of_first-requires-clause-numbers : goal.row_of_first-requires-clause-numbers
+row_of_first-requires-clause-numbers c =
     let n : ℕ = length (patterns_of_look c.args.self.now) in
     let rest : AreBelow (drop c.loop-i.i c.args.numbers.now) n = below-rest c.args.numbers.now n c.loop-i.i c.requires.numbers in
     subst (λ (ns : List ℕ). AreBelow ns n) (sym (take_rest c.args.numbers.now c.loop-i.i)) rest
@@ -28,9 +28,9 @@ returns-then-not-goal-clause-found c =
     let g : Goal = c.args.goal in
     let ns : List ℕ = c.args.numbers.now in
     let i : ℕ = c.loop-i.i in
-    let row : Row = c.in-Some.row in
+    let row : Row = c.in_ok-row.row in
     let any : Bool = c.loop-i.any || not c.is_empty.result in
-    let m : Meets l (goal_among g ns i) row = subst (λ o. IfSome o (λ r. Meets l (goal_among g ns i) r)) c.in-Some.is c.in_ok-row.ensures in
+    let m : Meets l (goal_among g ns i) row = c.in_ok-row.ensures.found in
     let e : c.is_empty.result ≡ nat_eq (length row.matches.items) 0 = c.is_empty.ensures ∙ ap (λ k. nat_eq k 0) row.matches.ok.0 in
     let u : AnyUpTo l g ns (i + 1) any = any-more l g ns i c.loop-i.any c.is_empty.result row (omega arith) m e c.loop-i.invariant.0 in
     let found : Row = record { matches = c.in_ok-matches.matches; spots = c.new-spots.result } in
@@ -42,8 +42,8 @@ loop-i-preserved c =
     let g : Goal = c.args.goal in
     let ns : List ℕ = c.args.numbers.now in
     let i : ℕ = c.loop-i.i in
-    let row : Row = c.in-Some.row in
-    let m : Meets l (goal_among g ns i) row = subst (λ o. IfSome o (λ r. Meets l (goal_among g ns i) r)) c.in-Some.is c.in_ok-row.ensures in
+    let row : Row = c.in_ok-row.row in
+    let m : Meets l (goal_among g ns i) row = c.in_ok-row.ensures.found in
     let e : c.is_empty.result ≡ nat_eq (length row.matches.items) 0 = c.is_empty.ensures ∙ ap (λ k. nat_eq k 0) row.matches.ok.0 in
     let old : List Spot = spots_of c.loop-i.gathered.spots.items in
     let new : List Spot = spots_of c.add.new.self.spots.items in
@@ -54,6 +54,6 @@ loop-i-preserved c =
 
 pub returns-clause-found : goal.returns-clause-found
 returns-clause-found c =
-    let found : Row = record { matches = c.in_ok-matches-2.matches; spots = c.in_ok-spots.spots } in
-    any-all c.args.self.now c.args.goal c.args.numbers.now c.loop-i.i c.loop-i.any found (spots_of c.loop-i.gathered.spots.items) (omega arith)
-    c.in_ok-matches-2.ensures c.in_ok-spots.ensures c.loop-i.invariant.0 c.loop-i.invariant.1
+    any-all c.args.self.now c.args.goal c.args.numbers.now c.loop-i.i c.loop-i.any c.in_ok-nameless_row.field-0
+    (spots_of c.loop-i.gathered.spots.items) (omega arith)
+    c.in_ok-nameless_row.ensures.matches c.in_ok-nameless_row.ensures.spots c.loop-i.invariant.0 c.loop-i.invariant.1

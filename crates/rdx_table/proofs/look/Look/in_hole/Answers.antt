@@ -1,4 +1,4 @@
-use Rattle.std.proofs.Common.{◌≡◌, ℕ, ◌+◌, ◌<◌, ◌≤◌, Bool, IfSome, List, [], ◌∷◌, drop, length, refl, sym, subst, rules}
+use Rattle.std.proofs.Common.{◌≡◌, ℕ, ◌+◌, ◌<◌, ◌≤◌, Bool, List, [], ◌∷◌, drop, length, refl, sym, subst, rules}
 use Rattle.std.proofs.lemmas.List.{take_rest}
 use Rattle.rdx_term.specs.AtPaths.{tree_at}
 use Rattle.rdx_term.specs.Tree.{Tree}
@@ -21,8 +21,8 @@ use Rattle.rdx_table.proofs.AskedForms.{HasOf, SplitsOnWhere, had_matches, had_s
 use Rattle.rdx_table.proofs.AskedForms.{adds_bound, adds_spots, asked_in_hole}
 use Rattle.rdx_table.proofs.look.Look.in_hole.Goals as goal
 
-pub goal_of_spot-requires-clause-place : goal.goal_of_spot-requires-clause-place
-goal_of_spot-requires-clause-place c =
+pub goal_of_spot-inner-requires-clause-place : goal.goal_of_spot-inner-requires-clause-place
+goal_of_spot-inner-requires-clause-place c =
     let xs = c.in_ok-spots.field-0.spots.items in
     let i : ℕ = c.loop-i.i in
     let s : Spot = spot_of c.index-spot.result.now in
@@ -31,8 +31,8 @@ goal_of_spot-requires-clause-place c =
     let a : In s (spots_of xs) = c.loop-i.invariant.0.part s (In_along (s ∷ spots_of (drop (i + 1) xs)) (spots_of (drop i xs)) (sym e) (here refl)) in
     ((had_splits c.in_ok-spots.ensures.found).sound s a).inside
 
-pub asks_at-requires-clause-places : goal.asks_at-requires-clause-places
-asks_at-requires-clause-places c s k =
+pub row_at_first-requires-clause-places : goal.row_at_first-requires-clause-places
+row_at_first-requires-clause-places c s k =
     let ys = c.deref.result.now in
     let i : ℕ = c.loop-i.i in
     let m : In s (spots_of (drop i ys)) = subst (λ zs. In s (spots_of zs)) (take_rest ys i) k in
@@ -53,22 +53,22 @@ loop-i-preserved c =
     let s : Spot = spot_of c.index-spot.result.now in
     let rest : List Spot = spots_of (drop i xs) in
     let more : List Spot = spots_of (drop (i + 1) xs) in
-    let inner : Goal = c.goal_of_spot.result in
+    let inner : Goal = c.goal_of_spot-inner.result in
     let u : Tree = aim_tree look inner in
-    let row : Row = c.in-Some.row in
+    let row : Row = c.in_ok-row.row in
     let b : i < length xs = search rules in
     let e : rest ≡ s ∷ more = rest_at spot_of xs i c.index-spot.result.now b c.index-spot.ensures in
-    let m : Meets look inner row = subst (λ o. IfSome o (λ v. Meets look inner v)) c.in-Some.is c.in_ok-row.ensures in
-    let h : HasOf L r u splits (split_row_of row) = met_by look inner row c.args.right splits c.goal_of_spot.ensures.number c.goal_of_spot.ensures.splits m in
-    let f : u ≡ tree_at t s.path = c.goal_of_spot.ensures.part in
+    let m : Meets look inner row = c.in_ok-row.ensures.found in
+    let h : HasOf L r u splits (split_row_of row) = met_by look inner row c.args.right splits c.goal_of_spot-inner.ensures.number c.goal_of_spot-inner.ensures.splits m in
+    let f : u ≡ tree_at t s.path = c.goal_of_spot-inner.ensures.part in
     let bound : List Binding = bindings_of c.loop-i.found.items in
-    let bound_then : List Binding = bindings_of c.add_all_joins.new.found.items in
+    let bound_then : List Binding = bindings_of c.add_inside.new.found.items in
     let split : List Spot = spots_of c.loop-i.gathered.spots.items in
-    let split_then : List Spot = spots_of c.add_going_on.new.gathered.spots.items in
+    let split_then : List Spot = spots_of c.add_inside.new.gathered.spots.items in
     let p : Adds (MatchesOn L r t s) bound bound_then =
-    adds_bound s u (bindings_of row.matches.items) bound bound_then f (had_matches splits h) c.in_ok-add_all_joins.ensures in
+    adds_bound s u (bindings_of row.matches.items) bound bound_then f (had_matches splits h) c.in_ok-add_inside.ensures.found in
     let q : Adds (SplitsOnWhere L t splits r s) split split_then =
-    adds_spots splits s u (spots_of row.spots.items) split split_then f (had_spots splits h) c.in_ok-add_going_on.ensures in (
+    adds_spots splits s u (spots_of row.spots.items) split split_then f (had_spots splits h) c.in_ok-add_inside.ensures.gathered in (
       collects-next (MatchesOn L r t) (spots_of xs) none_bound s rest more bound bound_then e c.loop-i.invariant.0 p,
       collects-next (SplitsOnWhere L t splits r) (spots_of xs) none_split s rest more split split_then e c.loop-i.invariant.1 q,
     )
@@ -88,7 +88,7 @@ returns-clause-found c =
     let rest : List Spot = spots_of (drop i xs) in
     let bound : List Binding = bindings_of c.loop-i.found.items in
     let split : List Spot = spots_of c.loop-i.gathered.spots.items in
-    let row : Row = record { matches = c.in_ok-matches.matches; spots = c.in_ok-spots-2.spots } in
+    let row : Row = c.in_ok-distinct_row.field-0 in
     let b : length xs ≤ i = search rules in
     let none : rest ≡ [] = rest_none spot_of xs i b in
     let p : Adds (Arises (MatchesOn L r t) all) none_bound bound =
@@ -96,4 +96,4 @@ returns-clause-found c =
     let q : Adds (Arises (SplitsOnWhere L t splits r) all) none_split split =
     collects-end (SplitsOnWhere L t splits r) all rest none_split split none c.loop-i.invariant.1 in
     meets_by look c.args.goal row c.requires.pattern
-    (asked_in_hole splits all bound split (had_splits c.in_ok-spots.ensures.found) p q c.in_ok-matches.ensures c.in_ok-spots-2.ensures)
+    (asked_in_hole splits all bound split (had_splits c.in_ok-spots.ensures.found) p q c.in_ok-distinct_row.ensures.matches c.in_ok-distinct_row.ensures.spots)

@@ -5,7 +5,7 @@ use Rattle.rdx_lang.specs.Patterns.{Pattern, wild, of_kind, except, prefix, hole
 use Rattle.rdx_lang.specs.PatternView.{Slot, just, repeated, pattern_of, slot_of, items_of}
 use Rattle.rdx_lang.proofs.PatternEquations.{pattern_wild, pattern_kind, pattern_except, pattern_prefix, pattern_hole, pattern_lit, pattern_nt, pattern_named, pattern_in_hole, pattern_hide_hole, pattern_closed, pattern_seq, slot_one, slot_many}
 use Rattle.rdx_lang.proofs.Rest.{rest_at, rest_none}
-use Rattle.rdx_table.specs.Inside.Forgetting.{binders, Forgets, ForgetsItems, forgets_wild, forgets_kind, forgets_except, forgets_prefix, forgets_hole, forgets_lit, forgets_nt, forgets_named, keeps_named, forgets_in_hole, forgets_hide_hole, forgets_closed, forgets_seq, forgets_nil}
+use Rattle.rdx_table.specs.Inside.Forgetting.{binders, Forgets, ForgetsItems, forgets_wild, forgets_kind, forgets_except, forgets_prefix, forgets_hole, forgets_lit, forgets_nt, forgets_named, keeps_named, forgets_in_hole, forgets_hide_hole, forgets_seq, forgets_nil}
 use Rattle.rdx_table.specs.Inside.Nodes.{pattern_at, slots_at, AreEntries}
 use Rattle.rdx_table.specs.Inside.Numbering.{ForgetsSlot, forgets_just, forgets_repeated}
 use Rattle.rdx_table.specs.Inside.Once.{bytes_of, is_once, AreTold, Tells}
@@ -13,8 +13,8 @@ use Rattle.rdx_table.specs.Inside.Settings.{patterns_at_hand}
 use Rattle.rdx_table.specs.declared.node.Entry.{Entry}
 use Rattle.rdx_table.proofs.Adding.{adds-then, adds-pattern, adds-entries}
 use Rattle.rdx_table.proofs.NodePatterns.{entries-push}
-use Rattle.rdx_table.proofs.Numbered.{left-made, left-through, left-closed, adds-last, entries-next}
-use Rattle.rdx_table.proofs.OnceTold.{once_among, once_among-told, once_among-once, others-names}
+use Rattle.rdx_table.proofs.Numbered.{left-anyhow, left-closed, left-made, left-open, left-through, entries-next}
+use Rattle.rdx_table.proofs.OnceTold.{others-names}
 use Rattle.rdx_table.proofs.setting.Setting.+numbering.Goals as goal
 
 -- p is q without names, where it is the same as r
@@ -117,45 +117,83 @@ number-returns-in-Nt-clause-pattern t c =
     left-made c.args.once.now.told c.nonterminal.result (patterns_at_hand c.nonterminal.new.self) (pattern_of c.args.pat.now) (nt c.in-Nt.name)
     (λ xs told. by_same (ap pattern_of c.in-Nt.is ∙ pattern_nt c.in-Nt.name) forgets_nt) c.nonterminal.ensures.pattern
 
-pub number-returns-then-has-clause-pattern : goal.number-returns-then-has-clause-pattern
-number-returns-then-has-clause-pattern t c =
-    let x : List ℕ = c.in-Named.name in
-    let q = pattern_of c.deref-then-has.result.now in
-    let e : pattern_of c.args.pat.now ≡ named x q = ap pattern_of c.in-Named.is ∙ pattern_named x c.in-Named.inner
-    ∙ ap (λ p. named x (pattern_of p)) (sym c.deref-then-has.ensures) in
-    let o : is_once c.args.once.now.told x ≡ true = ap (is_once c.args.once.now.told) (sym c.text.ensures.value) ∙ sym c.has.ensures
-    ∙ c.if-has.true in
-    left-through c.args.once.now.told c.args.once.now.told c.number.result (patterns_at_hand c.number.new.self) (pattern_of c.args.pat.now) q
-    (λ n h xs told. by_same e (forgets_named ((told x).1 o) (h xs told))) c.number.ensures.pattern
+pub number-returns-in_ok-part-in-HideHole-clause-pattern : goal.number-returns-in_ok-part-in-HideHole-clause-pattern
+number-returns-in_ok-part-in-HideHole-clause-pattern t c =
+    let e : pattern_of c.args.pat.now ≡ hide_hole (pattern_of c.deref-in-HideHole.result.now) =
+    ap pattern_of c.in-HideHole.is ∙ pattern_hide_hole c.in-HideHole.inner ∙ ap (λ p. hide_hole (pattern_of p)) (sym c.deref-in-HideHole.ensures) in
+    left-made c.args.once.now.told c.push-in-HideHole.result (patterns_at_hand c.push-in-HideHole.new.self) (pattern_of c.args.pat.now)
+    (hide_hole (pattern_at (patterns_at_hand c.number-in-HideHole.new.self) c.in_ok-part-in-HideHole.part))
+    (λ xs told. by_same e (forgets_hide_hole (c.in_ok-part-in-HideHole.ensures.pattern xs told))) c.push-in-HideHole.ensures.pattern
 
-pub number-returns-in-Named-clause-adds : goal.number-returns-in-Named-clause-adds
-number-returns-in-Named-clause-adds t c =
-    adds-last c.push-else-has.result c.args.self.now c.number-else-has.new.self c.push-else-has.new.self c.in_ok-part-in-Named.ensures.adds
-    c.push-else-has.ensures.adds
+pub number-returns-in_ok-entries-in-Seq-clause-pattern : goal.number-returns-in_ok-entries-in-Seq-clause-pattern
+number-returns-in_ok-entries-in-Seq-clause-pattern t c =
+    let e : pattern_of c.args.pat.now ≡ seq (items_of (map slot_of c.deref-in-Seq.result.now)) =
+    ap pattern_of c.in-Seq.is ∙ pattern_seq c.in-Seq.items ∙ ap (λ xs. seq (items_of (map slot_of xs))) (sym c.deref-in-Seq.ensures.value) in
+    left-made c.args.once.now.told c.push-in-Seq.result (patterns_at_hand c.push-in-Seq.new.self) (pattern_of c.args.pat.now)
+    (seq (items_of (slots_at (patterns_at_hand c.entries.new.self) c.in_ok-entries-in-Seq.entries.items)))
+    (λ xs told. by_same e (forgets_seq (c.in_ok-entries-in-Seq.ensures.items xs told))) c.push-in-Seq.ensures.pattern
 
 pub number-returns-in-Named-clause-pattern : goal.number-returns-in-Named-clause-pattern
 number-returns-in-Named-clause-pattern t c =
-    let m = c.args.once.now.told in
     let x : List ℕ = c.in-Named.name in
-    let q = pattern_of c.deref-else-has.result.now in
+    let q = pattern_of c.deref-in-Named.result.now in
     let e : pattern_of c.args.pat.now ≡ named x q = ap pattern_of c.in-Named.is ∙ pattern_named x c.in-Named.inner
-    ∙ ap (λ p. named x (pattern_of p)) (sym c.deref-else-has.ensures) in
+    ∙ ap (λ p. named x (pattern_of p)) (sym c.deref-in-Named.ensures) in
+    let m = c.args.once.now.told in
+    left-through m m c.number_named.result (patterns_at_hand c.number_named.new.self) (pattern_of c.args.pat.now) (named x q)
+    (λ n h xs told. by_same e (h xs told)) c.number_named.ensures.pattern
+
+pub number-returns-in-Closed-clause-pattern : goal.number-returns-in-Closed-clause-pattern
+number-returns-in-Closed-clause-pattern t c =
+    let q = pattern_of c.deref-in-Closed.result.now in
+    let e : pattern_of c.args.pat.now ≡ closed q = ap pattern_of c.in-Closed.is ∙ pattern_closed c.in-Closed.inner
+    ∙ ap (λ p. closed (pattern_of p)) (sym c.deref-in-Closed.ensures) in
+    left-anyhow c.args.once.now.told c.number_closed.result (patterns_at_hand c.number_closed.new.self) (pattern_of c.args.pat.now) (closed q) e
+    c.number_closed.ensures.pattern
+
+pub number_named-returns-then-has-clause-pattern : goal.number_named-returns-then-has-clause-pattern
+number_named-returns-then-has-clause-pattern t c =
+    let m = c.args.once.now.told in
+    let x : List ℕ = c.args.name.now in
+    let q = pattern_of c.args.inner.now in
+    let o : is_once m x ≡ true = ap (is_once m) (sym c.text.ensures.value) ∙ sym c.has.ensures ∙ c.if-has.true in
+    left-through m m c.number.result (patterns_at_hand c.number.new.self) (named x q) q
+    (λ n h xs told. forgets_named ((told x).1 o) (h xs told)) c.number.ensures.pattern
+
+pub number_named-returns-clause-pattern : goal.number_named-returns-clause-pattern
+number_named-returns-clause-pattern t c =
+    let m = c.args.once.now.told in
+    let x : List ℕ = c.args.name.now in
+    let q = pattern_of c.args.inner.now in
     let o : is_once m x ≡ false = ap (is_once m) (sym c.text.ensures.value) ∙ sym c.has.ensures ∙ c.if-has.false in
-    left-made m c.push-else-has.result (patterns_at_hand c.push-else-has.new.self) (pattern_of c.args.pat.now)
-    (named x (pattern_at (patterns_at_hand c.number-else-has.new.self) c.in_ok-part-in-Named.part))
-    (λ xs told. by_same e (keeps_named (absent m xs x told o) (c.in_ok-part-in-Named.ensures.pattern xs told))) c.push-else-has.ensures.pattern
+    left-made m c.push.result (patterns_at_hand c.push.new.self) (named x q)
+    (named x (pattern_at (patterns_at_hand c.number-2.new.self) c.in_ok-part.part))
+    (λ xs told. keeps_named (absent m xs x told o) (c.in_ok-part.ensures.pattern xs told)) c.push.ensures.pattern
 
-pub number-returns-in-InHole-clause-adds : goal.number-returns-in-InHole-clause-adds
-number-returns-in-InHole-clause-adds t c =
-    adds-last c.push-in-InHole.result c.args.self.now c.number-in-InHole-2.new.self c.push-in-InHole.new.self
-    (adds-then c.args.self.now c.number-in-InHole.new.self c.number-in-InHole-2.new.self
-    c.in_ok-left-in-InHole.ensures.adds c.in_ok-right-in-InHole.ensures.adds)
-    c.push-in-InHole.ensures.adds
+pub number_closed-returns-then-has_all-clause-pattern : goal.number_closed-returns-then-has_all-clause-pattern
+number_closed-returns-then-has_all-clause-pattern t c =
+    let m = c.in_ok-once.once.told in
+    let q = pattern_of c.args.inner.now in
+    let b : bytes_of c.in_ok-places.places.items ≡ binders q = c.in_ok-places.ensures in
+    let tells : Tells m (binders q) = subst (λ (zs : List (List ℕ)). Tells m zs) (ap bytes_of c.deref.ensures.value ∙ b)
+    c.in_ok-once.ensures.told in
+    left-open m c.number.result (patterns_at_hand c.number.new.self) q tells
+    (λ x h. c.has_all.ensures c.if-has_all.true x
+    (subst (λ (zs : List (List ℕ)). In x zs) (sym (ap bytes_of c.deref-2.ensures.value ∙ b)) h)) c.number.ensures.pattern
 
-pub number-returns-in-InHole-clause-pattern : goal.number-returns-in-InHole-clause-pattern
-number-returns-in-InHole-clause-pattern t c =
-    let s = c.number-in-InHole.new.self in
-    let u = c.number-in-InHole-2.new.self in
+pub number_closed-returns-clause-pattern : goal.number_closed-returns-clause-pattern
+number_closed-returns-clause-pattern t c =
+    let m = c.in_ok-once.once.told in
+    let q = pattern_of c.args.inner.now in
+    let tells : Tells m (binders q) = subst (λ (zs : List (List ℕ)). Tells m zs) (ap bytes_of c.deref.ensures.value ∙ c.in_ok-places.ensures)
+    c.in_ok-once.ensures.told in
+    left-closed m c.push.result (patterns_at_hand c.push.new.self) q (pattern_at (patterns_at_hand c.number-2.new.self) c.in_ok-part.part)
+    tells c.in_ok-part.ensures.pattern c.push.ensures.pattern
+
+pub number-returns-in_ok-right-in-InHole-clause-pattern : goal.number-returns-in_ok-right-in-InHole-clause-pattern
+number-returns-in_ok-right-in-InHole-clause-pattern t c =
+    let s = c.number.new.self in
+    let u = c.number-in-InHole.new.self in
     let j : ℕ = c.in_ok-left-in-InHole.left in
     let k : ℕ = c.in_ok-right-in-InHole.right in
     let l = pattern_of c.deref-in-InHole.result.now in
@@ -167,64 +205,3 @@ number-returns-in-InHole-clause-pattern t c =
     (in_hole (pattern_at (patterns_at_hand u) j) (pattern_at (patterns_at_hand u) k))
     (λ xs told. by_same e (forgets_in_hole (subst (λ (z : Pattern). Forgets xs l z) (sym a) (c.in_ok-left-in-InHole.ensures.pattern xs told))
     (c.in_ok-right-in-InHole.ensures.pattern xs told))) c.push-in-InHole.ensures.pattern
-
-pub number-returns-in-HideHole-clause-adds : goal.number-returns-in-HideHole-clause-adds
-number-returns-in-HideHole-clause-adds t c =
-    adds-last c.push-in-HideHole.result c.args.self.now c.number-in-HideHole.new.self c.push-in-HideHole.new.self
-    c.in_ok-part-in-HideHole.ensures.adds c.push-in-HideHole.ensures.adds
-
-pub number-returns-in-HideHole-clause-pattern : goal.number-returns-in-HideHole-clause-pattern
-number-returns-in-HideHole-clause-pattern t c =
-    let e : pattern_of c.args.pat.now ≡ hide_hole (pattern_of c.deref-in-HideHole.result.now) =
-    ap pattern_of c.in-HideHole.is ∙ pattern_hide_hole c.in-HideHole.inner ∙ ap (λ p. hide_hole (pattern_of p)) (sym c.deref-in-HideHole.ensures) in
-    left-made c.args.once.now.told c.push-in-HideHole.result (patterns_at_hand c.push-in-HideHole.new.self) (pattern_of c.args.pat.now)
-    (hide_hole (pattern_at (patterns_at_hand c.number-in-HideHole.new.self) c.in_ok-part-in-HideHole.part))
-    (λ xs told. by_same e (forgets_hide_hole (c.in_ok-part-in-HideHole.ensures.pattern xs told))) c.push-in-HideHole.ensures.pattern
-
-pub number-returns-then-has_all-clause-pattern : goal.number-returns-then-has_all-clause-pattern
-number-returns-then-has_all-clause-pattern t c =
-    let m = c.in_ok-once-in-Closed.once.told in
-    let q = pattern_of c.deref-then-has_all.result.now in
-    let e : pattern_of c.args.pat.now ≡ closed q = ap pattern_of c.in-Closed.is ∙ pattern_closed c.in-Closed.inner
-    ∙ ap (λ p. closed (pattern_of p)) (sym c.deref-then-has_all.ensures) in
-    let b : bytes_of c.in_ok-places-in-Closed.places.items ≡ binders q = c.in_ok-places-in-Closed.ensures
-    ∙ ap (λ p. binders (pattern_of p)) (c.deref-in-Closed.ensures ∙ sym c.deref-then-has_all.ensures) in
-    let tells : Tells m (binders q) = subst (λ (zs : List (List ℕ)). Tells m zs) (ap bytes_of c.deref-in-Closed-2.ensures.value ∙ b)
-    c.in_ok-once-in-Closed.ensures.told in
-    left-closed c.args.once.now.told m c.number-then-has_all.result (patterns_at_hand c.number-then-has_all.new.self)
-    (pattern_of c.args.pat.now) q e tells
-    (λ x h. c.has_all.ensures c.if-has_all.true x
-    (subst (λ (zs : List (List ℕ)). In x zs) (sym (ap bytes_of c.deref-in-Closed-3.ensures.value ∙ b)) h)) c.number-then-has_all.ensures.pattern
-
-pub number-returns-in-Closed-clause-adds : goal.number-returns-in-Closed-clause-adds
-number-returns-in-Closed-clause-adds t c =
-    adds-last c.push-else-has_all.result c.args.self.now c.number-else-has_all.new.self c.push-else-has_all.new.self
-    c.in_ok-part-in-Closed.ensures.adds c.push-else-has_all.ensures.adds
-
-pub number-returns-in-Closed-clause-pattern : goal.number-returns-in-Closed-clause-pattern
-number-returns-in-Closed-clause-pattern t c =
-    let m = c.in_ok-once-in-Closed.once.told in
-    let q = pattern_of c.deref-else-has_all.result.now in
-    let e : pattern_of c.args.pat.now ≡ closed q = ap pattern_of c.in-Closed.is ∙ pattern_closed c.in-Closed.inner
-    ∙ ap (λ p. closed (pattern_of p)) (sym c.deref-else-has_all.ensures) in
-    let b : bytes_of c.in_ok-places-in-Closed.places.items ≡ binders q = c.in_ok-places-in-Closed.ensures
-    ∙ ap (λ p. binders (pattern_of p)) (c.deref-in-Closed.ensures ∙ sym c.deref-else-has_all.ensures) in
-    let tells : Tells m (binders q) = subst (λ (zs : List (List ℕ)). Tells m zs) (ap bytes_of c.deref-in-Closed-2.ensures.value ∙ b)
-    c.in_ok-once-in-Closed.ensures.told in
-    left-made c.args.once.now.told c.push-else-has_all.result (patterns_at_hand c.push-else-has_all.new.self) (pattern_of c.args.pat.now)
-    (closed (pattern_at (patterns_at_hand c.number-else-has_all.new.self) c.in_ok-part-in-Closed.part))
-    (λ xs told. by_same e (forgets_closed (once_among-once m (binders q) tells)
-    (c.in_ok-part-in-Closed.ensures.pattern (once_among m (binders q)) (once_among-told m (binders q) tells)))) c.push-else-has_all.ensures.pattern
-
-pub number-returns-clause-adds : goal.number-returns-clause-adds
-number-returns-clause-adds t c =
-    adds-last c.push-in-Seq.result c.args.self.now c.entries.new.self c.push-in-Seq.new.self
-    c.in_ok-entries-in-Seq.ensures.adds c.push-in-Seq.ensures.adds
-
-pub number-returns-clause-pattern : goal.number-returns-clause-pattern
-number-returns-clause-pattern t c =
-    let e : pattern_of c.args.pat.now ≡ seq (items_of (map slot_of c.deref-in-Seq.result.now)) =
-    ap pattern_of c.in-Seq.is ∙ pattern_seq c.in-Seq.items ∙ ap (λ xs. seq (items_of (map slot_of xs))) (sym c.deref-in-Seq.ensures.value) in
-    left-made c.args.once.now.told c.push-in-Seq.result (patterns_at_hand c.push-in-Seq.new.self) (pattern_of c.args.pat.now)
-    (seq (items_of (slots_at (patterns_at_hand c.entries.new.self) c.in_ok-entries-in-Seq.entries.items)))
-    (λ xs told. by_same e (forgets_seq (c.in_ok-entries-in-Seq.ensures.items xs told))) c.push-in-Seq.ensures.pattern

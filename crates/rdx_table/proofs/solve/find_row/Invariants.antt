@@ -4,7 +4,7 @@ use Rattle.rdx_table.specs.Inside.Memos.{IsMemo}
 use Rattle.rdx_table.specs.Inside.Remaining.{all_left, doors_left}
 use Rattle.rdx_table.specs.Inside.Settings.{language_at, patterns_at_hand, trees_at_hand, Grows, IsReady}
 use Rattle.rdx_table.specs.declared.task.Task.TheVariants as task
-use Rattle.rdx_table.proofs.solve.solve.Given as goal
+use Rattle.rdx_table.proofs.solve.find_row.Given as goal
 
 abbrev pub invariant-loop-task : goal.invariant-loop-task
 invariant-loop-task l = record {
