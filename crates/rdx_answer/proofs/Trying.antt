@@ -1,6 +1,6 @@
 -- Answers that are tried.
 use Rattle.std.proofs.Common.{◌≡◌, ℕ, Bool, false, List, [], ◌∷◌, Some, refl, sym, subst}
-use Rattle.std.specs.Prelude.{Result, Ok, Err, IsErrAnd}
+use Rattle.std.specs.Prelude.{Result, Ok, Err, IfOk, IsErrAnd, OnOk}
 use Rattle.rdx_term.specs.Tree.{Tree}
 use Rattle.rdx_lang.specs.Programs.{Program}
 use Rattle.rdx_lang.specs.Templates.{Host}
@@ -30,6 +30,11 @@ pub error_tried : {A B : Type 0} (view : A → B) (R : Answer B → Type 0) (W :
     → Says view R (Err e) → Tries W out out r
 error_tried view R W out (Ok x) e d k h = absurd d
 error_tried view R W out (Err f) e d k h = subst (λ (q : EvalFault). Tries W out out (Err q)) (sym d) (tried_error view R W out e k h)
+
+-- what follows from two clauses about one result
+pub both_ok : {X E : Type 0} (r : Result X E) (A : Type 0) (P Q : X → Type 0) → ((x : X) → A → P x → Q x) → OnOk r A → IfOk r P → IfOk r Q
+both_ok (Ok x) A P Q f a p = f x a p
+both_ok (Err e) A P Q f a p = tt
 
 -- what W has, V has
 pub tried_as : (V W : List ℕ → Bool → Type 0) (before after : List ℕ) (r : Result Bool EvalFault)

@@ -198,7 +198,7 @@ fn try_answer_over(
         }
         Query::Reducts(name, _) => answer_reducts(alloc, engine, name, t, out),
         Query::Tagged(name, _) => answer_steps(alloc, engine, name, t, out),
-        Query::Stepper(name, _) => answer_stepper(alloc, engine, name, choices, t, out),
+        Query::Stepper(name, _) => Ok(answer_stepper(alloc, engine, name, choices, t, out)?),
         Query::TestEqual(_, other) => {
             let u = engine.host(other, &Binding::new(Vec::new(alloc)))?;
             Ok(write_equality(t, &u, out)?)

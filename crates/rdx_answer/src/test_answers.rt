@@ -1,14 +1,15 @@
 // The answers to tests of relations.
-ghost use Rattle.std.specs.Prelude.{◌≡◌, IfOk, map};
+ghost use Rattle.std.specs.Prelude.{◌≡◌, ◌∷◌, [], IfOk, map};
 ghost use Rattle.rdx_eval.specs.Views as engines;
 ghost use Rattle.rdx_eval.specs.Views.{Says, terms_in};
 ghost use Rattle.rdx_lang.specs.ProgramView.{program_of};
 ghost use Rattle.rdx_lang.specs.TemplateView.{host_of};
 ghost use Rattle.rdx_answer.specs.Answering.{HostValues, OverEach};
-ghost use Rattle.rdx_answer.specs.Inside.Appending.{Tries};
+ghost use Rattle.rdx_answer.specs.Inside.Appending.{Appends, Tries};
 ghost use Rattle.rdx_answer.specs.Queries.{KnowsRelation};
 ghost use Rattle.rdx_answer.specs.StepAnswers.{reducts_in};
 ghost use Rattle.rdx_answer.specs.TestAnswers.{IsRunTestAnswer, IsStepTestAnswer};
+ghost use Rattle.rdx_answer.specs.Tests.{Compares};
 ghost use Rattle.rdx_reduce.specs.StepView.{step_of};
 ghost use Rattle.rdx_term.specs.View.{tree_of};
 
@@ -78,6 +79,21 @@ fn compare_steps(
     Ok(write_comparison(alloc, &reducts, wanted, out)?)
 }
 
+// Appends whether the term at which a run rests is what is wanted.
+fn compare_rest(
+    alloc: Global,
+    rest: Term,
+    wanted: &[Term],
+    out: &mut Vec<u8>,
+) -> Result<bool, NoMemory>
+    ensures { IfOk result (λ met. Appends
+        (Compares (tree_of rest ∷ []) (map tree_of wanted.now)) out.old.items out.new.items
+        met) }
+{
+    let found = Vec::from_array(alloc, [rest])?;
+    write_comparison(alloc, &found, wanted, out)
+}
+
 // Appends whether the run from this term by the relation of this name rests in these, or why it
 // rests in none; or gives the fault of a term on the way.
 fn compare_end(
@@ -96,10 +112,7 @@ fn compare_end(
 {
     let relation = relation(engine, name)?;
     match run_down(alloc, engine, relation, t) {
-        Ok(rest) => {
-            let found = Vec::from_array(alloc, [rest])?;
-            Ok(write_comparison(alloc, &found, wanted, out)?)
-        }
+        Ok(rest) => Ok(compare_rest(alloc, rest, wanted, out)?),
         Err(fault) => match fault {
             RunFault::Named(fault) => Err(EvalFault::Named(fault)),
             RunFault::Branches(term) => {

@@ -16,15 +16,13 @@ use Rattle.rdx_answer.specs.TestAnswers.{rest_compared, run_fails, run_branches,
 use Rattle.rdx_answer.specs.Tests.{Compares}
 use Rattle.rdx_answer.proofs.test_answers.compare_end.Goals as goal
 
-pub returns-in_ok-write_comparison-in-Ok-clause-answer : goal.returns-in_ok-write_comparison-in-Ok-clause-answer
-returns-in_ok-write_comparison-in-Ok-clause-answer g c =
+pub returns-in_ok-compare_rest-in-Ok-clause-answer : goal.returns-in_ok-compare_rest-in-Ok-clause-answer
+returns-in_ok-compare_rest-in-Ok-clause-answer g c =
     let P : programs.Program = program_of (program_in c.args.engine.now).now in
     let R : Relation = relation_of c.in_ok-relation.relation.now in
-    let wanted : List Tree = map tree_of c.args.wanted.now in
     let known : relation_named P c.args.name.now ≡ Some R = c.in_ok-relation.ensures.found in
     let f : program_of (program_in c.relation.new.engine).now ≡ P = ap (λ (q : Bor Program). program_of q.now) c.in_ok-relation.ensures.same in
-    let a = c.in_ok-write_comparison-in-Ok.ensures in
-    let e : map tree_of c.deref.result.now ≡ tree_of c.in-Ok.rest ∷ [] = ap (map tree_of) (c.deref.ensures.value ∙ c.in_ok-found-in-Ok.ensures.items) in
+    let a = c.in_ok-compare_rest-in-Ok.ensures in
     record {
       text = a.text;
       answer = record {
@@ -32,7 +30,7 @@ returns-in_ok-write_comparison-in-Ok-clause-answer g c =
         known = known;
         end = rests (tree_of c.in-Ok.rest);
         runs = subst (λ (p : programs.Program). Runs (AreSteps p R) most_steps (tree_of c.args.t.now) (rests (tree_of c.in-Ok.rest))) f c.in-Ok.ensures.end;
-        written = rest_compared (subst (λ (ts : List Tree). Compares ts wanted a.text c.in_ok-write_comparison-in-Ok.field-0) e a.answer);
+        written = rest_compared a.answer;
       };
       gained = a.gained;
     }
