@@ -26,7 +26,7 @@ use crate::match_forms::{Asked, read_query};
 use crate::metafunction_forms::define_metafunction;
 use crate::passed_forms::{check_offers, check_wants};
 use crate::step_forms::{Stepping, read_steps};
-use crate::tables::add_text;
+use crate::tables::{add_text, make_room};
 use crate::test_forms::{Leading, Same, check_results, read_equal, read_leading};
 use rdx_defs::ReadPremise;
 use rdx_grammar::refusal::unnamed;
@@ -66,13 +66,11 @@ fn add_metafunction(
     ensures added { OnOk result (known_of known.new
         ≡ with_definition (known_of known.old) (defined.metafunction (metafunction_of metafunction))) }
 {
-    known.program.metafunctions.reserve(1)?;
-    let place = known.program.metafunctions.len();
-    add_text(
+    make_room(
         alloc,
+        &mut known.program.metafunctions,
         &mut known.tables.metafunctions,
         metafunction.name.text(),
-        place,
     )?;
     known.program.metafunctions.push_reserved(metafunction);
     Ok(())
@@ -83,13 +81,11 @@ fn add_judgement(alloc: Global, known: &mut Known, judgement: Judgement) -> Resu
     ensures added { OnOk result (known_of known.new
         ≡ with_definition (known_of known.old) (defined.judgement (judgement_of judgement))) }
 {
-    known.program.judgements.reserve(1)?;
-    let place = known.program.judgements.len();
-    add_text(
+    make_room(
         alloc,
+        &mut known.program.judgements,
         &mut known.tables.judgements,
         judgement.name.text(),
-        place,
     )?;
     known.program.judgements.push_reserved(judgement);
     Ok(())
@@ -100,13 +96,11 @@ fn add_relation(alloc: Global, known: &mut Known, relation: Relation) -> Result<
     ensures added { OnOk result (known_of known.new
         ≡ with_definition (known_of known.old) (defined.relation (relation_of relation))) }
 {
-    known.program.relations.reserve(1)?;
-    let place = known.program.relations.len();
-    add_text(
+    make_room(
         alloc,
+        &mut known.program.relations,
         &mut known.tables.relations,
         relation.name.text(),
-        place,
     )?;
     known.program.relations.push_reserved(relation);
     Ok(())

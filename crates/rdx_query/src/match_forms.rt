@@ -81,16 +81,18 @@ pub(crate) fn read_query(alloc: Global, known: &mut Known, form: &Datum) -> Resu
     ensures same { known_of known.new ≡ known_of known.old }
 {
     let parts = check_shape(form)?;
-    let host = read_unbound(alloc, &known.scope, parts.host);
     match place_named(known, text(parts.language)) {
         Some(place) => {
             let name = known.program.languages[place].language().name.share()?;
+            let host = read_unbound(alloc, &known.scope, parts.host);
             let (pat, host) = both(read_over(alloc, known, place, parts.pattern), host)?;
             Ok(Asked { name, pat, host })
         }
         None => {
+            let mut empty = empty_language(alloc)?;
             let unknown = named(alloc, DefKind::UnknownLanguage, parts.language)?;
-            let pat = read_pattern(alloc, &mut empty_language(alloc)?, parts.pattern);
+            let pat = read_pattern(alloc, &mut empty, parts.pattern);
+            let host = read_unbound(alloc, &known.scope, parts.host);
             Err(first_fault(unknown, both(pat, host)))
         }
     }

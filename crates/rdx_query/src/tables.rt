@@ -1,5 +1,6 @@
 // Tables by which what a file defines is found by its name.
-ghost use Rattle.std.specs.Prelude.{◌≡◌, ℕ, List, [], ◌∷◌, ◌++◌, map, length, IfOk, OnOk, OnErr};
+ghost use Rattle.std.specs.Prelude.{◌≡◌, ◌<◌, ℕ, List, [], ◌∷◌, ◌++◌, map, length, IfOk, OnOk, OnErr};
+ghost use Rattle.std.specs.Vec.{vec_capacity, vec_len};
 ghost use Rattle.rdx_query.specs.Inside.Tabled.{AreTabled, FindsFirsts};
 ghost use Rattle.rdx_query.specs.Known.{empty_program};
 
@@ -41,6 +42,25 @@ pub(crate) fn add_text(
     let key = String::from_str(alloc, text)?;
     firsts.insert(key, place)?;
     Ok(())
+}
+
+/// Makes room for one more of these that are defined, and puts its name behind theirs. Where memory
+/// is wanting, no name is put there.
+pub(crate) fn make_room<T>(
+    alloc: Global,
+    defined: &mut Vec<T>,
+    firsts: &mut BTreeMap<String, usize>,
+    name: &str,
+) -> Result<(), NoMemory>
+    ensures room { OnOk result (vec_len defined.new < vec_capacity defined.new) }
+    ensures same { defined.new.items ≡ defined.old.items }
+    ensures added { OnOk result ((xs : List (List ℕ)) → length xs ≡ length defined.old.items
+        → FindsFirsts firsts.old xs → FindsFirsts firsts.new (xs ++ name.now ∷ [])) }
+    ensures kept { OnErr result ((xs : List (List ℕ))
+        → FindsFirsts firsts.old xs → FindsFirsts firsts.new xs) }
+{
+    defined.reserve(1)?;
+    add_text(alloc, firsts, name, defined.len())
 }
 
 // The names of judgements by their places.

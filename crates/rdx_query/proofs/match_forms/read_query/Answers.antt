@@ -24,6 +24,11 @@ read_unbound-host-requires c =
     let q = parts_of c.in_ok-parts.parts in
     host-readable (known_of c.args.known.now) c.args.form.now q c.in_ok-parts.ensures c.requires.readable
 
+pub read_unbound-host-requires-in-None : goal.read_unbound-host-requires-in-None
+read_unbound-host-requires-in-None c =
+    let q = parts_of c.in_ok-parts.parts in
+    host-readable (known_of c.args.known.now) c.args.form.now q c.in_ok-parts.ensures c.requires.readable
+
 pub read_over-requires-clause-readable : goal.read_over-requires-clause-readable
 read_over-requires-clause-readable c =
     let q = parts_of c.in_ok-parts.parts in
@@ -61,11 +66,11 @@ read_pattern-pat-requires c =
     let q = parts_of c.in_ok-parts.parts in
     pattern-readable (known_of c.args.known.now) c.args.form.now q c.in_ok-parts.ensures c.requires.readable
 
-pub returns-in_ok-empty_language-in-None-clause-asks : goal.returns-in_ok-empty_language-in-None-clause-asks
-returns-in_ok-empty_language-in-None-clause-asks c =
+pub returns-in_ok-unknown-in-None-clause-asks : goal.returns-in_ok-unknown-in-None-clause-asks
+returns-in_ok-unknown-in-None-clause-asks c =
     let q = parts_of c.in_ok-parts.parts in
     let K = known_of c.args.known.now in
     let n : language_named K.program (text_of q.language) ≡ None = ap (language_named K.program) (sym c.text.ensures) ∙ c.in-None.ensures.none in
-    unknown-fault K c.args.form.now q c.in_ok-parts.ensures (names_of (language_in c.in_ok-empty_language-in-None.field-0)) c.in_ok-unknown-in-None.unknown
-    c.read_pattern-pat.result c.read_unbound-host.result c.both-in-None.result c.first_fault.result n c.in_ok-empty_language-in-None.ensures c.in_ok-unknown-in-None.ensures
-    c.read_pattern-pat.ensures.reads c.read_unbound-host.ensures c.both-in-None.ensures.refused c.first_fault.ensures
+    unknown-fault K c.args.form.now q c.in_ok-parts.ensures (names_of (language_in c.in_ok-empty-in-None.empty)) c.in_ok-unknown-in-None.unknown
+    c.read_pattern-pat.result c.read_unbound-host-in-None.result c.both-in-None.result c.first_fault.result n c.in_ok-empty-in-None.ensures c.in_ok-unknown-in-None.ensures
+    c.read_pattern-pat.ensures.reads c.read_unbound-host-in-None.ensures c.both-in-None.ensures.refused c.first_fault.ensures
