@@ -1,4 +1,4 @@
-// Both matchers side by side, and a judgement that an engine with a matcher is asked.
+// Both matchers side by side, and what an engine with a matcher is asked by name.
 use crate::operations::host_table;
 use rdx_eval::Engine;
 use rdx_lang::{Binding, CheckedPat, HostExpr};
@@ -84,9 +84,10 @@ fn both_matchers_agree(rt: HostRuntime) -> Result<(), Fail> {
     Ok(())
 }
 
-// A judgement with two outputs for a number, and none for anything else.
-const JUDGEMENT: &[u8] = b"(define-language L (n number))
-(define-judgment-form L #:mode (J I O) [(J n n)] [(J n (n))])";
+// A judgement with two outputs for a number, and none for anything else, and a metafunction.
+const NAMED: &[u8] = b"(define-language L (n number))
+(define-judgment-form L #:mode (J I O) [(J n n)] [(J n (n))])
+(define-metafunction L [(f n) (n n)])";
 
 // The list of this term alone.
 fn alone(alloc: Global, t: Term) -> Result<Term, NoMemory> {
@@ -99,9 +100,9 @@ fn alone(alloc: Global, t: Term) -> Result<Term, NoMemory> {
 }
 
 #[test]
-fn judgements_are_asked(rt: HostRuntime) -> Result<(), Fail> {
+fn judgements_and_metafunctions_are_asked(rt: HostRuntime) -> Result<(), Fail> {
     let alloc = rt.alloc();
-    let data = read_all(alloc, JUDGEMENT)?;
+    let data = read_all(alloc, NAMED)?;
     let file = check_file(alloc, &data).expect(&rt, "a file that is accepted");
     let operations = host_table(&rt)?;
     let mut engine = Engine::new(alloc, &file.program, &operations, Table::new(alloc)?);
@@ -112,5 +113,11 @@ fn judgements_are_asked(rt: HostRuntime) -> Result<(), Fail> {
     assert!(rt; outputs.is_ok_and(|outputs| outputs.len() == 2));
     assert!(rt; matches!(engine.holds(&name, &number), Ok(true)));
     assert!(rt; matches!(engine.holds(&name, &truth), Ok(false)));
+    let f = Name::new(RcStr::from_str(alloc, "f")?).expect(&rt, "a name");
+    assert!(rt;
+        engine
+            .call(&f, &number)
+            .is_ok_and(|value| value.nodes() == 3)
+    );
     Ok(())
 }
