@@ -1,6 +1,6 @@
 -- A file has one transcript.
 use Rattle.std.proofs.Common.{◌≡◌, ℕ, List, [], ◌++◌, ap, sym, ◌∙◌, subst, codes, decimal, arith}
-use Rattle.rdx_grammar.specs.Refusal.{Refusal}
+use Rattle.rdx_patterns.specs.Refusal.{Refusal}
 use Rattle.rdx_query.specs.Writing.{Writes}
 use Rattle.rdx_query.specs.File.{IsFileRefusal}
 use Rattle.rdx_answer.specs.Workload as file

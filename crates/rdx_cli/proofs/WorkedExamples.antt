@@ -15,8 +15,8 @@ use Rattle.rdx_sexp.specs.Refusal.{refusal}
 use Rattle.rdx_sexp.specs.Sexp.{Sexp, integer, symbol, leaf, list, sexps}
 use Rattle.rdx_sexp.specs.Text.{Text}
 use Rattle.rdx_sexp.specs.declared.fault.ReadKind.TheVariants.{NotUtf8, WrongClose}
-use Rattle.rdx_grammar.specs.declared.shape.fault.DefKind.TheVariants.{UnknownLanguage}
-use Rattle.rdx_grammar.specs.Refusal.{named as named_refusal}
+use Rattle.rdx_patterns.specs.declared.shape.fault.DefKind.TheVariants.{UnknownLanguage}
+use Rattle.rdx_patterns.specs.Refusal.{named as named_refusal}
 use Rattle.rdx_answer.specs.Answering.{no_answers}
 use Rattle.rdx_query.specs.Definitions.{Defined}
 use Rattle.rdx_query.specs.Examples.{word, number, defines_L, asks, AnswersInOrder}

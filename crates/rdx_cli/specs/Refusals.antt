@@ -4,9 +4,9 @@ use Rattle.rdx_base.specs.declared.place.Place.{Place}
 use Rattle.rdx_sexp.specs.declared.fault.ReadKind.{ReadKind}
 use Rattle.rdx_sexp.specs.declared.fault.ReadKind.TheVariants.{NotUtf8, Unclosed, WrongClose, BadToken, NumberForm, NumberRange, BadString, TooDeep}
 use Rattle.rdx_sexp.specs.declared.fault.ReadRefusal.{ReadRefusal}
-use Rattle.rdx_grammar.specs.Refusal.{Refusal}
-use Rattle.rdx_grammar.specs.declared.shape.fault.DefKind.{DefKind}
-use Rattle.rdx_grammar.specs.declared.shape.fault.DefKind.TheVariants.{Unbuilt, Shape, UnknownLanguage, Duplicate, BadName, BadPattern, EllipsisDepth, LeftRecursive, UnknownName, EllipsisVariable, RacketEscape, Mode}
+use Rattle.rdx_patterns.specs.Refusal.{Refusal}
+use Rattle.rdx_patterns.specs.declared.shape.fault.DefKind.{DefKind}
+use Rattle.rdx_patterns.specs.declared.shape.fault.DefKind.TheVariants.{Unbuilt, Shape, UnknownLanguage, Duplicate, BadName, BadPattern, EllipsisDepth, LeftRecursive, UnknownName, EllipsisVariable, RacketEscape, Mode}
 
 -- the name of what a text is refused for
 abbrev pub read_name : ReadKind → List ℕ

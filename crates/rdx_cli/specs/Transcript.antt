@@ -3,7 +3,7 @@ use Rattle.std.specs.Prelude.{◌≡◌, ℕ, ◌<◌, ◌≤◌, Bool, true, fa
 use Rattle.rdx_sexp.specs.Reads.{Reads, FirstFault}
 use Rattle.rdx_sexp.specs.Sexp.{Sexp}
 use Rattle.rdx_sexp.specs.declared.fault.ReadRefusal.{ReadRefusal}
-use Rattle.rdx_grammar.specs.Refusal.{Refusal}
+use Rattle.rdx_patterns.specs.Refusal.{Refusal}
 use Rattle.rdx_query.specs.Writing.{Writes}
 use Rattle.rdx_query.specs.File.{IsFileRefusal}
 use Rattle.rdx_answer.specs.Workload as file

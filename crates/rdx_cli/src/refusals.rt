@@ -1,12 +1,12 @@
 // The lines that say why a file is refused, and where.
 ghost use Rattle.std.specs.Prelude.{◌≡◌, ◌++◌, IfOk, OnOk, option_map};
 ghost use Rattle.std.specs.Rc.{rc_str_bytes};
-ghost use Rattle.rdx_grammar.specs.Refusal.{refusal_of};
+ghost use Rattle.rdx_patterns.specs.Refusal.{refusal_of};
 ghost use Rattle.rdx_cli.specs.Refusals as refusals;
 
 use itoa::Buffer;
 use rdx_base::Place;
-use rdx_grammar::{DefKind, DefRefusal};
+use rdx_patterns::{DefKind, DefRefusal};
 use rdx_sexp::{ReadKind, ReadRefusal};
 use rdx_term::NoMemory;
 use std::alloc::Global;

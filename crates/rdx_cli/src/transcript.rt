@@ -9,7 +9,7 @@ use crate::refusals::form_line;
 use crate::words::{Row, numbers_in};
 use itoa::Buffer;
 use rdx_delta::HostTable;
-use rdx_grammar::DefFault;
+use rdx_patterns::DefFault;
 use rdx_query::{Answered, Mode, answer, check_file, workload_text};
 use rdx_term::NoMemory;
 use std::alloc::Global;

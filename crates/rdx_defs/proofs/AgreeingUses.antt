@@ -9,14 +9,14 @@ use Rattle.std.specs.List.{list_any, list_all}
 use Rattle.std.specs.Prelude.{◌&&◌, ◌||◌, not, bytes_eq, nat_eq, nat_lt}
 use Rattle.rdx_lang.specs.Depths.{agree, all_agree, is_shallow}
 use Rattle.rdx_lang.specs.Members.{In, here, there}
-use Rattle.rdx_grammar.specs.Names.{begins_with_dots}
-use Rattle.rdx_grammar.specs.Parts.{text_of}
-use Rattle.rdx_grammar.specs.PatternChecks as patterns
-use Rattle.rdx_grammar.specs.PatternChecks.{differ, clashes}
-use Rattle.rdx_grammar.proofs.Booleans.{and_both, or_false}
-use Rattle.rdx_grammar.proofs.DepthsRead.{bound_use}
-use Rattle.rdx_grammar.proofs.Firsts.{none_first}
-use Rattle.rdx_grammar.proofs.PassedPatterns.{AreBoundNames}
+use Rattle.rdx_patterns.specs.Names.{begins_with_dots}
+use Rattle.rdx_patterns.specs.Parts.{text_of}
+use Rattle.rdx_patterns.specs.PatternChecks as patterns
+use Rattle.rdx_patterns.specs.PatternChecks.{differ, clashes}
+use Rattle.rdx_patterns.proofs.Booleans.{and_both, or_false}
+use Rattle.rdx_patterns.proofs.DepthsRead.{bound_use}
+use Rattle.rdx_patterns.proofs.Firsts.{none_first}
+use Rattle.rdx_patterns.proofs.PassedPatterns.{AreBoundNames}
 
 -- ---- symbols that do not clash
 

@@ -8,12 +8,12 @@ use Rattle.std.specs.Prelude.{◌&&◌, not, Option, Some, None, bytes_eq, nat_e
 use Rattle.rdx_sexp.specs.Sexp.{Sexp}
 use Rattle.rdx_lang.specs.Members.{In, here, there}
 use Rattle.rdx_lang.proofs.MemberLaws.{in-append, append-right}
-use Rattle.rdx_grammar.specs.Parts.{text_of}
-use Rattle.rdx_grammar.specs.PatternChecks as patterns
-use Rattle.rdx_grammar.specs.PatternChecks.{when, differ, clashes}
-use Rattle.rdx_grammar.proofs.Among.{bytes_eq-sym}
-use Rattle.rdx_grammar.proofs.Booleans.{or_false, or_neither}
-use Rattle.rdx_grammar.proofs.Firsts.{none_first}
+use Rattle.rdx_patterns.specs.Parts.{text_of}
+use Rattle.rdx_patterns.specs.PatternChecks as patterns
+use Rattle.rdx_patterns.specs.PatternChecks.{when, differ, clashes}
+use Rattle.rdx_patterns.proofs.Among.{bytes_eq-sym}
+use Rattle.rdx_patterns.proofs.Booleans.{or_false, or_neither}
+use Rattle.rdx_patterns.proofs.Firsts.{none_first}
 use Rattle.rdx_parts.specs.Bound.{Bound, depth_of}
 use Rattle.rdx_parts.specs.StandChecks.{is_bound_as, is_other, other_depths}
 use Rattle.rdx_parts.specs.Stands.{names_bound, bound_freshly}

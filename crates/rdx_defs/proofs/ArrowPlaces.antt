@@ -3,9 +3,9 @@ use Rattle.std.proofs.Common.{◌≡◌, ◌∙◌, ℕ, List, [], ◌∷◌, re
 use Rattle.std.specs.List.{list_any}
 use Rattle.std.specs.Prelude.{◌||◌, bytes_eq, is_some}
 use Rattle.rdx_lang.proofs.FirstPlaces.{place-some}
-use Rattle.rdx_grammar.proofs.Among.{bytes_eq-sym}
-use Rattle.rdx_grammar.specs.Kinds.{is_among}
-use Rattle.rdx_grammar.specs.Parts.{text_of}
+use Rattle.rdx_patterns.proofs.Among.{bytes_eq-sym}
+use Rattle.rdx_patterns.specs.Kinds.{is_among}
+use Rattle.rdx_patterns.specs.Parts.{text_of}
 use Rattle.rdx_defs.specs.Expansion.{new_arrows}
 use Rattle.rdx_defs.specs.Inside.Arrows.{place_from}
 use Rattle.rdx_defs.specs.Shorthand.{Shortcut}

@@ -2,12 +2,12 @@
 use Rattle.std.proofs.Common.{◌≡◌, ℕ, List, [], ◌∷◌}
 use Rattle.rdx_base.specs.declared.place.Span.{Span}
 use Rattle.rdx_sexp.specs.Sexp.{Sexp, Sexps, list, nil, cons, sexps}
-use Rattle.rdx_grammar.specs.Ends.{ends_in, ends_among}
-use Rattle.rdx_grammar.specs.Inside.Among.{AreAmong}
-use Rattle.rdx_grammar.specs.Parts.{listed}
-use Rattle.rdx_grammar.specs.PatternChecks.{bad_binders}
-use Rattle.rdx_grammar.specs.Readable.{IsReadable}
-use Rattle.rdx_grammar.proofs.KnownReadings.{items-among, first-among, rest-among, all-among}
+use Rattle.rdx_patterns.specs.Ends.{ends_in, ends_among}
+use Rattle.rdx_patterns.specs.Inside.Among.{AreAmong}
+use Rattle.rdx_patterns.specs.Parts.{listed}
+use Rattle.rdx_patterns.specs.PatternChecks.{bad_binders}
+use Rattle.rdx_patterns.specs.Readable.{IsReadable}
+use Rattle.rdx_patterns.proofs.KnownReadings.{items-among, first-among, rest-among, all-among}
 use Rattle.rdx_parts.specs.Outlines.{Takes, one, several, each, taken_occurrences}
 use Rattle.rdx_parts.specs.PartsHave.{AreReadableItems, IsReadableTaken, CanBind}
 use Rattle.rdx_defs.proofs.BoundParts.{can-bind}

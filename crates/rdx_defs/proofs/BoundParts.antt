@@ -5,15 +5,15 @@ use Rattle.std.specs.Prelude.{Option, Some, None, flat_map, codes}
 use Rattle.rdx_sexp.specs.Sexp.{Sexp, leaf, list, integer, truth, text, symbol, keyword, sexps}
 use Rattle.rdx_term.specs.Spelling.{is_name}
 use Rattle.rdx_lang.specs.Programs.{Mode}
-use Rattle.rdx_grammar.specs.Occurrences.{Occurrence, occurrences}
-use Rattle.rdx_grammar.specs.Names.{is_bad_name}
-use Rattle.rdx_grammar.specs.Parts.{text_of, is_symbol}
-use Rattle.rdx_grammar.specs.Readable.{IsReadable}
-use Rattle.rdx_grammar.specs.PatternChecks.{Bound, bad_binder, bad_binders}
-use Rattle.rdx_grammar.specs.declared.patterns.position.Position.TheVariants.{Query}
-use Rattle.rdx_grammar.proofs.Firsts.{none_both, none_first}
-use Rattle.rdx_grammar.proofs.NamedForms.{name-spelled, language-not_hole}
-use Rattle.rdx_grammar.proofs.PassedPatterns.{AreWritten, AreBoundNames, pattern-written, items-written, bound-are-names}
+use Rattle.rdx_patterns.specs.Occurrences.{Occurrence, occurrences}
+use Rattle.rdx_patterns.specs.Names.{is_bad_name}
+use Rattle.rdx_patterns.specs.Parts.{text_of, is_symbol}
+use Rattle.rdx_patterns.specs.Readable.{IsReadable}
+use Rattle.rdx_patterns.specs.PatternChecks.{Bound, bad_binder, bad_binders}
+use Rattle.rdx_patterns.specs.declared.patterns.position.Position.TheVariants.{Query}
+use Rattle.rdx_patterns.proofs.Firsts.{none_both, none_first}
+use Rattle.rdx_patterns.proofs.SpelledNames.{name-spelled, language-not_hole}
+use Rattle.rdx_patterns.proofs.PassedPatterns.{AreWritten, AreBoundNames, pattern-written, items-written, bound-are-names}
 use Rattle.rdx_parts.specs.Arguments.{Arguments, is_misfit, data_at, data_by, patterns_in}
 use Rattle.rdx_parts.specs.ExtraForms.{ExtraForm, such_that, provided, confirmed, holding, freshly, name, no_extra, ExtraPlace, of_rule, form_at}
 use Rattle.rdx_parts.specs.Headed.{Headed, headed}

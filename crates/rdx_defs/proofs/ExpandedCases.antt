@@ -2,9 +2,9 @@
 use Rattle.std.proofs.Common.{◌≡◌, ◌∙◌, ◌+◌, ◌<◌, ◌≤◌, ℕ, zero, suc, Bool, true, false, List, [], ◌∷◌, Option, Some, None, length, take, get_or, refl, sym, ap, arith, if◌then◌else◌}
 use Rattle.std.proofs.lemmas.Bool.Decides.{nat_tests}
 use Rattle.std.specs.Prelude.{◌||◌, bytes_eq, nat_lt}
-use Rattle.rdx_grammar.specs.Kinds.{is_among}
-use Rattle.rdx_grammar.specs.Parts.{text_of}
-use Rattle.rdx_grammar.proofs.Firsts.{none_first}
+use Rattle.rdx_patterns.specs.Kinds.{is_among}
+use Rattle.rdx_patterns.specs.Parts.{text_of}
+use Rattle.rdx_patterns.proofs.Firsts.{none_first}
 use Rattle.rdx_defs.specs.Expansion.{by_shortcut, once_expanded, expanded_case, new_arrows, repeated_arrows}
 use Rattle.rdx_lang.proofs.FirstPlaces.{place-above, place-within}
 use Rattle.rdx_defs.specs.Inside.Arrows.{place_from, below}

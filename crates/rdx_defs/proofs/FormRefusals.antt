@@ -2,10 +2,10 @@
 use Rattle.std.proofs.Common.{◌≡◌, ◌++◌, ◌∙◌, ℕ, List, [], ◌∷◌, Option, Some, None, map, refl, sym, ap}
 use Rattle.std.specs.Prelude.{option_map}
 use Rattle.rdx_sexp.specs.Sexp.{Sexp}
-use Rattle.rdx_grammar.specs.Refusal.{Refusal, unnamed, named, or_else, first_refusal}
-use Rattle.rdx_grammar.specs.Unbuilt.{unbuilt_at}
-use Rattle.rdx_grammar.specs.declared.shape.fault.DefKind.TheVariants.{Shape, BadName, BadPattern, EllipsisDepth, UnknownName, EllipsisVariable, RacketEscape}
-use Rattle.rdx_grammar.proofs.Firsts.{none_of}
+use Rattle.rdx_patterns.specs.Refusal.{Refusal, unnamed, named, or_else, first_refusal}
+use Rattle.rdx_patterns.specs.Unbuilt.{unbuilt_at}
+use Rattle.rdx_patterns.specs.declared.shape.fault.DefKind.TheVariants.{Shape, BadName, BadPattern, EllipsisDepth, UnknownName, EllipsisVariable, RacketEscape}
+use Rattle.rdx_patterns.proofs.Firsts.{none_of}
 use Rattle.rdx_parts.specs.Earliest.{start, earliest}
 use Rattle.rdx_defs.specs.Inside.BareForms as bare_stands
 use Rattle.rdx_defs.specs.Inside.FormOutlines.{relation_outline, metafunction_outline, judgement_outline, question_outline}

@@ -8,13 +8,13 @@ use Rattle.rdx_sexp.specs.Sexp.{Sexp, Sexps, leaf, list, nil, cons, sexps, integ
 use Rattle.rdx_sexp.specs.Size.{sexp_depth, sexps_depth, AreSpelled}
 use Rattle.rdx_term.specs.Spelling.{is_name}
 use Rattle.rdx_lang.specs.Programs.{Mode}
-use Rattle.rdx_grammar.specs.Heads.{Roles, patterns as items_of_list, next, rest}
-use Rattle.rdx_grammar.specs.Names.{is_one_of, begins_with_dots}
-use Rattle.rdx_grammar.specs.Parts.{listed, parts, text_of, is_symbol, is_word}
-use Rattle.rdx_grammar.specs.Readable.{IsReadable}
-use Rattle.rdx_grammar.specs.Reading.{is_pattern}
-use Rattle.rdx_grammar.proofs.Booleans.{and_true, not_true, or_false}
-use Rattle.rdx_grammar.proofs.NamedForms.{name-spelled}
+use Rattle.rdx_patterns.specs.Heads.{Roles, patterns as items_of_list, next, rest}
+use Rattle.rdx_patterns.specs.Names.{is_one_of, begins_with_dots}
+use Rattle.rdx_patterns.specs.Parts.{listed, parts, text_of, is_symbol, is_word}
+use Rattle.rdx_patterns.specs.Readable.{IsReadable}
+use Rattle.rdx_patterns.specs.Reading.{is_pattern}
+use Rattle.rdx_patterns.proofs.Booleans.{and_true, not_true, or_false}
+use Rattle.rdx_patterns.proofs.SpelledNames.{name-spelled}
 use Rattle.rdx_parts.specs.Arguments.{Arguments, patterns_in, data_at, data_by}
 use Rattle.rdx_parts.specs.ExtraForms.{ExtraForm, such_that, provided, confirmed, holding, freshly, no_extra, ExtraPlace, of_case, of_clause, of_rule, condition_behind, fresh_names, extra_among, extra_form, is_extra_head, extra_behind, premise_among, form_at}
 use Rattle.rdx_parts.specs.Headed.{Headed, headed_among, headed}

@@ -3,9 +3,9 @@ use Rattle.std.proofs.Common.{◌≡◌, ◌++◌, ◌∙◌, Bool, true, false,
 use Rattle.std.proofs.lemmas.List.{map-append}
 use Rattle.std.specs.Prelude.{Option, Some, None}
 use Rattle.rdx_sexp.specs.Sexp.{Sexp, Sexps, sexps, nil, cons}
-use Rattle.rdx_grammar.specs.Heads.{Roles, patterns as items_of_list, next, rest}
-use Rattle.rdx_grammar.specs.Occurrences.{occurrences}
-use Rattle.rdx_grammar.specs.Reading.{is_pattern}
+use Rattle.rdx_patterns.specs.Heads.{Roles, patterns as items_of_list, next, rest}
+use Rattle.rdx_patterns.specs.Occurrences.{occurrences}
+use Rattle.rdx_patterns.specs.Reading.{is_pattern}
 use Rattle.rdx_parts.specs.BareStands.{lone_pattern}
 use Rattle.rdx_defs.specs.Inside.FormOutlines.{domain_patterns, pattern_when, patterns_among, contract_patterns}
 use Rattle.rdx_defs.specs.MetafunctionForms.{ContractForm}

@@ -4,7 +4,7 @@ use Rattle.std.proofs.lemmas.List.{map-id}
 use Rattle.std.specs.Prelude.{codes}
 use Rattle.rdx_base.specs.declared.place.Span.{Span}
 use Rattle.rdx_sexp.specs.Sexp.{Atom, Sexp, leaf, list, cons, sexps}
-use Rattle.rdx_grammar.specs.Parts.{is_word, text_of}
+use Rattle.rdx_patterns.specs.Parts.{is_word, text_of}
 use Rattle.rdx_defs.specs.Expansion.{replaced, replaced_in, settled}
 use Rattle.rdx_defs.specs.Inside.Filling.{symbol_in, nested, outermost, filled, is_replaced, by_shortcuts, old_arrow, parts_by, case_parts}
 use Rattle.rdx_defs.specs.RelationForms.{CaseForm}

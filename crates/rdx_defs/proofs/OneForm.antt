@@ -1,9 +1,9 @@
 -- A datum is one relation at most, or it has one refusal as one; and so it is with metafunctions and judgements.
 use Rattle.std.proofs.Common.{◌≡◌, Option, Some, None, refl, sym, ap, ◌∙◌, ◌⊎◌, inl, inr}
 use Rattle.std.specs.Prelude.{IsSome}
-use Rattle.rdx_grammar.specs.Refusal.{Refusal, unnamed, refusal_of, or_else}
-use Rattle.rdx_grammar.specs.Unbuilt.{unbuilt_at}
-use Rattle.rdx_grammar.specs.declared.shape.fault.DefKind.TheVariants.{Shape}
+use Rattle.rdx_patterns.specs.Refusal.{Refusal, unnamed, refusal_of, or_else}
+use Rattle.rdx_patterns.specs.Unbuilt.{unbuilt_at}
+use Rattle.rdx_patterns.specs.declared.shape.fault.DefKind.TheVariants.{Shape}
 use Rattle.rdx_defs.specs.JudgementForms.{judgement_form}
 use Rattle.rdx_defs.specs.JudgementLaws.{OneJudgement, OneJudgementRefusal, NeverBothJudgement, NeverNeitherJudgement}
 use Rattle.rdx_defs.specs.JudgementReading.{judgement_reading}

@@ -3,8 +3,8 @@ use Rattle.std.proofs.Common.{◌≡◌, true, List, [], ◌∷◌, IsTrue}
 use Rattle.std.specs.Prelude.{Option, Some, None}
 use Rattle.rdx_sexp.specs.Sexp.{Sexp, Sexps, list}
 use Rattle.rdx_term.specs.Spelling.{is_name}
-use Rattle.rdx_grammar.specs.Parts.{listed, text_of, is_symbol}
-use Rattle.rdx_grammar.specs.Readable.{IsReadable}
+use Rattle.rdx_patterns.specs.Parts.{listed, text_of, is_symbol}
+use Rattle.rdx_patterns.specs.Readable.{IsReadable}
 use Rattle.rdx_parts.specs.Headed.{Headed}
 use Rattle.rdx_defs.specs.Inside.FormOutlines.{domain_patterns}
 use Rattle.rdx_parts.specs.Outlines.{Takes, one, several, each}

@@ -6,12 +6,12 @@ use Rattle.rdx_sexp.specs.Sexp.{Sexp}
 use Rattle.rdx_term.specs.Spelling.{is_name}
 use Rattle.rdx_lang.specs.Patterns.{Language}
 use Rattle.rdx_lang.specs.Valid.{is_valid_clause, is_valid_contract, is_valid_metafunction, is_valid_over}
-use Rattle.rdx_grammar.specs.Ends.{ends_in, crossed_for}
-use Rattle.rdx_grammar.specs.Nonterminals.{names_of}
-use Rattle.rdx_grammar.specs.Parts.{text_of}
-use Rattle.rdx_grammar.specs.Readable.{IsReadable}
-use Rattle.rdx_grammar.proofs.Booleans.{and_both}
-use Rattle.rdx_grammar.proofs.Firsts.{none_first}
+use Rattle.rdx_patterns.specs.Ends.{ends_in, crossed_for}
+use Rattle.rdx_patterns.specs.Nonterminals.{names_of}
+use Rattle.rdx_patterns.specs.Parts.{text_of}
+use Rattle.rdx_patterns.specs.Readable.{IsReadable}
+use Rattle.rdx_patterns.proofs.Booleans.{and_both}
+use Rattle.rdx_patterns.proofs.Firsts.{none_first}
 use Rattle.rdx_defs.specs.Inside.BareForms as bare_stands
 use Rattle.rdx_defs.specs.Inside.FormOutlines.{relation_outline, clause_branches, metafunction_outline, judgement_outline, question_outline}
 use Rattle.rdx_defs.specs.Inside.BranchReadings.{branch_metafunction}

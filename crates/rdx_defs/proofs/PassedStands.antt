@@ -11,15 +11,15 @@ use Rattle.rdx_lang.specs.Depths.{Use}
 use Rattle.rdx_lang.specs.Fitting.{fits, fits_in}
 use Rattle.rdx_lang.specs.Programs.{Mode}
 use Rattle.rdx_lang.specs.Scopes.{bound_by}
-use Rattle.rdx_grammar.specs.Names.{begins_with_dots, is_bad_name}
-use Rattle.rdx_grammar.specs.Occurrences.{Occurrence, occurrences}
-use Rattle.rdx_grammar.specs.Parts.{text_of}
-use Rattle.rdx_grammar.specs.PatternChecks as patterns
-use Rattle.rdx_grammar.specs.PatternChecks.{keyword_faults, bad_binder, bad_binders, bad_occurrence, bad_occurrences}
-use Rattle.rdx_grammar.specs.declared.patterns.position.Position.TheVariants.{Query}
-use Rattle.rdx_grammar.proofs.Booleans.{and_true, and_both, or_true}
-use Rattle.rdx_grammar.proofs.DepthsRead.{bound_use}
-use Rattle.rdx_grammar.proofs.Firsts.{none_both, none_first}
+use Rattle.rdx_patterns.specs.Names.{begins_with_dots, is_bad_name}
+use Rattle.rdx_patterns.specs.Occurrences.{Occurrence, occurrences}
+use Rattle.rdx_patterns.specs.Parts.{text_of}
+use Rattle.rdx_patterns.specs.PatternChecks as patterns
+use Rattle.rdx_patterns.specs.PatternChecks.{keyword_faults, bad_binder, bad_binders, bad_occurrence, bad_occurrences}
+use Rattle.rdx_patterns.specs.declared.patterns.position.Position.TheVariants.{Query}
+use Rattle.rdx_patterns.proofs.Booleans.{and_true, and_both, or_true}
+use Rattle.rdx_patterns.proofs.DepthsRead.{bound_use}
+use Rattle.rdx_patterns.proofs.Firsts.{none_both, none_first}
 use Rattle.rdx_parts.specs.Arguments.{Arguments, fitting, is_misfit, data_at, data_by, patterns_in, templates_in}
 use Rattle.rdx_parts.specs.Bound.{Bound, is_bound}
 use Rattle.rdx_parts.specs.ExtraReading.{templates_reading}

@@ -10,17 +10,17 @@ use Rattle.rdx_lang.specs.Modes.{input_count, output_count, are_single}
 use Rattle.rdx_lang.specs.Patterns.{Language}
 use Rattle.rdx_lang.specs.Programs.{Mode}
 use Rattle.rdx_lang.specs.WellFormed.{defined, has_known_nonterminals, have_known_nonterminals}
-use Rattle.rdx_grammar.specs.Ends.{crossed_for}
-use Rattle.rdx_grammar.specs.Nonterminals.{names_of}
-use Rattle.rdx_grammar.specs.Occurrences.{occurrences}
-use Rattle.rdx_grammar.specs.PatternChecks.{bad_binder, bad_binders, bad_occurrence, bad_occurrences, bound_by, all_bound, depth_clashes}
-use Rattle.rdx_grammar.specs.Reading.{reading}
-use Rattle.rdx_grammar.specs.declared.patterns.position.Position.TheVariants.{Query}
-use Rattle.rdx_grammar.proofs.Booleans.{and_both}
-use Rattle.rdx_grammar.proofs.DepthsRead.{bound_use, reading-makes}
-use Rattle.rdx_grammar.proofs.Firsts.{none_both}
-use Rattle.rdx_grammar.proofs.PassedPatterns.{are-passed, pattern-written, bound-are-names}
-use Rattle.rdx_grammar.proofs.KnownReadings.{pattern_known}
+use Rattle.rdx_patterns.specs.Ends.{crossed_for}
+use Rattle.rdx_patterns.specs.Nonterminals.{names_of}
+use Rattle.rdx_patterns.specs.Occurrences.{occurrences}
+use Rattle.rdx_patterns.specs.PatternChecks.{bad_binder, bad_binders, bad_occurrence, bad_occurrences, bound_by, all_bound, depth_clashes}
+use Rattle.rdx_patterns.specs.Reading.{reading}
+use Rattle.rdx_patterns.specs.declared.patterns.position.Position.TheVariants.{Query}
+use Rattle.rdx_patterns.proofs.Booleans.{and_both}
+use Rattle.rdx_patterns.proofs.DepthsRead.{bound_use, reading-makes}
+use Rattle.rdx_patterns.proofs.Firsts.{none_both}
+use Rattle.rdx_patterns.proofs.PassedPatterns.{are-passed, pattern-written, bound-are-names}
+use Rattle.rdx_patterns.proofs.KnownReadings.{pattern_known}
 use Rattle.rdx_parts.specs.Arguments.{data_at}
 use Rattle.rdx_parts.specs.ExtraReading.{items_reading, list_reading}
 use Rattle.rdx_parts.specs.Outlines.{each}

@@ -6,7 +6,7 @@ use Rattle.std.specs.declared.alloc.Global.{Global}
 use Rattle.rdx_base.specs.declared.place.Span.{Span}
 use Rattle.rdx_sexp.specs.Sexp.{Sexp, Sexps, leaf, list, nil, cons, sexps, span_of}
 use Rattle.rdx_term.specs.declared.error.NoMemory.{NoMemory}
-use Rattle.rdx_grammar.specs.Parts.{listed, is_symbol, is_word}
+use Rattle.rdx_patterns.specs.Parts.{listed, is_symbol, is_word}
 use Rattle.rdx_defs.specs.Expansion.{settled, expanded_by, used_shortcuts, expanded_cases, expanded_form}
 use Rattle.rdx_defs.specs.RelationEnds.{expanded_ends, ends_by, relation_ends}
 use Rattle.rdx_defs.specs.RelationForms.{CaseForm, case_among, case_form, RelationForm, relation_form}

@@ -5,7 +5,7 @@ use Rattle.rdx_sexp.specs.declared.datum.Datum.{Datum}
 use Rattle.rdx_lang.specs.Programs.{Premise}
 use Rattle.rdx_lang.specs.ProgramView.{premise_of}
 use Rattle.rdx_lang.specs.declared.program.Premise as code
-use Rattle.rdx_grammar.specs.Readable.{IsReadable}
+use Rattle.rdx_patterns.specs.Readable.{IsReadable}
 use Rattle.rdx_parts.specs.Headed.{Headed}
 use Rattle.rdx_parts.specs.PartsHave.{IsReadableIn}
 use Rattle.rdx_defs.specs.JudgementForms.{JudgementForm, judgement_in, mode_form, mode_given, own_mode}

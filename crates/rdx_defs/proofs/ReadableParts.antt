@@ -3,8 +3,8 @@ use Rattle.std.proofs.Common.{◌<◌, suc, List, [], ◌∷◌, arith}
 use Rattle.rdx_base.specs.declared.place.Span.{Span}
 use Rattle.rdx_sexp.specs.Sexp.{Sexp, Sexps, list}
 use Rattle.rdx_sexp.specs.Size.{sexps_depth}
-use Rattle.rdx_grammar.specs.Parts.{listed}
-use Rattle.rdx_grammar.specs.Readable.{IsReadable}
+use Rattle.rdx_patterns.specs.Parts.{listed}
+use Rattle.rdx_patterns.specs.Readable.{IsReadable}
 use Rattle.rdx_parts.specs.PartsHave.{AreReadable, IsReadableTaken}
 use Rattle.rdx_defs.proofs.InheritedParts.{items-readable, all-readable}
 use Rattle.rdx_defs.proofs.PartsOfForms.{Each, IsInherited}

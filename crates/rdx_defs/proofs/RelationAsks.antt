@@ -3,9 +3,9 @@ use Rattle.std.proofs.Common.{ℕ, List, [], ◌∷◌, Option, Some, None}
 use Rattle.std.specs.Prelude.{flat_map}
 use Rattle.rdx_sexp.specs.Sexp.{Sexp}
 use Rattle.rdx_lang.proofs.MemberLaws.{append-left, append-right}
-use Rattle.rdx_grammar.specs.Ends.{ends_in}
-use Rattle.rdx_grammar.specs.Inside.Among.{AreAmong}
-use Rattle.rdx_grammar.specs.Readable.{IsReadable}
+use Rattle.rdx_patterns.specs.Ends.{ends_in}
+use Rattle.rdx_patterns.specs.Inside.Among.{AreAmong}
+use Rattle.rdx_patterns.specs.Readable.{IsReadable}
 use Rattle.rdx_defs.specs.Inside.FormOutlines.{domain_patterns}
 use Rattle.rdx_defs.specs.RelationEnds.{domain_ends, expanded_ends}
 use Rattle.rdx_defs.specs.RelationForms.{RelationForm}

@@ -6,8 +6,8 @@ use Rattle.rdx_sexp.specs.Sexp.{Sexp}
 use Rattle.rdx_term.specs.Spelling.{is_name}
 use Rattle.rdx_term.specs.declared.name.Name.{Name}
 use Rattle.rdx_lang.specs.Programs.{Mode}
-use Rattle.rdx_grammar.specs.Parts.{parts, text_of}
-use Rattle.rdx_grammar.proofs.ReadItems.{name-some, name-none}
+use Rattle.rdx_patterns.specs.Parts.{parts, text_of}
+use Rattle.rdx_patterns.proofs.ReadItems.{name-some, name-none}
 use Rattle.rdx_defs.specs.Inside.ScopeParts.{defining_form}
 use Rattle.rdx_defs.specs.JudgementForms.{JudgementForm, judgement_form}
 use Rattle.rdx_defs.specs.Scopes.{with_mode, judgement_moded, begins_with, defined_judgements, language_text, defined_languages}

@@ -1,9 +1,9 @@
 -- What stands in shortcuts, from one of them on.
 use Rattle.std.proofs.Common.{◌≡◌, ◌++◌, ◌∙◌, ◌+◌, ◌<◌, ℕ, List, [], ◌∷◌, Option, Some, None, length, get_or, drop, refl, sym, ap, if◌then◌else◌}
 use Rattle.rdx_sexp.specs.Sexp.{Sexp}
-use Rattle.rdx_grammar.specs.Inside.Repeats.{HaveSame}
-use Rattle.rdx_grammar.specs.Parts.{text_of}
-use Rattle.rdx_grammar.proofs.Rests.{drop-at}
+use Rattle.rdx_patterns.specs.Inside.Repeats.{HaveSame}
+use Rattle.rdx_patterns.specs.Parts.{text_of}
+use Rattle.rdx_patterns.proofs.Rests.{drop-at}
 use Rattle.rdx_defs.specs.RelationStands.{shortcut_stands, arrows_with, shortcuts_stand}
 use Rattle.rdx_defs.specs.Shorthand.{Shortcut, shortcut_form}
 use Rattle.rdx_parts.specs.Stands.{Stand, arrow, repeated}

@@ -3,8 +3,8 @@ use Rattle.std.proofs.Common.{◌≡◌, ◌++◌, ◌∙◌, ◌+◌, ◌<◌, 
 use Rattle.std.proofs.lemmas.List.{append_assoc, drop_all, take_all, take_more}
 use Rattle.std.specs.Prelude.{codes}
 use Rattle.rdx_sexp.specs.Sexp.{Sexp}
-use Rattle.rdx_grammar.specs.Parts.{is_word}
-use Rattle.rdx_grammar.proofs.Rests.{drop-at}
+use Rattle.rdx_patterns.specs.Parts.{is_word}
+use Rattle.rdx_patterns.proofs.Rests.{drop-at}
 use Rattle.rdx_defs.specs.Shorthand.{before_with, behind_with}
 
 -- what stands before it, of data that begin with `with` or do not

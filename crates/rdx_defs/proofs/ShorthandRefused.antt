@@ -5,11 +5,11 @@ use Rattle.std.specs.Cmp.Lexicographic.{bytes_decides}
 use Rattle.std.specs.Prelude.{◌||◌, not, bytes_eq, codes, is_none, is_some, option_map}
 use Rattle.rdx_lang.proofs.Rest.{rest_at}
 use Rattle.rdx_sexp.specs.Sexp.{Sexp}
-use Rattle.rdx_grammar.specs.Inside.Repeats.{HaveSame}
-use Rattle.rdx_grammar.specs.Kinds.{is_among}
-use Rattle.rdx_grammar.specs.Parts.{is_word, text_of}
-use Rattle.rdx_grammar.specs.Refusal.{first, or_else}
-use Rattle.rdx_grammar.proofs.Firsts.{first-append, none_first}
+use Rattle.rdx_patterns.specs.Inside.Repeats.{HaveSame}
+use Rattle.rdx_patterns.specs.Kinds.{is_among}
+use Rattle.rdx_patterns.specs.Parts.{is_word, text_of}
+use Rattle.rdx_patterns.specs.Refusal.{first, or_else}
+use Rattle.rdx_patterns.proofs.Firsts.{first-append, none_first}
 use Rattle.rdx_defs.specs.Expansion.{repeated_arrows, unknown_olds, new_arrows}
 use Rattle.rdx_defs.specs.Inside.Arrows.{again}
 use Rattle.rdx_defs.specs.Inside.ShortcutViews.{shortcut_of, shortcuts_in}

@@ -5,8 +5,8 @@ use Rattle.std.specs.declared.alloc.Global.{Global}
 use Rattle.rdx_sexp.specs.Sexp.{Sexp, Sexps, leaf, list, nil, cons, sexps}
 use Rattle.rdx_sexp.specs.Size.{sexps_depth, IsSpelledSexp, AreSpelled}
 use Rattle.rdx_term.specs.declared.error.NoMemory.{NoMemory}
-use Rattle.rdx_grammar.specs.Kinds.{is_among}
-use Rattle.rdx_grammar.specs.Parts.{parts, listed, is_symbol, is_word, text_of}
+use Rattle.rdx_patterns.specs.Kinds.{is_among}
+use Rattle.rdx_patterns.specs.Parts.{parts, listed, is_symbol, is_word, text_of}
 use Rattle.rdx_defs.specs.Expansion.{replaced, replaced_in, by_shortcut, once_expanded, expanded_case, settled, expanded_by, used_shortcuts}
 use Rattle.rdx_defs.specs.Inside.Filling.{deepest}
 use Rattle.rdx_parts.specs.PartsHave.{AreReadable}

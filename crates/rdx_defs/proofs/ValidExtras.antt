@@ -14,21 +14,21 @@ use Rattle.rdx_lang.specs.Programs.{Mode, holds}
 use Rattle.rdx_lang.specs.Scopes.{bound_by, extras_uses}
 use Rattle.rdx_lang.specs.Valid.{is_used, is_valid_extra, are_valid_extras}
 use Rattle.rdx_lang.specs.WellFormed.{defined, has_known_nonterminals, have_known_nonterminals, is_well_formed_in}
-use Rattle.rdx_grammar.specs.Ends.{crossed_for}
-use Rattle.rdx_grammar.specs.Names.{is_bad_name, begins_with_dots}
-use Rattle.rdx_grammar.specs.Nonterminals.{names_of}
-use Rattle.rdx_grammar.specs.Occurrences.{occurrences}
-use Rattle.rdx_grammar.specs.Parts.{text_of}
-use Rattle.rdx_grammar.specs.PatternChecks as patterns
-use Rattle.rdx_grammar.specs.PatternChecks.{clashes}
-use Rattle.rdx_grammar.specs.Reading.{reading}
-use Rattle.rdx_grammar.specs.declared.patterns.position.Position.TheVariants.{Query}
-use Rattle.rdx_grammar.proofs.Among.{bytes_eq-sym}
-use Rattle.rdx_grammar.proofs.Booleans.{and_both, or_false}
-use Rattle.rdx_grammar.proofs.DepthsRead.{bound_use, reading-makes, items-make}
-use Rattle.rdx_grammar.proofs.FittingNames.{fitting-reading, fitting-items}
-use Rattle.rdx_grammar.proofs.PassedPatterns.{are-passed}
-use Rattle.rdx_grammar.proofs.KnownReadings.{pattern_known, items_known_to}
+use Rattle.rdx_patterns.specs.Ends.{crossed_for}
+use Rattle.rdx_patterns.specs.Names.{is_bad_name, begins_with_dots}
+use Rattle.rdx_patterns.specs.Nonterminals.{names_of}
+use Rattle.rdx_patterns.specs.Occurrences.{occurrences}
+use Rattle.rdx_patterns.specs.Parts.{text_of}
+use Rattle.rdx_patterns.specs.PatternChecks as patterns
+use Rattle.rdx_patterns.specs.PatternChecks.{clashes}
+use Rattle.rdx_patterns.specs.Reading.{reading}
+use Rattle.rdx_patterns.specs.declared.patterns.position.Position.TheVariants.{Query}
+use Rattle.rdx_patterns.proofs.Among.{bytes_eq-sym}
+use Rattle.rdx_patterns.proofs.Booleans.{and_both, or_false}
+use Rattle.rdx_patterns.proofs.DepthsRead.{bound_use, reading-makes, items-make}
+use Rattle.rdx_patterns.proofs.FittingNames.{fitting-reading, fitting-items}
+use Rattle.rdx_patterns.proofs.PassedPatterns.{are-passed}
+use Rattle.rdx_patterns.proofs.KnownReadings.{pattern_known, items_known_to}
 use Rattle.rdx_parts.specs.Arguments.{is_misfit, data_at, data_by, patterns_in, templates_in}
 use Rattle.rdx_parts.specs.ExtraForms.{ExtraForm, such_that, provided, confirmed, holding, freshly, name, no_extra, ExtraPlace, form_at}
 use Rattle.rdx_parts.specs.ExtraReading.{items_reading, list_reading, premise_reading, held_reading, extra_reading, extras_reading}

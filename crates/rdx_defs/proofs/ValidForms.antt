@@ -13,15 +13,15 @@ use Rattle.rdx_lang.specs.Programs.{Clause}
 use Rattle.rdx_lang.specs.Scopes.{bound_by, case_uses}
 use Rattle.rdx_lang.specs.Valid.{are_valid_extras, is_valid_case, is_valid_clause, is_valid_contract, is_valid_rule, is_valid_domain, is_valid_over}
 use Rattle.rdx_lang.specs.WellFormed.{defined, has_known_nonterminals, have_known_nonterminals, is_well_formed_in}
-use Rattle.rdx_grammar.specs.Ends.{crossed_for}
-use Rattle.rdx_grammar.specs.Heads.{Roles, patterns as items_of_list, next, rest}
-use Rattle.rdx_grammar.specs.Nonterminals.{names_of}
-use Rattle.rdx_grammar.specs.Parts.{text_of}
-use Rattle.rdx_grammar.specs.Reading.{reading, items_among, is_pattern, ellipsis_behind, item_slot, with_item}
-use Rattle.rdx_grammar.specs.declared.patterns.position.Position.TheVariants.{Query}
-use Rattle.rdx_grammar.proofs.Booleans.{and_true, and_both}
-use Rattle.rdx_grammar.proofs.DepthsRead.{bound_use}
-use Rattle.rdx_grammar.proofs.Firsts.{none_both}
+use Rattle.rdx_patterns.specs.Ends.{crossed_for}
+use Rattle.rdx_patterns.specs.Heads.{Roles, patterns as items_of_list, next, rest}
+use Rattle.rdx_patterns.specs.Nonterminals.{names_of}
+use Rattle.rdx_patterns.specs.Parts.{text_of}
+use Rattle.rdx_patterns.specs.Reading.{reading, items_among, is_pattern, ellipsis_behind, item_slot, with_item}
+use Rattle.rdx_patterns.specs.declared.patterns.position.Position.TheVariants.{Query}
+use Rattle.rdx_patterns.proofs.Booleans.{and_true, and_both}
+use Rattle.rdx_patterns.proofs.DepthsRead.{bound_use}
+use Rattle.rdx_patterns.proofs.Firsts.{none_both}
 use Rattle.rdx_parts.specs.ExtraReading.{extras_reading}
 use Rattle.rdx_defs.specs.Inside.FormOutlines.{case_branch, in_case, case_branches, domain_patterns, relation_outline, clause_branch, own_clause, in_clause, clause_branches, pattern_when, patterns_among, contract_patterns, metafunction_outline}
 use Rattle.rdx_parts.specs.Outlines.{one, Branch, taken_occurrences, bound_by_taken, taken_reading, bound_by_branch}

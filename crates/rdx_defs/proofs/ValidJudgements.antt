@@ -15,17 +15,17 @@ use Rattle.rdx_lang.specs.Programs.{Mode, JudgementRule, holds}
 use Rattle.rdx_lang.specs.Scopes.{bound_by, case_uses}
 use Rattle.rdx_lang.specs.Valid.{is_valid_extra, are_valid_extras, is_valid_judgement_rule, is_valid_judgement_contract, is_valid_judgement}
 use Rattle.rdx_lang.specs.WellFormed.{is_well_formed_in}
-use Rattle.rdx_grammar.specs.Ends.{crossed_for}
-use Rattle.rdx_grammar.specs.Names.{is_bad_name}
-use Rattle.rdx_grammar.specs.Nonterminals.{names_of}
-use Rattle.rdx_grammar.specs.Occurrences.{occurrences}
-use Rattle.rdx_grammar.specs.Parts.{text_of, is_word}
-use Rattle.rdx_grammar.specs.Readable.{IsReadable}
-use Rattle.rdx_grammar.specs.Reading.{reading}
-use Rattle.rdx_grammar.specs.declared.patterns.position.Position.TheVariants.{Query}
-use Rattle.rdx_grammar.proofs.Booleans.{and_both}
-use Rattle.rdx_grammar.proofs.DepthsRead.{bound_use}
-use Rattle.rdx_grammar.proofs.Firsts.{none_first}
+use Rattle.rdx_patterns.specs.Ends.{crossed_for}
+use Rattle.rdx_patterns.specs.Names.{is_bad_name}
+use Rattle.rdx_patterns.specs.Nonterminals.{names_of}
+use Rattle.rdx_patterns.specs.Occurrences.{occurrences}
+use Rattle.rdx_patterns.specs.Parts.{text_of, is_word}
+use Rattle.rdx_patterns.specs.Readable.{IsReadable}
+use Rattle.rdx_patterns.specs.Reading.{reading}
+use Rattle.rdx_patterns.specs.declared.patterns.position.Position.TheVariants.{Query}
+use Rattle.rdx_patterns.proofs.Booleans.{and_both}
+use Rattle.rdx_patterns.proofs.DepthsRead.{bound_use}
+use Rattle.rdx_patterns.proofs.Firsts.{none_first}
 use Rattle.rdx_parts.specs.Arguments.{is_misfit, data_by, patterns_in, templates_in}
 use Rattle.rdx_parts.specs.ExtraForms.{of_rule}
 use Rattle.rdx_parts.specs.ExtraReading.{items_reading, premise_reading}

@@ -6,9 +6,9 @@ use Rattle.rdx_lang.specs.TemplateView.{template_of}
 use Rattle.rdx_lang.specs.declared.program.Judgement.{Judgement}
 use Rattle.rdx_lang.specs.declared.program.Metafunction.{Metafunction}
 use Rattle.rdx_lang.specs.declared.program.Relation.{Relation}
-use Rattle.rdx_grammar.specs.Refusal.{refusal_of}
-use Rattle.rdx_grammar.specs.declared.shape.fault.DefFault.{DefFault}
-use Rattle.rdx_grammar.specs.declared.shape.fault.DefFault.TheVariants.{Refused, NoMemory}
+use Rattle.rdx_patterns.specs.Refusal.{refusal_of}
+use Rattle.rdx_patterns.specs.declared.shape.fault.DefFault.{DefFault}
+use Rattle.rdx_patterns.specs.declared.shape.fault.DefFault.TheVariants.{Refused, NoMemory}
 use Rattle.rdx_parts.specs.ExtraReading.{premise_reading}
 use Rattle.rdx_parts.specs.Headed.{Headed, headed}
 use Rattle.rdx_defs.specs.JudgementForms.{JudgementForm, judgement_form}

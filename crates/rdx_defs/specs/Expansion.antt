@@ -3,12 +3,12 @@ use Rattle.std.specs.Prelude.{◌≡◌, ℕ, List, [], ◌∷◌, ◌++◌, Opt
 use Rattle.std.specs.declared.alloc.Global.{Global}
 use Rattle.rdx_base.specs.declared.place.Span.{Span}
 use Rattle.rdx_sexp.specs.Sexp.{Sexp, Sexps, leaf, list, nil, cons, sexps, span_of}
-use Rattle.rdx_grammar.specs.Kinds.{is_among}
-use Rattle.rdx_grammar.specs.Parts.{is_word, text_of}
-use Rattle.rdx_grammar.specs.Refusal.{Refusal, refusal_of, unnamed, named, first, first_refusal}
-use Rattle.rdx_grammar.specs.declared.shape.fault.DefFault.{DefFault}
-use Rattle.rdx_grammar.specs.declared.shape.fault.DefFault.TheVariants.{Refused, NoMemory}
-use Rattle.rdx_grammar.specs.declared.shape.fault.DefKind.TheVariants.{Shape, Duplicate, UnknownName}
+use Rattle.rdx_patterns.specs.Kinds.{is_among}
+use Rattle.rdx_patterns.specs.Parts.{is_word, text_of}
+use Rattle.rdx_patterns.specs.Refusal.{Refusal, refusal_of, unnamed, named, first, first_refusal}
+use Rattle.rdx_patterns.specs.declared.shape.fault.DefFault.{DefFault}
+use Rattle.rdx_patterns.specs.declared.shape.fault.DefFault.TheVariants.{Refused, NoMemory}
+use Rattle.rdx_patterns.specs.declared.shape.fault.DefKind.TheVariants.{Shape, Duplicate, UnknownName}
 use Rattle.rdx_defs.specs.RelationForms.{CaseForm, case_form, RelationForm, relation_form}
 use Rattle.rdx_defs.specs.Shorthand.{before_with, behind_with, Shortcut, shortcut_form, shortcuts_of, first_of_each, is_known_arrow}
 

@@ -8,9 +8,9 @@ use Rattle.rdx_lang.specs.Patterns.{Pattern, nt, named}
 use Rattle.rdx_lang.specs.Programs.{Extra, provided, holds, Judgement}
 use Rattle.rdx_lang.specs.Templates.{Template, lit, var, term}
 use Rattle.rdx_lang.specs.declared.pattern.Ref.TheVariants.{Nt}
-use Rattle.rdx_grammar.specs.Examples.{word, group, columns}
-use Rattle.rdx_grammar.specs.declared.shape.fault.DefKind.{DefKind}
-use Rattle.rdx_grammar.specs.declared.shape.fault.DefKind.TheVariants.{Mode, UnknownName}
+use Rattle.rdx_patterns.specs.Examples.{word, group, columns}
+use Rattle.rdx_patterns.specs.declared.shape.fault.DefKind.{DefKind}
+use Rattle.rdx_patterns.specs.declared.shape.fault.DefKind.TheVariants.{Mode, UnknownName}
 use Rattle.rdx_defs.specs.JudgementForms.{JudgementForm, judgement_form}
 use Rattle.rdx_defs.specs.JudgementReading.{judgement_reading}
 use Rattle.rdx_defs.specs.JudgementRefusal.{judgement_refusal}

@@ -3,7 +3,7 @@ use Rattle.std.specs.Prelude.{ℕ, List, [], ◌∷◌, Option, Some, None, opti
 use Rattle.rdx_sexp.specs.Sexp.{Sexp}
 use Rattle.rdx_lang.specs.Patterns.{Pattern, seq}
 use Rattle.rdx_lang.specs.Programs.{Mode, JudgementRule, Judgement}
-use Rattle.rdx_grammar.specs.Parts.{text_of}
+use Rattle.rdx_patterns.specs.Parts.{text_of}
 use Rattle.rdx_parts.specs.Arguments.{patterns_in, templates_in}
 use Rattle.rdx_parts.specs.ExtraForms.{of_rule}
 use Rattle.rdx_parts.specs.ExtraReading.{extras_reading, items_reading, list_reading, templates_reading}

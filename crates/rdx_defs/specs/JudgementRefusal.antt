@@ -1,9 +1,9 @@
 -- When a form of a judgement is refused, and when a premise by itself is.
 use Rattle.std.specs.Prelude.{ℕ, List, [], ◌∷◌, ◌++◌, Option, Some, None}
 use Rattle.rdx_sexp.specs.Sexp.{Sexp}
-use Rattle.rdx_grammar.specs.PatternChecks as patterns
-use Rattle.rdx_grammar.specs.Refusal.{Refusal, first_refusal}
-use Rattle.rdx_grammar.specs.Unbuilt.{unbuilt_at}
+use Rattle.rdx_patterns.specs.PatternChecks as patterns
+use Rattle.rdx_patterns.specs.Refusal.{Refusal, first_refusal}
+use Rattle.rdx_patterns.specs.Unbuilt.{unbuilt_at}
 use Rattle.rdx_parts.specs.Headed.{headed}
 use Rattle.rdx_defs.specs.JudgementForms.{judgement_form}
 use Rattle.rdx_defs.specs.JudgementStands.{judgement_stands}

@@ -3,8 +3,8 @@
 use Rattle.std.specs.Prelude.{ℕ, true, false, not, List, [], ◌∷◌, ◌++◌, Option, Some, None, map, flat_map, codes, if◌then◌else◌}
 use Rattle.rdx_sexp.specs.Sexp.{Sexp}
 use Rattle.rdx_lang.specs.Programs.{Mode}
-use Rattle.rdx_grammar.specs.Occurrences.{occurrences}
-use Rattle.rdx_grammar.specs.PatternChecks as patterns
+use Rattle.rdx_patterns.specs.Occurrences.{occurrences}
+use Rattle.rdx_patterns.specs.PatternChecks as patterns
 use Rattle.rdx_parts.specs.Arguments.{Arguments, in_conclusion, is_misfit, patterns_in}
 use Rattle.rdx_parts.specs.ExtraForms.{of_rule}
 use Rattle.rdx_parts.specs.Headed.{Headed, headed}

@@ -8,8 +8,8 @@ use Rattle.rdx_lang.specs.Programs.{Metafunction}
 use Rattle.rdx_lang.specs.Templates.{var, call, one, nil}
 use Rattle.rdx_lang.specs.declared.pattern.Kind.TheVariants.{Any}
 use Rattle.rdx_lang.specs.declared.pattern.Ref.TheVariants.{Nt}
-use Rattle.rdx_grammar.specs.Examples.{word, group, columns}
-use Rattle.rdx_grammar.specs.declared.shape.fault.DefKind.TheVariants.{Shape}
+use Rattle.rdx_patterns.specs.Examples.{word, group, columns}
+use Rattle.rdx_patterns.specs.declared.shape.fault.DefKind.TheVariants.{Shape}
 use Rattle.rdx_defs.specs.MetafunctionForms.{MetafunctionForm, metafunction_form}
 use Rattle.rdx_defs.specs.MetafunctionReading.{metafunction_reading}
 use Rattle.rdx_defs.specs.MetafunctionRefusal.{metafunction_refusal}

@@ -2,7 +2,7 @@
 -- "Other Relations").
 use Rattle.std.specs.Prelude.{◌&&◌, List, [], ◌∷◌, Option, Some, None, option_map, codes, if◌then◌else◌}
 use Rattle.rdx_sexp.specs.Sexp.{Sexp}
-use Rattle.rdx_grammar.specs.Parts.{parts, is_symbol, is_word}
+use Rattle.rdx_patterns.specs.Parts.{parts, is_symbol, is_word}
 use Rattle.rdx_defs.specs.RelationForms.{may_name}
 
 -- ---- clauses

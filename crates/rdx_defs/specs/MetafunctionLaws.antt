@@ -3,9 +3,9 @@ use Rattle.std.specs.Prelude.{◌≡◌, ℕ, List, ◌⊎◌, None, IsSome, Ok,
 use Rattle.rdx_sexp.specs.Sexp.{Sexp}
 use Rattle.rdx_lang.specs.ProgramView.{metafunction_of}
 use Rattle.rdx_lang.specs.declared.program.Metafunction.{Metafunction}
-use Rattle.rdx_grammar.specs.Refusal.{refusal_of}
-use Rattle.rdx_grammar.specs.declared.shape.fault.DefFault.TheVariants.{Refused}
-use Rattle.rdx_grammar.specs.declared.shape.fault.DefRefusal.{DefRefusal}
+use Rattle.rdx_patterns.specs.Refusal.{refusal_of}
+use Rattle.rdx_patterns.specs.declared.shape.fault.DefFault.TheVariants.{Refused}
+use Rattle.rdx_patterns.specs.declared.shape.fault.DefRefusal.{DefRefusal}
 use Rattle.rdx_defs.specs.Answers.{ReadsMetafunction}
 use Rattle.rdx_defs.specs.MetafunctionForms.{metafunction_form}
 use Rattle.rdx_defs.specs.MetafunctionRefusal.{metafunction_refusal}

@@ -4,9 +4,9 @@ use Rattle.rdx_sexp.specs.Sexp.{Sexp}
 use Rattle.rdx_lang.specs.Patterns as model
 use Rattle.rdx_lang.specs.Patterns.{Pattern, closed, seq, Items}
 use Rattle.rdx_lang.specs.Programs.{Clause, Metafunction}
-use Rattle.rdx_grammar.specs.Parts.{text_of}
-use Rattle.rdx_grammar.specs.Reading.{reading}
-use Rattle.rdx_grammar.specs.declared.patterns.position.Position.TheVariants.{Query}
+use Rattle.rdx_patterns.specs.Parts.{text_of}
+use Rattle.rdx_patterns.specs.Reading.{reading}
+use Rattle.rdx_patterns.specs.declared.patterns.position.Position.TheVariants.{Query}
 use Rattle.rdx_parts.specs.ExtraForms.{of_clause}
 use Rattle.rdx_parts.specs.ExtraReading.{argument_items, extras_reading}
 use Rattle.rdx_defs.specs.MetafunctionForms.{ClauseForm, clause_form, ContractForm, MetafunctionForm, function_in}

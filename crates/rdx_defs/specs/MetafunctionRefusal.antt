@@ -1,8 +1,8 @@
 -- When a form of a metafunction is refused.
 use Rattle.std.specs.Prelude.{ℕ, List, [], ◌∷◌, Option}
 use Rattle.rdx_sexp.specs.Sexp.{Sexp}
-use Rattle.rdx_grammar.specs.Refusal.{Refusal, first_refusal}
-use Rattle.rdx_grammar.specs.Unbuilt.{unbuilt_at}
+use Rattle.rdx_patterns.specs.Refusal.{Refusal, first_refusal}
+use Rattle.rdx_patterns.specs.Unbuilt.{unbuilt_at}
 use Rattle.rdx_defs.specs.MetafunctionForms.{metafunction_form}
 use Rattle.rdx_defs.specs.MetafunctionStands.{metafunction_stands}
 use Rattle.rdx_parts.specs.Scope.{Scope}

@@ -1,7 +1,7 @@
 -- The nonterminals to which a relation asks for cross nonterminals.
 use Rattle.std.specs.Prelude.{ℕ, List, [], ◌++◌, Option, Some, None, flat_map}
 use Rattle.rdx_sexp.specs.Sexp.{Sexp}
-use Rattle.rdx_grammar.specs.Ends.{ends_in}
+use Rattle.rdx_patterns.specs.Ends.{ends_in}
 use Rattle.rdx_defs.specs.Expansion.{expanded_form}
 use Rattle.rdx_defs.specs.RelationForms.{RelationForm, relation_form}
 

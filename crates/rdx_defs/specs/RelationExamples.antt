@@ -6,9 +6,9 @@ use Rattle.rdx_lang.specs.Patterns.{of_kind, named}
 use Rattle.rdx_lang.specs.Programs.{such_as, fresh, Relation}
 use Rattle.rdx_lang.specs.Templates.{var, seq, nil, one}
 use Rattle.rdx_lang.specs.declared.pattern.Kind.TheVariants.{Any, Number}
-use Rattle.rdx_grammar.specs.Examples.{word, group, columns}
-use Rattle.rdx_grammar.specs.declared.shape.fault.DefKind.{DefKind}
-use Rattle.rdx_grammar.specs.declared.shape.fault.DefKind.TheVariants.{Shape, Duplicate, EllipsisDepth, UnknownName}
+use Rattle.rdx_patterns.specs.Examples.{word, group, columns}
+use Rattle.rdx_patterns.specs.declared.shape.fault.DefKind.{DefKind}
+use Rattle.rdx_patterns.specs.declared.shape.fault.DefKind.TheVariants.{Shape, Duplicate, EllipsisDepth, UnknownName}
 use Rattle.rdx_defs.specs.RelationForms.{RelationForm, relation_form}
 use Rattle.rdx_defs.specs.RelationReading.{relation_reading}
 use Rattle.rdx_defs.specs.RelationRefusal.{relation_refusal}

@@ -1,7 +1,7 @@
 -- The parts of `(reduction-relation L case ...)` and of its cases (after the Redex reference manual, "Reduction Relations").
 use Rattle.std.specs.Prelude.{ℕ, Bool, false, not, ◌&&◌, List, ◌∷◌, Option, Some, None, codes, bytes_eq, if◌then◌else◌}
 use Rattle.rdx_sexp.specs.Sexp.{keyword, Sexp, leaf}
-use Rattle.rdx_grammar.specs.Parts.{parts, is_symbol, is_word}
+use Rattle.rdx_patterns.specs.Parts.{parts, is_symbol, is_word}
 
 -- ---- cases
 

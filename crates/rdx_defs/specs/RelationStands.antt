@@ -1,10 +1,10 @@
 -- What stands in a form of a relation.
 use Rattle.std.specs.Prelude.{ℕ, false, List, [], ◌∷◌, ◌++◌, Option, Some, None, if◌then◌else◌}
 use Rattle.rdx_sexp.specs.Sexp.{Sexp}
-use Rattle.rdx_grammar.specs.Kinds.{is_among}
-use Rattle.rdx_grammar.specs.Occurrences.{occurrences}
-use Rattle.rdx_grammar.specs.Parts.{text_of}
-use Rattle.rdx_grammar.specs.PatternChecks as patterns
+use Rattle.rdx_patterns.specs.Kinds.{is_among}
+use Rattle.rdx_patterns.specs.Occurrences.{occurrences}
+use Rattle.rdx_patterns.specs.Parts.{text_of}
+use Rattle.rdx_patterns.specs.PatternChecks as patterns
 use Rattle.rdx_defs.specs.Expansion.{expanded_form}
 use Rattle.rdx_parts.specs.ExtraForms.{of_case}
 use Rattle.rdx_defs.specs.RelationForms.{CaseForm, case_form, RelationForm}

@@ -4,8 +4,8 @@ use Rattle.std.specs.Prelude.{ℕ, Bool, false, ◌&&◌, List, [], ◌∷◌, O
 use Rattle.std.specs.List.{list_all}
 use Rattle.rdx_sexp.specs.Sexp.{Sexp}
 use Rattle.rdx_lang.specs.Programs.{Mode}
-use Rattle.rdx_grammar.specs.Parts.{parts, is_word, text_of}
-use Rattle.rdx_grammar.specs.Reading.{name_in}
+use Rattle.rdx_patterns.specs.Parts.{parts, is_word, text_of}
+use Rattle.rdx_patterns.specs.Reading.{name_in}
 use Rattle.rdx_parts.specs.ExtraForms.{of_clause, of_rule, form_at, ExtraPlace, is_condition}
 use Rattle.rdx_defs.specs.JudgementForms.{RuleForm, rule_form, JudgementForm, judgement_form, judgement_in, own_mode, are_fit_options}
 use Rattle.rdx_defs.specs.MetafunctionForms.{ClauseForm, clause_form, MetafunctionForm, metafunction_form, function_in}

@@ -2,8 +2,8 @@
 -- reference manual, "Reduction Relations").
 use Rattle.std.specs.Prelude.{ℕ, Bool, not, ◌&&◌, ◌||◌, List, [], ◌∷◌, ◌++◌, Option, Some, None, codes, bytes_eq, if◌then◌else◌}
 use Rattle.rdx_sexp.specs.Sexp.{Sexp}
-use Rattle.rdx_grammar.specs.Kinds.{is_among}
-use Rattle.rdx_grammar.specs.Parts.{parts, is_symbol, is_word, text_of}
+use Rattle.rdx_patterns.specs.Kinds.{is_among}
+use Rattle.rdx_patterns.specs.Parts.{parts, is_symbol, is_word, text_of}
 
 -- ---- cases and shortcuts
 

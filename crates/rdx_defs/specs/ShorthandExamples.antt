@@ -2,9 +2,9 @@
 use Rattle.std.specs.Prelude.{◌≡◌, ℕ, List, [], ◌∷◌, ◌++◌, Option, Some, None, codes}
 use Rattle.rdx_base.specs.declared.place.Span.{Span}
 use Rattle.rdx_sexp.specs.Sexp.{Sexp}
-use Rattle.rdx_grammar.specs.Examples.{word, group, columns}
-use Rattle.rdx_grammar.specs.declared.shape.fault.DefKind.{DefKind}
-use Rattle.rdx_grammar.specs.declared.shape.fault.DefKind.TheVariants.{Shape, Duplicate, UnknownName}
+use Rattle.rdx_patterns.specs.Examples.{word, group, columns}
+use Rattle.rdx_patterns.specs.declared.shape.fault.DefKind.{DefKind}
+use Rattle.rdx_patterns.specs.declared.shape.fault.DefKind.TheVariants.{Shape, Duplicate, UnknownName}
 use Rattle.rdx_defs.specs.Expansion.{IsExpansion, expansion_refusal}
 use Rattle.rdx_defs.specs.RelationExamples.{number}
 

@@ -1,10 +1,10 @@
 // The cross nonterminals that forms ask for.
 ghost use Rattle.std.specs.Prelude.{◌≡◌, OnErr, OnOk};
 ghost use Rattle.rdx_lang.specs.Checked.{language_in};
-ghost use Rattle.rdx_grammar.specs.Ends as asked;
+ghost use Rattle.rdx_patterns.specs.Ends as asked;
 
-use rdx_grammar::{add_crosses_for, ends_in};
 use rdx_lang::CheckedLang;
+use rdx_patterns::{add_crosses_for, ends_in};
 use rdx_sexp::Datum;
 use rdx_term::NoMemory;
 use std::alloc::Global;

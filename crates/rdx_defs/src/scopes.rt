@@ -4,8 +4,8 @@ ghost use Rattle.std.specs.List.{list_all};
 ghost use Rattle.std.specs.Option.{option_to_list};
 ghost use Rattle.std.specs.Prelude.{◌≡◌, ◌++◌, [], Some, IfOk, map, option_map};
 ghost use Rattle.rdx_term.specs.Spelling.{is_name};
-ghost use Rattle.rdx_grammar.specs.Parts.{parts, text_of};
-ghost use Rattle.rdx_grammar.specs.Reading.{name_in};
+ghost use Rattle.rdx_patterns.specs.Parts.{parts, text_of};
+ghost use Rattle.rdx_patterns.specs.Reading.{name_in};
 ghost use Rattle.rdx_parts.specs.ExtraForms as all;
 ghost use Rattle.rdx_defs.specs.Inside.FormViews.{judgement_form_of, paired};
 ghost use Rattle.rdx_parts.specs.PartViews.{extra_form_of, place_of};
@@ -19,10 +19,10 @@ use crate::judgements::forms::{
     JudgementForm, is_fit_option, judgement_form, judgement_in, next_option, own_mode, rule_form,
 };
 use crate::metafunctions::forms::{clause_form, function_in, metafunction_form};
-use rdx_grammar::shape::{is_word, items, symbol, text};
 use rdx_parts::Scope;
 use rdx_parts::arguments::headed_list;
 use rdx_parts::extras::{ExtraForm, ExtraPlace, form_at};
+use rdx_patterns::shape::{is_word, items, symbol, text};
 use rdx_sexp::Datum;
 use rdx_term::{Name, NoMemory};
 use std::alloc::Global;

@@ -4,7 +4,7 @@ use Rattle.std.specs.Prelude.{option_map, codes}
 use Rattle.rdx_sexp.specs.Sexp.{Sexp, leaf, list, integer, truth, text, symbol, keyword}
 use Rattle.rdx_lang.specs.Members.{In, there}
 use Rattle.rdx_grammar.specs.Definitions.{Definition, definition, further, at_sign, named_by, named_all, definition_by, definition_among}
-use Rattle.rdx_grammar.specs.Parts.{listed, is_symbol, is_word, are_symbols}
+use Rattle.rdx_patterns.specs.Parts.{listed, is_symbol, is_word, are_symbols}
 
 -- each of the first is one of the second
 abbrev pub AreOf : List Sexp → List Sexp → Type 0

@@ -6,8 +6,9 @@ use Rattle.rdx_sexp.specs.Sexp.{Sexp, Sexps, leaf, list, integer, truth, text, s
 use Rattle.rdx_sexp.specs.Size.{IsSpelledSexp, AreSpelled}
 use Rattle.rdx_grammar.specs.Definitions.{definition, further, at_sign, named_by, named_all, definition_by, definition_among, definition_in}
 use Rattle.rdx_grammar.specs.Nonterminals.{names_by, names_in}
-use Rattle.rdx_grammar.specs.Parts.{listed, text_of, is_symbol, is_word, are_symbols}
-use Rattle.rdx_grammar.proofs.Booleans.{and_true}
+use Rattle.rdx_patterns.specs.Parts.{listed, text_of, is_symbol, is_word, are_symbols}
+use Rattle.rdx_patterns.proofs.Booleans.{and_true}
+use Rattle.rdx_patterns.proofs.SpelledNames.{symbol-spelled}
 
 -- each of these is spelled as a symbol
 abbrev pub AreSpellings : List (List ℕ) → Type 0
@@ -23,15 +24,6 @@ AreSpellings-append (x ∷ xs) ys h k = (h.0, AreSpellings-append xs ys h.1 k)
 pub sexps-listed : (ds : Sexps) → sexps (listed ds) ≡ ds
 sexps-listed nil = refl
 sexps-listed (cons d ds) = ap (cons d) (sexps-listed ds)
-
--- a symbol
-pub symbol-spelled : (d : Sexp) → is_symbol d ≡ true → IsSpelledSexp d → IsTrue (is_symbol_spelling (text_of d))
-symbol-spelled (leaf (symbol x) s) e h = h
-symbol-spelled (leaf (integer n) s) e h = absurd cc
-symbol-spelled (leaf (truth b) s) e h = absurd cc
-symbol-spelled (leaf (text t) s) e h = absurd cc
-symbol-spelled (leaf (keyword k) s) e h = absurd cc
-symbol-spelled (list ds s) e h = absurd cc
 
 -- several symbols
 symbols-spelled : (ds : List Sexp) → are_symbols ds ≡ true → AreSpelled (sexps ds) → AreSpellings (map text_of ds)

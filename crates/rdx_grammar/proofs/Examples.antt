@@ -10,9 +10,10 @@ use Rattle.rdx_lang.specs.WellFormed.{all_patterns, all_alternatives}
 use Rattle.rdx_lang.specs.declared.pattern.Kind.TheVariants.{Number}
 use Rattle.rdx_lang.specs.declared.pattern.Ref.{Ref}
 use Rattle.rdx_lang.specs.declared.pattern.Ref.TheVariants.{Nt, Cross}
-use Rattle.rdx_grammar.specs.Examples.{word, group, columns, definitions, extended, InheritsInPlace, LeastCheckFirst, conditioned, AsksInside, AsksInLanguage, RecursionFirst, split_across, ReadsAcross, NoSuchEnd, CrossesLoop}
+use Rattle.rdx_grammar.specs.Examples.{definitions, extended, InheritsInPlace, LeastCheckFirst, conditioned, AsksInLanguage, RecursionFirst, CrossesLoop}
+use Rattle.rdx_patterns.specs.Examples.{word, group, columns, split_across}
 use Rattle.rdx_grammar.specs.Refused.{by_check, by_recursion, by_escape}
-use Rattle.rdx_grammar.proofs.Booleans.{and_true}
+use Rattle.rdx_patterns.proofs.Booleans.{and_true}
 
 -- ---- languages whose alternatives are built-in names, or match everything
 
@@ -78,9 +79,6 @@ inherits_in_place s = record {
 pub least_check_first : LeastCheckFirst
 least_check_first = by_check refl
 
-pub asks_inside : AsksInside
-asks_inside = refl
-
 -- the language of `(define-language L (e number (side-condition e #t)))`, if it were not refused
 abbrev conditioned_number : Language
 conditioned_number = record { name = codes "L"; nonterminals = (Nt (codes "e"), of_kind Number ∷ wild ∷ []) ∷ [] }
@@ -124,13 +122,6 @@ recursion_first =
     (Nt (codes "e")) refl refl loops refl
 
 -- ---- contexts from a nonterminal to itself
-
-pub reads_across : ReadsAcross
-unfolding chars
-reads_across = refl
-
-pub no_such_end : NoSuchEnd
-no_such_end = refl
 
 -- the alternatives of `(define-language L (e (in-hole (cross e) e)))`, and their language with what it needs
 abbrev e_to_e : Ref

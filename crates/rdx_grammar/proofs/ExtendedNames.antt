@@ -6,9 +6,10 @@ use Rattle.rdx_lang.specs.Patterns.{Definition}
 use Rattle.rdx_lang.specs.References.{is_same, is_among, are_distinct}
 use Rattle.rdx_lang.specs.declared.pattern.Ref.{Ref}
 use Rattle.rdx_lang.specs.declared.pattern.Ref.TheVariants.{Nt, Cross}
-use Rattle.rdx_grammar.specs.Extension.{heads, redefined, added}
-use Rattle.rdx_grammar.proofs.Booleans.{and_true, and_both, or_false, or_neither, or_true, or_or, not_and_true, not_and_both, unless_true, not_either_way}
-use Rattle.rdx_grammar.proofs.Tests.{or_left, or_right}
+use Rattle.rdx_grammar.specs.Extension.{redefined, added}
+use Rattle.rdx_patterns.specs.Found.{heads}
+use Rattle.rdx_patterns.proofs.Booleans.{and_true, and_both, or_false, or_neither, or_true, or_or, not_and_true, not_and_both, unless_true, not_either_way}
+use Rattle.rdx_patterns.proofs.Tests.{or_left, or_right}
 
 -- each of the first is one of the second
 abbrev pub Within : List Ref → List Ref → Type 0

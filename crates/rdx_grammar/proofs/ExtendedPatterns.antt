@@ -10,13 +10,14 @@ use Rattle.rdx_lang.specs.References.{is_same, is_among}
 use Rattle.rdx_lang.specs.WellFormed.{is_well_formed, has_known_nonterminals, have_known_nonterminals, all_patterns, all_alternatives}
 use Rattle.rdx_lang.specs.declared.pattern.Ref.{Ref}
 use Rattle.rdx_lang.specs.declared.pattern.Ref.TheVariants.{Nt}
-use Rattle.rdx_grammar.specs.Extension.{heads, redefined, added}
+use Rattle.rdx_grammar.specs.Extension.{redefined, added}
+use Rattle.rdx_patterns.specs.Found.{heads}
 use Rattle.rdx_grammar.specs.Languages.{alternatives, defined_by, definitions_of}
-use Rattle.rdx_grammar.specs.Parts.{text_of, is_word}
+use Rattle.rdx_patterns.specs.Parts.{text_of, is_word}
 use Rattle.rdx_grammar.specs.Definitions.{Definition, definition_in}
-use Rattle.rdx_grammar.specs.Reading.{reading}
-use Rattle.rdx_grammar.specs.declared.patterns.position.Position.TheVariants.{Grammar as InGrammar}
-use Rattle.rdx_grammar.proofs.Booleans.{and_true, and_both}
+use Rattle.rdx_patterns.specs.Reading.{reading}
+use Rattle.rdx_patterns.specs.declared.patterns.position.Position.TheVariants.{Grammar as InGrammar}
+use Rattle.rdx_patterns.proofs.Booleans.{and_true, and_both}
 use Rattle.rdx_grammar.proofs.ExtendedNames.{Within}
 
 -- ---- patterns over more nonterminals

@@ -12,18 +12,18 @@ use Rattle.rdx_grammar.specs.Definitions.{Definition, definition_in, definition_
 use Rattle.rdx_grammar.specs.Forms.{GrammarForm}
 use Rattle.rdx_grammar.specs.Inside.BoundView.{BindsNames, BindNames}
 use Rattle.rdx_grammar.specs.Inside.CheckedForms.{AreSpelledIn, AreShallow, AreShallowIn}
-use Rattle.rdx_grammar.specs.Occurrences.{occurrences}
-use Rattle.rdx_grammar.specs.Parts.{listed, is_word}
-use Rattle.rdx_grammar.specs.PatternChecks.{bad_occurrences, all_bound}
-use Rattle.rdx_grammar.specs.Reading.{reading}
+use Rattle.rdx_patterns.specs.Occurrences.{occurrences}
+use Rattle.rdx_patterns.specs.Parts.{listed, is_word}
+use Rattle.rdx_patterns.specs.PatternChecks.{bad_occurrences, all_bound}
+use Rattle.rdx_patterns.specs.Reading.{reading}
 use Rattle.rdx_grammar.specs.Stands.{Stand, defined, nonterminal, alternative, inherited, alternative_stand, alternatives_stand, definition_stands, definitions_stand, form_stands}
-use Rattle.rdx_grammar.specs.declared.patterns.position.Position.TheVariants.{Grammar as InGrammar}
+use Rattle.rdx_patterns.specs.declared.patterns.position.Position.TheVariants.{Grammar as InGrammar}
 use Rattle.rdx_grammar.proofs.DefinitionItems.{AreItems, definition_among-items}
 use Rattle.rdx_grammar.proofs.DefinitionSpelled.{sexps-listed}
-use Rattle.rdx_grammar.proofs.FittingNames.{fitting-reading}
+use Rattle.rdx_patterns.proofs.FittingNames.{fitting-reading}
 use Rattle.rdx_grammar.proofs.ExtendedPatterns.{AreReadWell, IsReadWell, AreAllReadWell}
-use Rattle.rdx_grammar.proofs.Firsts.{none_both}
-use Rattle.rdx_grammar.proofs.PassedPatterns.{pattern-written, bound-are-names, AreNames-bound}
+use Rattle.rdx_patterns.proofs.Firsts.{none_both}
+use Rattle.rdx_patterns.proofs.PassedPatterns.{pattern-written, bound-are-names, AreNames-bound}
 use Rattle.rdx_grammar.proofs.ShallowData.{listed-shallow}
 
 -- ---- data that are read

@@ -14,24 +14,26 @@ use Rattle.rdx_lang.specs.declared.pattern.Ref.TheVariants.{Nt, Cross}
 use Rattle.rdx_lang.proofs.KnownCrosses.{KnowsAll, completed_known}
 use Rattle.rdx_grammar.specs.Checks.{bad_pattern, bad_patterns}
 use Rattle.rdx_grammar.specs.Definitions.{Definition, definition_in}
-use Rattle.rdx_grammar.specs.Extension.{heads, redefined, added}
+use Rattle.rdx_grammar.specs.Extension.{redefined, added}
+use Rattle.rdx_patterns.specs.Found.{heads}
 use Rattle.rdx_grammar.specs.Forms.{GrammarForm}
 use Rattle.rdx_grammar.specs.Languages.{definitions_of, written_over, language_over}
 use Rattle.rdx_grammar.specs.Nonterminals.{names_in, all_names}
-use Rattle.rdx_grammar.specs.Occurrences.{occurrences}
-use Rattle.rdx_grammar.specs.Parts.{is_word}
-use Rattle.rdx_grammar.specs.PatternChecks.{bad_occurrences}
-use Rattle.rdx_grammar.specs.Reading.{reading}
+use Rattle.rdx_patterns.specs.Occurrences.{occurrences}
+use Rattle.rdx_patterns.specs.Parts.{is_word}
+use Rattle.rdx_patterns.specs.PatternChecks.{bad_occurrences}
+use Rattle.rdx_patterns.specs.Reading.{reading}
 use Rattle.rdx_grammar.specs.Stands.{nonterminal, alternative, inherited, alternative_stand, alternatives_stand, definition_stands, definitions_stand}
-use Rattle.rdx_grammar.specs.declared.patterns.position.Position.TheVariants.{Grammar as InGrammar}
-use Rattle.rdx_grammar.proofs.Booleans.{or_true, and_true, and_both, not_either_way}
+use Rattle.rdx_patterns.specs.declared.patterns.position.Position.TheVariants.{Grammar as InGrammar}
+use Rattle.rdx_patterns.proofs.Booleans.{or_true, and_true, and_both, not_either_way}
 use Rattle.rdx_grammar.proofs.ExtendedNames.{Within, Within-front, Within-back, is_among-append, Within-old, Within-new}
 use Rattle.rdx_grammar.proofs.ExtendedPatterns.{has_known_nonterminals-within, AreReadWell, IsReadWell, AreAllReadWell, all_alternatives-definitions, all_alternatives-extended}
-use Rattle.rdx_grammar.proofs.Firsts.{none_both}
+use Rattle.rdx_patterns.proofs.Firsts.{none_both}
 use Rattle.rdx_grammar.proofs.NeededCrosses.{needs-only}
-use Rattle.rdx_grammar.proofs.PlainDefinitions.{is_among-plain, all_alternatives-plain}
+use Rattle.rdx_grammar.proofs.PlainDefinitions.{all_alternatives-plain}
+use Rattle.rdx_patterns.proofs.PlainDefinitions.{is_among-plain}
 use Rattle.rdx_grammar.proofs.WellFormedForms.{refs, heads-definitions_of, named-among, selves, self-among, no-self, Within-both}
-use Rattle.rdx_grammar.proofs.WellRead.{reading_known}
+use Rattle.rdx_patterns.proofs.WellRead.{reading_known}
 
 -- ---- over more nonterminals
 

@@ -1,34 +1,25 @@
 -- What a form defines has names, where the check of names passes and the symbols are spelled as those of terms.
 use Rattle.std.proofs.Common.{◌≡◌, ℕ, false, List, [], ◌∷◌, Option, Some, None, subst}
-use Rattle.std.specs.Prelude.{◌||◌, bytes_eq, codes, is_some, IsTrue, nat_eq}
-use Rattle.std.specs.Cmp.Lexicographic.{pointwise}
+use Rattle.std.specs.Prelude.{◌||◌, bytes_eq, codes, is_some}
 use Rattle.rdx_sexp.specs.Sexp.{Sexp}
-use Rattle.rdx_term.specs.Spelling.{is_name, is_symbol_spelling}
 use Rattle.rdx_grammar.specs.Checks.{bad_name, bad_names, is_bad_nonterminal}
 use Rattle.rdx_grammar.specs.Forms.{GrammarForm}
-use Rattle.rdx_grammar.specs.Inside.AreNames.{AreNames}
+use Rattle.rdx_patterns.specs.AreNames.{AreNames}
 use Rattle.rdx_grammar.specs.Inside.CheckedForms.{AreNamedIn, AreSpelledIn}
-use Rattle.rdx_grammar.specs.Kinds.{kind_of}
-use Rattle.rdx_grammar.specs.Names.{is_one_of, kept_words, is_bad_name, begins_with_dots, has_suffix}
+use Rattle.rdx_patterns.specs.Kinds.{kind_of}
+use Rattle.rdx_patterns.specs.Names.{is_one_of, kept_words, is_bad_name, begins_with_dots, has_suffix}
 use Rattle.rdx_grammar.specs.Nonterminals.{names_in}
-use Rattle.rdx_grammar.specs.Parts.{text_of}
-use Rattle.rdx_grammar.specs.PatternChecks.{bad_binders}
-use Rattle.rdx_grammar.specs.Refusal.{named}
+use Rattle.rdx_patterns.specs.Parts.{text_of}
+use Rattle.rdx_patterns.specs.PatternChecks.{bad_binders}
+use Rattle.rdx_patterns.specs.Refusal.{named}
 use Rattle.rdx_grammar.specs.Refused.{bad_name_at}
 use Rattle.rdx_grammar.specs.Stands.{Stand, misshaped, defined, nonterminal, alternative, inherited, form_stands, definitions_stand}
-use Rattle.rdx_grammar.specs.declared.shape.fault.DefKind.TheVariants.{BadName}
-use Rattle.rdx_grammar.proofs.Booleans.{or_false, and_not_both}
+use Rattle.rdx_patterns.specs.declared.shape.fault.DefKind.TheVariants.{BadName}
+use Rattle.rdx_patterns.proofs.Booleans.{or_false}
 use Rattle.rdx_grammar.proofs.DefinitionSpelled.{AreSpellings, names_in-spelled}
-use Rattle.rdx_grammar.proofs.Firsts.{nothing, none_first, none_both}
+use Rattle.rdx_patterns.proofs.Firsts.{nothing, none_first, none_both}
 use Rattle.rdx_grammar.proofs.FormNonterminals.{nonterminals_in, nonterminals_in-definitions}
-
--- a spelling other than `hole` is a name
-pub name-spelled : (x : List ℕ) → IsTrue (is_symbol_spelling x) → bytes_eq x (codes "hole") ≡ false → IsTrue (is_name x)
-name-spelled x h e = and_not_both (is_symbol_spelling x) (pointwise nat_eq x (codes "hole")) h e
-
--- a name that a language may have, or that may be bound, is no `hole`
-pub language-not_hole : (x : List ℕ) → is_bad_name x ≡ false → bytes_eq x (codes "hole") ≡ false
-language-not_hole x e = (or_false (bytes_eq x (codes "hole")) (bytes_eq x (codes "_")) (or_false (bytes_eq x (codes "hole") || bytes_eq x (codes "_")) (begins_with_dots x) e).0).0
+use Rattle.rdx_patterns.proofs.SpelledNames.{name-spelled, language-not_hole}
 
 -- the kept words but `hole`
 abbrev others : List (List ℕ)
@@ -36,7 +27,7 @@ others =
     codes "name" ∷ codes "in-hole" ∷ codes "hide-hole" ∷ codes "cross" ∷ codes "variable-except" ∷ codes "variable-prefix" ∷ codes "side-condition"
     ∷ codes "::=" ∷ []
 
--- and neither is one that a nonterminal may have
+-- a name that a nonterminal may have is no `hole`
 nonterminal-not_hole : (x : List ℕ) → is_bad_nonterminal x ≡ false → bytes_eq x (codes "hole") ≡ false
 nonterminal-not_hole x e =
     let f = or_false (is_some (kind_of x) || is_one_of kept_words x || has_suffix x) (begins_with_dots x) e in

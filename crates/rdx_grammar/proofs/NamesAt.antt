@@ -2,10 +2,10 @@
 use Rattle.std.proofs.Common.{◌≡◌, ◌++◌, ℕ, ◌+◌, ◌<◌, List, [], ◌∷◌, Option, Some, length, drop, get_or, map, sym, subst}
 use Rattle.rdx_sexp.specs.Sexp.{Sexp}
 use Rattle.rdx_grammar.specs.Definitions.{Definition, definition_in}
-use Rattle.rdx_grammar.specs.Inside.AreNames.{AreNames}
+use Rattle.rdx_patterns.specs.AreNames.{AreNames}
 use Rattle.rdx_grammar.specs.Nonterminals.{names_by, names_in}
-use Rattle.rdx_grammar.specs.Parts.{text_of}
-use Rattle.rdx_grammar.proofs.Rests.{drop-at}
+use Rattle.rdx_patterns.specs.Parts.{text_of}
+use Rattle.rdx_patterns.proofs.Rests.{drop-at}
 
 -- two lists of names, one behind the other
 names-both : (xs ys : List (List ℕ)) → AreNames (xs ++ ys) → AreNames xs × AreNames ys

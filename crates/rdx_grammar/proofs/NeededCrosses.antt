@@ -14,8 +14,8 @@ use Rattle.rdx_lang.specs.declared.pattern.Ref.TheVariants.{Nt, Cross}
 use Rattle.rdx_lang.proofs.DefinedNonterminals.{among-head, among-first, among-second}
 use Rattle.rdx_lang.proofs.MemberLaws.{append-left, append-right, flat_map-in, map-in}
 use Rattle.rdx_lang.proofs.WellFormedCrosses.{alternative-passes, alternatives-pass}
-use Rattle.rdx_grammar.proofs.Booleans.{and_true, and_both}
-use Rattle.rdx_grammar.proofs.Tests.{or_right}
+use Rattle.rdx_patterns.proofs.Booleans.{and_true, and_both}
+use Rattle.rdx_patterns.proofs.Tests.{or_right}
 
 -- a member of a list is among it
 pub in-among : (x : Ref) (xs : List Ref) → In x xs → is_among x xs ≡ true

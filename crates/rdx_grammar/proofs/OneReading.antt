@@ -1,27 +1,15 @@
 -- A form is one language at most, or it has one refusal.
-use Rattle.std.proofs.Common.{◌≡◌, Option, Some, None, refl, sym, ◌∙◌, ap, subst, ◌⊎◌, inl, inr}
-use Rattle.std.specs.Prelude.{IsSome}
+use Rattle.std.proofs.Common.{◌≡◌, Option, Some, sym, ◌∙◌, ap, subst}
 use Rattle.rdx_lang.specs.Edges.{IsFree, IsFirstRecursive}
 use Rattle.rdx_lang.specs.Patterns.{Language}
 use Rattle.rdx_lang.specs.declared.pattern.Ref.{Ref}
-use Rattle.rdx_grammar.specs.Refusal.{refusal_of}
 use Rattle.rdx_lang.proofs.FirstRecursive.{first_recursive-same}
 use Rattle.rdx_grammar.specs.Forms.{GrammarForm}
 use Rattle.rdx_grammar.specs.Languages.{language_over}
-use Rattle.rdx_grammar.specs.Laws.{OneLanguage, OneRefusal, NeverBothLanguage, OnePattern, OnePatternRefusal, NeverBothPattern, NeverNeitherPattern}
+use Rattle.rdx_grammar.specs.Laws.{OneLanguage, OneRefusal, NeverBothLanguage}
 use Rattle.rdx_grammar.specs.Refused.{by_check, by_recursion, by_escape, refusal_over, escape_at, recursion_at}
-use Rattle.rdx_grammar.specs.PatternRefusal.{pattern_refusal}
 use Rattle.rdx_grammar.specs.Stands.{form_stands}
-
--- what is some value is one
-same_some : {A : Type 0} (o : Option A) (x y : A) → o ≡ Some x → o ≡ Some y → x ≡ y
-same_some o x y e f = cc
-
--- it is none or some
-not_some : {A : Type 0} (o : Option A) (x : A) → o ≡ None → o ≡ Some x → ⊥
-not_some o x e f = absurd cc
-
--- ---- forms
+use Rattle.rdx_patterns.proofs.OneReading.{same_some, not_some}
 
 module _ (base : Language) (g : Option GrammarForm) where
   -- a form whose language is left-recursive is not free of that
@@ -51,22 +39,3 @@ pub never_both_language : NeverBothLanguage
 never_both_language base d g L r a (by_check e) = not_some (refusal_over base d g) r a.passes e
 never_both_language base d g L r a (by_recursion m x e n b h) = free_or_recursive base g a.parts m x a.are n (subst IsFree a.reads a.free) b
 never_both_language base d g L r a (by_escape m e n b h) = not_some (escape_at (form_stands d g)) r a.asks_nothing h
-
--- ---- patterns
-
-pub one_pattern : OnePattern
-one_pattern ns d c e a b = a.1 ∙ sym b.1
-
-pub one_pattern_refusal : OnePatternRefusal
-one_pattern_refusal ns d r q e f = same_some (pattern_refusal ns d) (refusal_of r) (refusal_of q) e f
-
-pub never_both_pattern : NeverBothPattern
-never_both_pattern ns d c r a e = not_some (pattern_refusal ns d) (refusal_of r) a.0 e
-
--- a refusal, or none
-none_or_some : {A : Type 0} (o : Option A) → (o ≡ None) ⊎ IsSome o
-none_or_some None = inl refl
-none_or_some (Some x) = inr refl
-
-pub never_neither_pattern : NeverNeitherPattern
-never_neither_pattern ns d = none_or_some (pattern_refusal ns d)

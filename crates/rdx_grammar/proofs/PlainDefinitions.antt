@@ -1,15 +1,15 @@
 -- The definitions of a language that are of no cross nonterminal.
-use Rattle.std.proofs.Common.{◌≡◌, ℕ, true, List, [], ◌∷◌, refl, ap}
-use Rattle.std.specs.Prelude.{Bool, ◌||◌}
+use Rattle.std.proofs.Common.{◌≡◌, true, List, [], ◌∷◌}
+use Rattle.std.specs.Prelude.{Bool}
 use Rattle.rdx_lang.specs.Crosses.{plain_definitions}
 use Rattle.rdx_lang.specs.Patterns.{Pattern, Definition}
 use Rattle.rdx_lang.specs.References.{is_same, is_among, are_distinct}
 use Rattle.rdx_lang.specs.WellFormed.{all_patterns, all_alternatives}
 use Rattle.rdx_lang.specs.declared.pattern.Ref.TheVariants.{Nt, Cross}
-use Rattle.rdx_grammar.specs.Extension.{heads}
-use Rattle.rdx_grammar.proofs.Booleans.{or_true, and_true, and_both, not_and_true, not_and_both, unless_true, not_either_way}
+use Rattle.rdx_patterns.specs.Found.{heads}
+use Rattle.rdx_patterns.proofs.Booleans.{or_true, and_true, and_both, not_and_true, not_and_both, unless_true, not_either_way}
 use Rattle.rdx_grammar.proofs.ExtendedNames.{Within}
-use Rattle.rdx_grammar.proofs.Tests.{or_left, or_right}
+use Rattle.rdx_patterns.proofs.Tests.{or_left, or_right}
 
 -- their nonterminals are among those of all
 pub Within-plain : (ds : List Definition) → Within (heads (plain_definitions ds)) (heads ds)
@@ -17,12 +17,6 @@ Within-plain [] x e = e
 Within-plain ((Nt z, ps) ∷ ds) x e = or_true (is_same x (Nt z)) (is_among x (heads (plain_definitions ds))) (is_among x (Nt z ∷ heads ds) ≡ true) e
     (λ h. or_left (is_same x (Nt z)) (is_among x (heads ds)) h) (λ h. or_right (is_same x (Nt z)) (is_among x (heads ds)) (Within-plain ds x h))
 Within-plain ((Cross z w, ps) ∷ ds) x e = or_right (is_same x (Cross z w)) (is_among x (heads ds)) (Within-plain ds x e)
-
--- a nonterminal that is no cross nonterminal is among them where it is among all
-pub is_among-plain : (ds : List Definition) (z : List ℕ) → is_among (Nt z) (heads (plain_definitions ds)) ≡ is_among (Nt z) (heads ds)
-is_among-plain [] z = refl
-is_among-plain ((Nt w, ps) ∷ ds) z = ap (λ b. is_same (Nt z) (Nt w) || b) (is_among-plain ds z)
-is_among-plain ((Cross w v, ps) ∷ ds) z = is_among-plain ds z
 
 -- they are distinct where all are
 pub are_distinct-plain : (ds : List Definition) → are_distinct (heads ds) ≡ true → are_distinct (heads (plain_definitions ds)) ≡ true

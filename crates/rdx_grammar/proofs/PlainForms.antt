@@ -6,12 +6,13 @@ use Rattle.rdx_lang.specs.Crosses.{plain_definitions}
 use Rattle.rdx_lang.specs.Patterns.{Language}
 use Rattle.rdx_lang.specs.References.{is_among}
 use Rattle.rdx_lang.specs.declared.pattern.Ref.TheVariants.{Cross}
-use Rattle.rdx_grammar.specs.Extension.{heads, added}
+use Rattle.rdx_grammar.specs.Extension.{added}
+use Rattle.rdx_patterns.specs.Found.{heads}
 use Rattle.rdx_grammar.specs.Forms.{GrammarForm}
 use Rattle.rdx_grammar.specs.Languages.{definitions_of, written_over}
 use Rattle.rdx_grammar.specs.Laws.{RecursionIsPlain}
 use Rattle.rdx_grammar.specs.Nonterminals.{names_in, all_names}
-use Rattle.rdx_grammar.proofs.Booleans.{or_neither, unless_true, not_either_way}
+use Rattle.rdx_patterns.proofs.Booleans.{or_neither, unless_true, not_either_way}
 use Rattle.rdx_grammar.proofs.ExtendedNames.{is_among-append, heads-extended, Within-added}
 use Rattle.rdx_grammar.proofs.WellFormedForms.{refs, heads-definitions_of}
 

@@ -6,15 +6,15 @@ use Rattle.std.specs.Cmp.Lexicographic.{bytes_decides}
 use Rattle.rdx_lang.specs.References.{is_among, are_distinct}
 use Rattle.rdx_lang.specs.declared.pattern.Ref.TheVariants.{Nt}
 use Rattle.rdx_grammar.specs.Checks.{is_seen, repeats}
-use Rattle.rdx_grammar.specs.Parts.{text_of}
-use Rattle.rdx_grammar.specs.Refusal.{named}
+use Rattle.rdx_patterns.specs.Parts.{text_of}
+use Rattle.rdx_patterns.specs.Refusal.{named}
 use Rattle.rdx_grammar.specs.Refused.{duplicate_at}
 use Rattle.rdx_grammar.specs.Stands.{Stand, misshaped, defined, nonterminal, alternative, inherited}
-use Rattle.rdx_grammar.specs.declared.shape.fault.DefKind.TheVariants.{Duplicate}
-use Rattle.rdx_grammar.proofs.Booleans.{or_neither, not_and_true, not_and_both}
-use Rattle.rdx_grammar.proofs.Firsts.{nothing, none_first}
+use Rattle.rdx_patterns.specs.declared.shape.fault.DefKind.TheVariants.{Duplicate}
+use Rattle.rdx_patterns.proofs.Booleans.{or_neither, not_and_true, not_and_both}
+use Rattle.rdx_patterns.proofs.Firsts.{nothing, none_first}
 use Rattle.rdx_grammar.proofs.FormNonterminals.{nonterminals_in}
-use Rattle.rdx_grammar.proofs.Tests.{or_left, or_right}
+use Rattle.rdx_patterns.proofs.Tests.{or_left, or_right}
 
 -- none of these names comes among those before
 abbrev pub are_new : List (List ℕ) → List (List ℕ) → Bool

@@ -1,35 +1,16 @@
 -- Where a datum nests less than 2^32 deep, so do the data in it, and the alternatives of the definition that it is.
-use Rattle.std.proofs.Common.{◌≡◌, ℕ, zero, suc, ◌<◌, ◌≤◌, List, [], ◌∷◌, length, get_or, Option, Some, None, sym, subst, arith}
-use Rattle.std.proofs.Math.Nat.{le-max_left, le-max_right}
+use Rattle.std.proofs.Common.{◌≡◌, ℕ, suc, ◌<◌, List, ◌∷◌, length, get_or, Option, Some, None, sym, subst, arith}
 use Rattle.rdx_sexp.specs.Sexp.{Sexp, Sexps, leaf, list, sexps}
 use Rattle.rdx_sexp.specs.Size.{sexp_depth, sexps_depth}
-use Rattle.rdx_lang.specs.Members.{In, here, there}
+use Rattle.rdx_lang.specs.Members.{there}
 use Rattle.rdx_grammar.specs.Definitions.{Definition, definition_among, definition_in}
 use Rattle.rdx_grammar.specs.Inside.CheckedForms.{AreShallow}
-use Rattle.rdx_grammar.specs.Parts.{listed}
+use Rattle.rdx_patterns.specs.Parts.{listed}
 use Rattle.rdx_grammar.proofs.DefinitionItems.{AreItems, definition_among-items}
 use Rattle.rdx_grammar.proofs.DefinitionSpelled.{sexps-listed}
+use Rattle.rdx_patterns.proofs.ShallowData.{in-at, depth-in}
 
 -- ---- several data
-
--- the element at a place is one of them
-in-at : (ds : List Sexp) (i : ℕ) (d : Sexp) → i < length ds → d ≡ get_or ds i d → In d ds
-in-at [] i d h e = absurd (omega arith)
-in-at (c ∷ ds) zero d h e = here e
-in-at (c ∷ ds) (suc i) d h e = there (in-at ds i d (omega arith) e)
-
--- each is at most as deep as all
-depth-in : (ds : List Sexp) (d : Sexp) → In d ds → sexp_depth d ≤ sexps_depth (sexps ds)
-depth-in [] d h = elim h [ ]
-depth-in (c ∷ ds) d (here e) = subst (λ (b : Sexp). sexp_depth b ≤ sexps_depth (sexps (c ∷ ds))) (sym e) (le-max_left (sexp_depth c) (sexps_depth (sexps ds)))
-depth-in (c ∷ ds) d (there h) =
-    let k = depth-in ds d h in
-    let m = le-max_right (sexp_depth c) (sexps_depth (sexps ds)) in
-    omega (arith, k, m)
-
--- and so is the one at a place
-pub depth-at : (ds : List Sexp) (i : ℕ) (d : Sexp) → i < length ds → d ≡ get_or ds i d → sexp_depth d ≤ sexps_depth (sexps ds)
-depth-at ds i d h e = depth-in ds d (in-at ds i d h e)
 
 -- where each is shallow, the one at a place is
 pub shallow-at : (ds : List Sexp) (i : ℕ) (d : Sexp) → i < length ds → d ≡ get_or ds i d → AreShallow ds → sexp_depth d < 4294967296

@@ -4,7 +4,7 @@ use Rattle.rdx_sexp.specs.Sexp.{Sexp, leaf, list}
 use Rattle.rdx_sexp.specs.Size.{sexp_depth}
 use Rattle.rdx_grammar.specs.Forms.{GrammarForm, language_parts, extension_parts, headed, language_form, extension_form}
 use Rattle.rdx_grammar.specs.Inside.CheckedForms.{AreShallow, AreShallowIn}
-use Rattle.rdx_grammar.specs.Parts.{listed, is_symbol, is_word}
+use Rattle.rdx_patterns.specs.Parts.{listed, is_symbol, is_word}
 use Rattle.rdx_grammar.proofs.ShallowData.{shallow-behind, listed-shallow}
 
 -- where a test holds

@@ -4,8 +4,9 @@ use Rattle.rdx_sexp.specs.Sexp.{Sexp, leaf, list, sexps}
 use Rattle.rdx_sexp.specs.Size.{IsSpelledSexp, AreSpelled}
 use Rattle.rdx_grammar.specs.Forms.{GrammarForm, language_parts, extension_parts, headed, language_form, extension_form}
 use Rattle.rdx_grammar.specs.Inside.CheckedForms.{AreSpelledIn}
-use Rattle.rdx_grammar.specs.Parts.{listed, is_symbol, is_word}
-use Rattle.rdx_grammar.proofs.DefinitionSpelled.{sexps-listed, symbol-spelled}
+use Rattle.rdx_patterns.specs.Parts.{listed, is_symbol, is_word}
+use Rattle.rdx_grammar.proofs.DefinitionSpelled.{sexps-listed}
+use Rattle.rdx_patterns.proofs.SpelledNames.{symbol-spelled}
 
 -- a symbol, and definitions
 spelled_parts : (l : Sexp) (ds : List Sexp) (b : Bool) → is_symbol l ≡ b → IsSpelledSexp l → AreSpelled (sexps ds) → AreSpelledIn (if b then Some (record { name = l; definitions = ds }) else None)

@@ -16,32 +16,35 @@ use Rattle.rdx_grammar.specs.Checks.{bad_name, bad_names, bad_patterns, all_dept
 use Rattle.rdx_grammar.specs.Forms.{GrammarForm}
 use Rattle.rdx_grammar.specs.Inside.CheckedForms.{AreSpelledIn, AreShallowIn}
 use Rattle.rdx_grammar.specs.Stands.{defined as defined_stand, definitions_stand, form_stands}
-use Rattle.rdx_grammar.specs.Kinds.{is_among}
-use Rattle.rdx_grammar.specs.Occurrences.{occurrences}
-use Rattle.rdx_grammar.specs.PatternChecks.{bad_occurrences}
-use Rattle.rdx_grammar.specs.Nonterminals.{ref_names, names_of, names_by, names_in, all_names}
+use Rattle.rdx_patterns.specs.Kinds.{is_among}
+use Rattle.rdx_patterns.specs.Occurrences.{occurrences}
+use Rattle.rdx_patterns.specs.PatternChecks.{bad_occurrences}
+use Rattle.rdx_grammar.specs.Nonterminals.{names_by, names_in, all_names}
+use Rattle.rdx_patterns.specs.Nonterminals.{ref_names, names_of}
 use Rattle.rdx_grammar.specs.Languages.{alternatives, defined_by, definitions_of, written_over, language_over}
-use Rattle.rdx_grammar.specs.Extension.{heads, redefined, added}
-use Rattle.rdx_grammar.specs.Parts.{text_of}
+use Rattle.rdx_grammar.specs.Extension.{redefined, added}
+use Rattle.rdx_patterns.specs.Found.{heads}
+use Rattle.rdx_patterns.specs.Parts.{text_of}
 use Rattle.rdx_grammar.specs.Definitions.{Definition, definition_in}
-use Rattle.rdx_grammar.specs.Reading.{reading}
-use Rattle.rdx_grammar.specs.Refusal.{unnamed, named}
+use Rattle.rdx_patterns.specs.Reading.{reading}
+use Rattle.rdx_patterns.specs.Refusal.{unnamed, named}
 use Rattle.rdx_grammar.specs.Refused.{refusal_over, shape_at, duplicate_at, bad_name_at, bad_pattern_at, depth_clash_at}
-use Rattle.rdx_grammar.specs.Unbuilt.{unbuilt_at}
-use Rattle.rdx_grammar.specs.declared.patterns.position.Position.TheVariants.{Grammar as InGrammar}
-use Rattle.rdx_grammar.specs.declared.shape.fault.DefKind.TheVariants.{BadName, BadPattern, EllipsisDepth}
-use Rattle.rdx_grammar.proofs.Among.{bytes_eq-sym, is_among-names}
-use Rattle.rdx_grammar.proofs.Booleans.{or_true, and_both, not_either_way}
-use Rattle.rdx_grammar.proofs.Tests.{or_left, or_right}
+use Rattle.rdx_patterns.specs.Unbuilt.{unbuilt_at}
+use Rattle.rdx_patterns.specs.declared.patterns.position.Position.TheVariants.{Grammar as InGrammar}
+use Rattle.rdx_patterns.specs.declared.shape.fault.DefKind.TheVariants.{BadName, BadPattern, EllipsisDepth}
+use Rattle.rdx_patterns.proofs.Among.{bytes_eq-sym, is_among-names}
+use Rattle.rdx_patterns.proofs.Booleans.{or_true, and_both, not_either_way}
+use Rattle.rdx_patterns.proofs.Tests.{or_left, or_right}
 use Rattle.rdx_grammar.proofs.ExtendedNames.{Within, Within-front, Within-back, is_among-append, heads-append, Within-old, Within-new, are_distinct-extended}
 use Rattle.rdx_grammar.proofs.ExtendedPatterns.{all_alternatives-within, AreAllReadWell, all_alternatives-definitions, all_alternatives-extended}
-use Rattle.rdx_grammar.proofs.Firsts.{nothing, none_both, none_or}
+use Rattle.rdx_patterns.proofs.Firsts.{nothing, none_both, none_or}
 use Rattle.rdx_grammar.proofs.FormNonterminals.{nonterminals_in-definitions}
 use Rattle.rdx_grammar.proofs.FormsRead.{are-readable, ArePassedStands, definitions-well}
 use Rattle.rdx_grammar.proofs.NeededCrosses.{completable}
-use Rattle.rdx_grammar.proofs.PlainDefinitions.{is_among-plain, are_distinct-plain, all_alternatives-plain}
+use Rattle.rdx_grammar.proofs.PlainDefinitions.{are_distinct-plain, all_alternatives-plain}
+use Rattle.rdx_patterns.proofs.PlainDefinitions.{is_among-plain}
 use Rattle.rdx_grammar.proofs.Repeated.{are_distinct-nonterminals}
-use Rattle.rdx_grammar.proofs.WellRead.{reading_known}
+use Rattle.rdx_patterns.proofs.WellRead.{reading_known}
 
 -- ---- the heads of definitions
 

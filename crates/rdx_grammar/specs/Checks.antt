@@ -5,11 +5,11 @@ use Rattle.rdx_sexp.specs.Sexp.{Sexp}
 use Rattle.rdx_lang.specs.Lookup.{alternatives_of}
 use Rattle.rdx_lang.specs.Patterns as model
 use Rattle.rdx_lang.specs.declared.pattern.Ref.TheVariants.{Nt}
-use Rattle.rdx_grammar.specs.Kinds.{kind_of}
-use Rattle.rdx_grammar.specs.Names.{is_one_of, kept_words, is_bad_name, begins_with_dots, has_suffix}
-use Rattle.rdx_grammar.specs.Parts.{text_of}
-use Rattle.rdx_grammar.specs.PatternChecks.{when, keyword_faults, bad_binders, bad_occurrences, depth_clashes, escapes}
-use Rattle.rdx_grammar.specs.declared.patterns.position.Position.TheVariants.{Grammar as InGrammar}
+use Rattle.rdx_patterns.specs.Kinds.{kind_of}
+use Rattle.rdx_patterns.specs.Names.{is_one_of, kept_words, is_bad_name, begins_with_dots, has_suffix}
+use Rattle.rdx_patterns.specs.Parts.{text_of}
+use Rattle.rdx_patterns.specs.PatternChecks.{when, keyword_faults, bad_binders, bad_occurrences, depth_clashes, escapes}
+use Rattle.rdx_patterns.specs.declared.patterns.position.Position.TheVariants.{Grammar as InGrammar}
 use Rattle.rdx_grammar.specs.Stands.{Stand, misshaped, defined, nonterminal, alternative, inherited}
 
 -- ---- S1, Shape: a form or a definition has not its shape, or a keyword stands in a pattern

@@ -1,7 +1,7 @@
 -- Definitions of nonterminals, as they are written.
 use Rattle.std.specs.Prelude.{List, [], ◌∷◌, Option, Some, None, option_map, codes, if◌then◌else◌}
 use Rattle.rdx_sexp.specs.Sexp.{symbol, Sexp, leaf, list}
-use Rattle.rdx_grammar.specs.Parts.{listed, is_symbol, is_word, are_symbols}
+use Rattle.rdx_patterns.specs.Parts.{listed, is_symbol, is_word, are_symbols}
 
 -- the names that are defined, and the alternatives that each of them has
 pub record Definition : Type 0 where

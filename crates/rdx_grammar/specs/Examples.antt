@@ -1,26 +1,16 @@
 -- Worked examples: the language that an extension is, the refusals of forms that two checks refuse, those of lists that would ask Racket, and
 -- contexts from a nonterminal to itself.
-use Rattle.std.specs.Prelude.{◌≡◌, ℕ, ◌+◌, true, List, [], ◌∷◌, Some, None, codes}
+use Rattle.std.specs.Prelude.{ℕ, ◌+◌, true, List, [], ◌∷◌, Some, codes}
 use Rattle.rdx_base.specs.declared.place.Span.{Span}
-use Rattle.rdx_sexp.specs.Sexp.{symbol, truth, Sexp, leaf, list, sexps}
-use Rattle.rdx_lang.specs.Patterns.{of_kind, nt, named, in_hole, Language}
+use Rattle.rdx_sexp.specs.Sexp.{truth, Sexp, leaf}
+use Rattle.rdx_lang.specs.Patterns.{of_kind, Language}
 use Rattle.rdx_lang.specs.declared.pattern.Kind.TheVariants.{Any, Number, Text, Boolean}
-use Rattle.rdx_lang.specs.declared.pattern.Ref.TheVariants.{Nt, Cross}
+use Rattle.rdx_lang.specs.declared.pattern.Ref.TheVariants.{Nt}
 use Rattle.rdx_grammar.specs.Forms.{language_form, extension_form}
 use Rattle.rdx_grammar.specs.Languages.{empty_language}
-use Rattle.rdx_grammar.specs.PatternRefusal.{pattern_refusal}
-use Rattle.rdx_grammar.specs.Reading.{reading}
-use Rattle.rdx_grammar.specs.Refusal.{Refusal}
 use Rattle.rdx_grammar.specs.Refused.{IsLanguage, IsRefused}
-use Rattle.rdx_grammar.specs.declared.patterns.position.Position.TheVariants.{Query}
-use Rattle.rdx_grammar.specs.declared.shape.fault.DefKind.TheVariants.{Duplicate, BadPattern, LeftRecursive, RacketEscape}
-
--- a symbol, and a list
-abbrev pub word : Span → List ℕ → Sexp
-word s x = leaf (symbol x) s
-
-abbrev pub group : Span → List Sexp → Sexp
-group s ds = list (sexps ds) s
+use Rattle.rdx_patterns.specs.declared.shape.fault.DefKind.TheVariants.{Duplicate, LeftRecursive}
+use Rattle.rdx_patterns.specs.Examples.{word, group, columns, asks_at, split_across}
 
 -- ---- an extension
 
@@ -52,10 +42,6 @@ InheritsInPlace = (s : Span) → IsLanguage base (extension s) (extension_form (
 
 -- ---- two checks
 
--- in the first line, from one column up to the one before the other
-abbrev pub columns : ℕ → ℕ → Span
-columns first behind = record { start = record { line = 1; column = first }; end = record { line = 1; column = behind } }
-
 -- `(define-language L (e foo_1) (e number))`
 abbrev pub defined_twice : Sexp
 defined_twice =
@@ -72,20 +58,6 @@ LeastCheckFirst =
 
 -- ---- lists that would ask Racket
 
--- refused for such a list, which begins in this column of the first line
-abbrev pub asks_at : ℕ → Refusal
-asks_at n = record { kind = RacketEscape; place = record { line = 1; column = n }; name = None }
-
--- `(any (unquote x))`
-abbrev pub unquoted : Sexp
-unquoted =
-    group (columns 1 18) (word (columns 2 5) (codes "any")
-    ∷ group (columns 6 17) (word (columns 7 14) (codes "unquote") ∷ word (columns 15 16) (codes "x") ∷ []) ∷ [])
-
--- A pattern is refused at the list itself, however deep it stands.
-abbrev pub AsksInside : Type 0
-AsksInside = pattern_refusal [] unquoted ≡ Some (asks_at 6)
-
 -- `(side-condition e #t)`, from one column on
 abbrev pub conditioned : ℕ → Sexp
 conditioned n =
@@ -98,7 +70,7 @@ conditioned_language =
     group (columns 1 53) (word (columns 2 17) (codes "define-language") ∷ word (columns 18 19) (codes "L")
     ∷ group (columns 20 52) (word (columns 21 22) (codes "e") ∷ word (columns 23 29) (codes "number") ∷ conditioned 30 ∷ []) ∷ [])
 
--- So is a language. What stands in the list is not read, and `e` there is no left edge.
+-- A language is refused at such a list, however deep it stands. What stands in the list is not read, and `e` there is no left edge.
 abbrev pub AsksInLanguage : Type 0
 AsksInLanguage = IsRefused empty_language conditioned_language (language_form conditioned_language) (asks_at 30)
 
@@ -115,23 +87,6 @@ RecursionFirst =
     (record { kind = LeftRecursive; place = record { line = 1; column = 1 }; name = Some (codes "e") })
 
 -- ---- contexts from a nonterminal to itself
-
--- `(in-hole (cross x) e)`, from one column on, for a name x of one letter
-abbrev pub split_across : ℕ → List ℕ → Sexp
-split_across n x =
-    group (columns n (n + 21)) (word (columns (n + 1) (n + 8)) (codes "in-hole")
-    ∷ group (columns (n + 9) (n + 18)) (word (columns (n + 10) (n + 15)) (codes "cross") ∷ word (columns (n + 16) (n + 17)) x ∷ [])
-    ∷ word (columns (n + 19) (n + 20)) (codes "e") ∷ [])
-
--- Over a nonterminal `e`, `(in-hole (cross e) e)` splits a term into a context that leads from an e to an e, which has no name, and what stands there.
-abbrev pub ReadsAcross : Type 0
-ReadsAcross = reading (codes "e" ∷ []) Query (split_across 1 (codes "e")) ≡ in_hole (nt (Cross (codes "e") (codes "e"))) (named (codes "e") (nt (Nt (codes "e"))))
-
--- `(cross f)` means nothing there: the list itself is refused.
-abbrev pub NoSuchEnd : Type 0
-NoSuchEnd =
-    pattern_refusal (codes "e" ∷ []) (split_across 1 (codes "f"))
-    ≡ Some (record { kind = BadPattern; place = record { line = 1; column = 10 }; name = None })
 
 -- `(define-language L (e (in-hole (cross e) e)))`
 abbrev pub crossed_loop : Sexp

@@ -3,11 +3,7 @@ use Rattle.std.specs.Prelude.{List, [], ◌∷◌, ◌++◌, map, if◌then◌el
 use Rattle.rdx_lang.specs.Lookup.{alternatives_among}
 use Rattle.rdx_lang.specs.Patterns.{Definition, Language}
 use Rattle.rdx_lang.specs.References.{is_among}
-use Rattle.rdx_lang.specs.declared.pattern.Ref.{Ref}
-
--- the nonterminals of definitions
-abbrev pub heads : List Definition → List Ref
-heads ds = map (λ d. d.0) ds
+use Rattle.rdx_patterns.specs.Found.{heads}
 
 -- a definition of the base, in its place with the new alternatives where it has some
 abbrev pub redefined : List Definition → Definition → Definition

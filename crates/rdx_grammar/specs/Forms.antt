@@ -1,7 +1,7 @@
 -- The parts of forms that define languages.
 use Rattle.std.specs.Prelude.{ℕ, List, [], ◌∷◌, Option, Some, None, codes, if◌then◌else◌}
 use Rattle.rdx_sexp.specs.Sexp.{Sexp}
-use Rattle.rdx_grammar.specs.Parts.{parts, is_symbol, is_word}
+use Rattle.rdx_patterns.specs.Parts.{parts, is_symbol, is_word}
 
 -- the name of a language, and the definitions of its nonterminals
 pub record GrammarForm : Type 0 where

@@ -1,12 +1,5 @@
 pub mod StandView
 pub mod PartViews
 pub mod BaseView
-pub mod Repeats
-pub mod Found
-pub mod AreNames
 pub mod BoundView
 pub mod CheckedForms
-pub mod Adding
-pub mod Among
-pub mod Slots
-pub mod CrossesTo

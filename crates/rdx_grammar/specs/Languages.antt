@@ -11,9 +11,9 @@ use Rattle.rdx_grammar.specs.Definitions.{Definition, definition_in}
 use Rattle.rdx_grammar.specs.Extension.{extended}
 use Rattle.rdx_grammar.specs.Forms.{GrammarForm}
 use Rattle.rdx_grammar.specs.Nonterminals.{all_names}
-use Rattle.rdx_grammar.specs.Parts.{text_of, is_word}
-use Rattle.rdx_grammar.specs.Reading.{reading}
-use Rattle.rdx_grammar.specs.declared.patterns.position.Position.TheVariants.{Grammar as InGrammar}
+use Rattle.rdx_patterns.specs.Parts.{text_of, is_word}
+use Rattle.rdx_patterns.specs.Reading.{reading}
+use Rattle.rdx_patterns.specs.declared.patterns.position.Position.TheVariants.{Grammar as InGrammar}
 
 -- ---- its alternatives
 

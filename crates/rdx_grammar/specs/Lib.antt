@@ -1,17 +1,3 @@
-pub mod Parts
-pub mod Names
-pub mod Refusal
-pub mod Unbuilt
-pub mod Heads
-pub mod HeadView
-pub mod Occurrences
-pub mod Kinds
-pub mod PatternChecks
-pub mod OccurrenceView
-pub mod Readable
-pub mod Reading
-pub mod Ends
-pub mod PatternRefusal
 pub mod Definitions
 pub mod Forms
 pub mod Nonterminals
@@ -23,5 +9,4 @@ pub mod Refused
 pub mod Answers
 pub mod Laws
 pub mod Examples
-pub mod Model
 pub mod Inside

@@ -7,11 +7,12 @@ use Rattle.rdx_lang.specs.declared.pattern.Ref.{Ref}
 use Rattle.rdx_grammar.specs.Checks.{shape_faults, repeats, bad_names, bad_patterns, all_depth_clashes, all_escapes}
 use Rattle.rdx_grammar.specs.Forms.{GrammarForm}
 use Rattle.rdx_grammar.specs.Languages.{language_over}
-use Rattle.rdx_grammar.specs.Nonterminals.{all_names, called}
-use Rattle.rdx_grammar.specs.Refusal.{Refusal, unnamed, named, named_at, first, first_refusal}
+use Rattle.rdx_grammar.specs.Nonterminals.{all_names}
+use Rattle.rdx_patterns.specs.Nonterminals.{called}
+use Rattle.rdx_patterns.specs.Refusal.{Refusal, unnamed, named, named_at, first, first_refusal}
 use Rattle.rdx_grammar.specs.Stands.{Stand, form_stands}
-use Rattle.rdx_grammar.specs.Unbuilt.{unbuilt_at}
-use Rattle.rdx_grammar.specs.declared.shape.fault.DefKind.TheVariants.{Shape, Duplicate, BadName, BadPattern, EllipsisDepth, LeftRecursive, RacketEscape}
+use Rattle.rdx_patterns.specs.Unbuilt.{unbuilt_at}
+use Rattle.rdx_patterns.specs.declared.shape.fault.DefKind.TheVariants.{Shape, Duplicate, BadName, BadPattern, EllipsisDepth, LeftRecursive, RacketEscape}
 
 -- ---- check by check: the first place at which each refuses
 

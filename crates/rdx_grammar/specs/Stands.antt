@@ -3,8 +3,8 @@ use Rattle.std.specs.Prelude.{Bool, false, ◌||◌, List, [], ◌∷◌, ◌++�
 use Rattle.rdx_sexp.specs.Sexp.{Sexp}
 use Rattle.rdx_grammar.specs.Definitions.{Definition, definition_in}
 use Rattle.rdx_grammar.specs.Forms.{GrammarForm}
-use Rattle.rdx_grammar.specs.Occurrences.{Occurrence, occurrences}
-use Rattle.rdx_grammar.specs.Parts.{is_word}
+use Rattle.rdx_patterns.specs.Occurrences.{Occurrence, occurrences}
+use Rattle.rdx_patterns.specs.Parts.{is_word}
 
 -- one thing that stands in a form
 pub data Stand : Type 0 where

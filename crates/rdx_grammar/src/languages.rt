@@ -5,7 +5,6 @@ mod checks;
 mod definitions;
 mod extension;
 mod form_parts;
-pub(crate) mod lookup;
 mod nonterminals;
 mod parts;
 mod reader;

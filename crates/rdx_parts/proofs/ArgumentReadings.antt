@@ -4,8 +4,8 @@ use Rattle.rdx_sexp.specs.Sexp.{Sexp}
 use Rattle.rdx_lang.specs.PatternView.{just, items_of}
 use Rattle.rdx_lang.specs.Patterns as trees
 use Rattle.rdx_lang.specs.Patterns.{Items}
-use Rattle.rdx_grammar.specs.Reading.{reading}
-use Rattle.rdx_grammar.specs.declared.patterns.position.Position.TheVariants.{Query}
+use Rattle.rdx_patterns.specs.Reading.{reading}
+use Rattle.rdx_patterns.specs.declared.patterns.position.Position.TheVariants.{Query}
 use Rattle.rdx_parts.specs.Arguments.{data_at}
 use Rattle.rdx_parts.specs.ExtraReading.{items_reading}
 use Rattle.rdx_parts.proofs.ArgumentLists.{data-end}

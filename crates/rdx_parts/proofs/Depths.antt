@@ -1,7 +1,7 @@
 -- The depths with which names are bound.
 use Rattle.std.proofs.Common.{◌≡◌, ◌++◌, ℕ, Bool, true, false, List, [], ◌∷◌, Option, Some, None, refl, eq-eqb, if◌then◌else◌}
 use Rattle.std.specs.Prelude.{◌&&◌, ◌||◌, bytes_eq, nat_eq}
-use Rattle.rdx_grammar.proofs.Tests.{or_left}
+use Rattle.rdx_patterns.proofs.Tests.{or_left}
 use Rattle.rdx_parts.specs.Bound.{Bound, depth_of, is_bound}
 
 -- at one name

@@ -6,10 +6,10 @@ use Rattle.std.specs.Prelude.{not, nat_eq, nat_lt}
 use Rattle.rdx_sexp.specs.Sexp.{Sexp, Sexps, leaf, list, nil, cons, sexps, integer, truth, text, symbol, keyword}
 use Rattle.rdx_lang.specs.Fitting.{drives}
 use Rattle.rdx_lang.specs.Templates.{Template, Items}
-use Rattle.rdx_grammar.specs.Heads.{Roles, item, every, word, pattern, next, rest, is_repeated}
-use Rattle.rdx_grammar.specs.Occurrences.{deeper}
-use Rattle.rdx_grammar.specs.PatternChecks.{when}
-use Rattle.rdx_grammar.specs.Reading.{is_pattern}
+use Rattle.rdx_patterns.specs.Heads.{Roles, item, every, word, pattern, next, rest, is_repeated}
+use Rattle.rdx_patterns.specs.Occurrences.{deeper}
+use Rattle.rdx_patterns.specs.PatternChecks.{when}
+use Rattle.rdx_patterns.specs.Reading.{is_pattern}
 use Rattle.rdx_parts.specs.Bound.{Bound}
 use Rattle.rdx_parts.specs.Earliest.{earliest, lesser, start}
 use Rattle.rdx_parts.specs.HostHeads.{HostHead, quoting, applying, all_of, some_of, miscounted, foreign, host_head}
@@ -19,7 +19,7 @@ use Rattle.rdx_parts.specs.TemplateChecks.{undriven_part, undriven_parts}
 use Rattle.rdx_parts.specs.TemplateHeads.{TemplateHead, filling, evaluating, splicing, calling, listing, template_head, template_roles, is_triple}
 use Rattle.rdx_parts.specs.TemplateOccurrences.{TemplatePart, repeated_when, listed_parts, host_listed_parts, template_parts, parts_among, host_parts, host_parts_among, host_parts_behind}
 use Rattle.rdx_parts.specs.TemplateReading.{with_template, template_reading, templates_among, host_reading, hosts_among}
-use Rattle.rdx_grammar.proofs.Rests.{drop-at}
+use Rattle.rdx_patterns.proofs.Rests.{drop-at}
 use Rattle.rdx_parts.proofs.EarliestPlaces.{earliest_append}
 use Rattle.rdx_parts.proofs.ItemTests.{item_parts, parts-at, templates-template, templates-other}
 use Rattle.rdx_parts.proofs.Reaching.{drives-reach}

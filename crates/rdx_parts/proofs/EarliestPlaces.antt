@@ -4,7 +4,7 @@ use Rattle.std.proofs.lemmas.Bool.Decides.{nat_tests}
 use Rattle.std.specs.Prelude.{◌&&◌, ◌||◌, nat_eq, nat_lt, flat_map, option_map}
 use Rattle.rdx_base.specs.declared.place.Place.{Place}
 use Rattle.rdx_lang.proofs.Rest.{rest_at}
-use Rattle.rdx_grammar.specs.Refusal.{first}
+use Rattle.rdx_patterns.specs.Refusal.{first}
 use Rattle.rdx_parts.specs.Earliest.{is_before, earlier, lesser, earliest}
 
 -- ---- places

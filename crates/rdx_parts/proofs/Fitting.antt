@@ -8,17 +8,17 @@ use Rattle.rdx_term.specs.Tree as tree
 use Rattle.rdx_lang.specs.Fitting.{drives, fits, fit, fits_in, fit_in}
 use Rattle.rdx_lang.specs.Templates as model
 use Rattle.rdx_lang.specs.Templates.{Template, lit, Items, Hosts}
-use Rattle.rdx_grammar.specs.Heads.{Roles, item, every, word, pattern, next, rest, is_repeated}
-use Rattle.rdx_grammar.specs.Names.{begins_with_dots}
-use Rattle.rdx_grammar.specs.Occurrences.{deeper}
-use Rattle.rdx_grammar.specs.Parts.{is_symbol, is_word, text_of}
-use Rattle.rdx_grammar.specs.PatternChecks.{when}
-use Rattle.rdx_grammar.specs.Reading.{is_pattern}
-use Rattle.rdx_grammar.specs.Refusal.{unnamed, named}
-use Rattle.rdx_grammar.specs.Unbuilt.{unbuilt_at}
-use Rattle.rdx_grammar.specs.declared.shape.fault.DefKind.TheVariants.{Shape, BadPattern, EllipsisDepth, EllipsisVariable, RacketEscape}
-use Rattle.rdx_grammar.proofs.Booleans.{and_true, and_both, and_not_both}
-use Rattle.rdx_grammar.proofs.Firsts.{none_both, none_first, none_of}
+use Rattle.rdx_patterns.specs.Heads.{Roles, item, every, word, pattern, next, rest, is_repeated}
+use Rattle.rdx_patterns.specs.Names.{begins_with_dots}
+use Rattle.rdx_patterns.specs.Occurrences.{deeper}
+use Rattle.rdx_patterns.specs.Parts.{is_symbol, is_word, text_of}
+use Rattle.rdx_patterns.specs.PatternChecks.{when}
+use Rattle.rdx_patterns.specs.Reading.{is_pattern}
+use Rattle.rdx_patterns.specs.Refusal.{unnamed, named}
+use Rattle.rdx_patterns.specs.Unbuilt.{unbuilt_at}
+use Rattle.rdx_patterns.specs.declared.shape.fault.DefKind.TheVariants.{Shape, BadPattern, EllipsisDepth, EllipsisVariable, RacketEscape}
+use Rattle.rdx_patterns.proofs.Booleans.{and_true, and_both, and_not_both}
+use Rattle.rdx_patterns.proofs.Firsts.{none_both, none_first, none_of}
 use Rattle.rdx_parts.specs.Bound.{Bound, depth_of, is_bound}
 use Rattle.rdx_parts.specs.Earliest.{earliest, start}
 use Rattle.rdx_parts.specs.HostHeads.{HostHead, quoting, applying, all_of, some_of, miscounted, foreign, host_head}

@@ -2,10 +2,10 @@
 use Rattle.std.proofs.Common.{◌≡◌, ◌++◌, ◌∙◌, ℕ, ◌+◌, ◌<◌, length, drop, get_or, Bool, true, false, List, [], ◌∷◌, refl, ap, if◌then◌else◌}
 use Rattle.rdx_sexp.specs.Sexp.{Sexp, sexps}
 use Rattle.rdx_lang.specs.Templates.{Template, Items, more}
-use Rattle.rdx_grammar.specs.Heads.{Roles, item, word, next, rest, is_repeated}
-use Rattle.rdx_grammar.specs.Occurrences.{deeper}
-use Rattle.rdx_grammar.specs.Reading.{is_pattern}
-use Rattle.rdx_grammar.proofs.Rests.{drop-at}
+use Rattle.rdx_patterns.specs.Heads.{Roles, item, word, next, rest, is_repeated}
+use Rattle.rdx_patterns.specs.Occurrences.{deeper}
+use Rattle.rdx_patterns.specs.Reading.{is_pattern}
+use Rattle.rdx_patterns.proofs.Rests.{drop-at}
 use Rattle.rdx_parts.specs.Bound.{Bound}
 use Rattle.rdx_parts.specs.Scope.{Scope}
 use Rattle.rdx_parts.specs.TemplateOccurrences.{TemplatePart, repeated_when, template_parts, parts_among}

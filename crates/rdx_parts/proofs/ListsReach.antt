@@ -7,9 +7,9 @@ use Rattle.rdx_sexp.specs.Sexp.{Sexp, Sexps, leaf, list, sexps, nil, cons, integ
 use Rattle.rdx_lang.specs.Templates as model
 use Rattle.rdx_lang.specs.Templates.{Template, lit, Items}
 use Rattle.rdx_lang.specs.declared.operation.HostOp.{HostOp}
-use Rattle.rdx_grammar.specs.Heads.{item, every, word, pattern}
-use Rattle.rdx_grammar.specs.Parts.{is_word}
-use Rattle.rdx_grammar.proofs.Booleans.{and_true}
+use Rattle.rdx_patterns.specs.Heads.{item, every, word, pattern}
+use Rattle.rdx_patterns.specs.Parts.{is_word}
+use Rattle.rdx_patterns.proofs.Booleans.{and_true}
 use Rattle.rdx_parts.specs.Bound.{Bound}
 use Rattle.rdx_parts.specs.HostHeads.{HostHead, quoting, applying, all_of, some_of, miscounted, count, operation_head, host_head}
 use Rattle.rdx_parts.specs.Inside.Reach.{reach, reach_among, reach_in, reach_in_all}

@@ -1,12 +1,12 @@
 -- A check of one thing in a pattern refuses it at one place at most, so the first of its places is the earliest.
 use Rattle.std.proofs.Common.{◌≡◌, ℕ, List, refl}
 use Rattle.std.specs.Prelude.{not}
-use Rattle.rdx_grammar.specs.Kinds.{is_among}
-use Rattle.rdx_grammar.specs.Names.{is_bad_name}
-use Rattle.rdx_grammar.specs.Occurrences.{Occurrence, key, binder, single, repeats, excepted, across, malformed, escape}
-use Rattle.rdx_grammar.specs.Parts.{text_of}
-use Rattle.rdx_grammar.specs.PatternChecks.{bad_binder, bad_occurrence, is_bad_symbol, is_bad_excepted, crossed_name}
-use Rattle.rdx_grammar.specs.Refusal.{first}
+use Rattle.rdx_patterns.specs.Kinds.{is_among}
+use Rattle.rdx_patterns.specs.Names.{is_bad_name}
+use Rattle.rdx_patterns.specs.Occurrences.{Occurrence, key, binder, single, repeats, excepted, across, malformed, escape}
+use Rattle.rdx_patterns.specs.Parts.{text_of}
+use Rattle.rdx_patterns.specs.PatternChecks.{bad_binder, bad_occurrence, is_bad_symbol, is_bad_excepted, crossed_name}
+use Rattle.rdx_patterns.specs.Refusal.{first}
 use Rattle.rdx_parts.specs.Earliest.{earliest, start}
 use Rattle.rdx_parts.proofs.EarliestPlaces.{earliest-when}
 

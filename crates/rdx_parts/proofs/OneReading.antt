@@ -1,7 +1,7 @@
 -- A datum is one template or host expression at most, or it has one refusal.
 use Rattle.std.proofs.Common.{◌≡◌, Option, Some, None, refl, sym, ◌∙◌, ◌⊎◌, inl, inr}
 use Rattle.std.specs.Prelude.{IsSome}
-use Rattle.rdx_grammar.specs.Refusal.{refusal_of}
+use Rattle.rdx_patterns.specs.Refusal.{refusal_of}
 use Rattle.rdx_parts.specs.Laws.{OneTemplate, OneTemplateRefusal, NeverBothTemplate, NeverNeitherTemplate, OneHost, OneHostRefusal, NeverBothHost, NeverNeitherHost}
 use Rattle.rdx_parts.specs.TemplateRefusal.{template_refusal, host_refusal}
 

@@ -2,9 +2,9 @@
 use Rattle.std.proofs.Common.{◌≡◌, ◌++◌, ◌∙◌, ℕ, List, [], ◌∷◌, sym, ap, append_assoc, append-nil}
 use Rattle.std.specs.Prelude.{Option}
 use Rattle.rdx_sexp.specs.Sexp.{Sexp}
-use Rattle.rdx_grammar.specs.Parts.{text_of}
-use Rattle.rdx_grammar.specs.PatternChecks.{Bound, when}
-use Rattle.rdx_grammar.specs.Refusal.{first}
+use Rattle.rdx_patterns.specs.Parts.{text_of}
+use Rattle.rdx_patterns.specs.PatternChecks.{Bound, when}
+use Rattle.rdx_patterns.specs.Refusal.{first}
 use Rattle.rdx_parts.specs.Bound as names
 use Rattle.rdx_parts.specs.Bound.{depth_of}
 use Rattle.rdx_parts.specs.Earliest.{start, lesser, earliest}

@@ -3,10 +3,10 @@ use Rattle.std.proofs.Common.{◌≡◌, ◌++◌, ◌∙◌, ◌+◌, ◌<◌, 
 use Rattle.std.specs.List.{list_any}
 use Rattle.std.specs.Prelude.{◌||◌, not, flat_map, bytes_eq}
 use Rattle.rdx_lang.proofs.Rest.{rest_at}
-use Rattle.rdx_grammar.specs.Inside.Repeats.{HaveSame}
-use Rattle.rdx_grammar.specs.Parts.{text_of}
-use Rattle.rdx_grammar.specs.PatternChecks.{when}
-use Rattle.rdx_grammar.proofs.Firsts.{none_both}
+use Rattle.rdx_patterns.specs.Inside.Repeats.{HaveSame}
+use Rattle.rdx_patterns.specs.Parts.{text_of}
+use Rattle.rdx_patterns.specs.PatternChecks.{when}
+use Rattle.rdx_patterns.proofs.Firsts.{none_both}
 use Rattle.rdx_sexp.specs.Sexp.{Sexp}
 use Rattle.rdx_parts.specs.NamesAgain.{texts_bound, name_again, bound_with, names_again}
 use Rattle.rdx_parts.specs.StandChecks.{label, is_bound_as, repeated_name, names_with, repeated_names}

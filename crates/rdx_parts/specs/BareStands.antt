@@ -1,8 +1,8 @@
 -- What stands in the parts of a form, without what is bound before it.
 use Rattle.std.specs.Prelude.{Bool, true, false, [], List, ◌∷◌, ◌++◌, Option, Some, None, map}
 use Rattle.rdx_sexp.specs.Sexp.{Sexp}
-use Rattle.rdx_grammar.specs.Occurrences.{occurrences}
-use Rattle.rdx_grammar.specs.Parts.{text_of}
+use Rattle.rdx_patterns.specs.Occurrences.{occurrences}
+use Rattle.rdx_patterns.specs.Parts.{text_of}
 use Rattle.rdx_parts.specs.Arguments.{Arguments, is_misfit}
 use Rattle.rdx_parts.specs.ExtraForms.{ExtraForm, such_that, provided, confirmed, holding, freshly, name, no_extra, ExtraPlace, form_at}
 use Rattle.rdx_parts.specs.Headed.{Headed, headed}

@@ -4,12 +4,12 @@ use Rattle.rdx_sexp.specs.Sexp.{Sexp}
 use Rattle.rdx_lang.specs.Programs as model
 use Rattle.rdx_lang.specs.Programs.{Extra, such_as}
 use Rattle.rdx_lang.specs.Templates.{term}
-use Rattle.rdx_grammar.specs.Occurrences.{Occurrence, occurrences}
-use Rattle.rdx_grammar.specs.Parts.{text_of}
-use Rattle.rdx_grammar.specs.PatternChecks as patterns
-use Rattle.rdx_grammar.specs.PatternChecks.{bad_occurrences}
-use Rattle.rdx_grammar.specs.Reading.{reading}
-use Rattle.rdx_grammar.specs.declared.patterns.position.Position.TheVariants.{Query}
+use Rattle.rdx_patterns.specs.Occurrences.{Occurrence, occurrences}
+use Rattle.rdx_patterns.specs.Parts.{text_of}
+use Rattle.rdx_patterns.specs.PatternChecks as patterns
+use Rattle.rdx_patterns.specs.PatternChecks.{bad_occurrences}
+use Rattle.rdx_patterns.specs.Reading.{reading}
+use Rattle.rdx_patterns.specs.declared.patterns.position.Position.TheVariants.{Query}
 use Rattle.rdx_parts.specs.Arguments.{Arguments, patterns_in}
 use Rattle.rdx_parts.specs.Bound.{Bound}
 use Rattle.rdx_parts.specs.ExtraForms.{ExtraForm, such_that, provided, confirmed, holding, freshly, name, no_extra, ExtraPlace, of_rule, form_at}

@@ -5,9 +5,9 @@ use Rattle.rdx_sexp.specs.Sexp.{integer, keyword, Sexp, leaf}
 use Rattle.rdx_term.specs.Tree.{symbol}
 use Rattle.rdx_lang.specs.Templates.{Template, lit, var, fill, call, host, seq, nil, one, many, term, number, apply, none, more}
 use Rattle.rdx_lang.specs.declared.operation.HostOp.TheVariants.{Add}
-use Rattle.rdx_grammar.specs.Examples.{word, group, columns}
-use Rattle.rdx_grammar.specs.declared.shape.fault.DefKind.{DefKind}
-use Rattle.rdx_grammar.specs.declared.shape.fault.DefKind.TheVariants.{Shape, BadPattern, EllipsisDepth, EllipsisVariable, RacketEscape}
+use Rattle.rdx_patterns.specs.Examples.{word, group, columns}
+use Rattle.rdx_patterns.specs.declared.shape.fault.DefKind.{DefKind}
+use Rattle.rdx_patterns.specs.declared.shape.fault.DefKind.TheVariants.{Shape, BadPattern, EllipsisDepth, EllipsisVariable, RacketEscape}
 use Rattle.rdx_parts.specs.Bound.{Bound}
 use Rattle.rdx_parts.specs.Scope.{Scope}
 use Rattle.rdx_parts.specs.TemplateReading.{template_reading}

@@ -3,7 +3,7 @@
 use Rattle.std.specs.Prelude.{Bool, true, false, ◌&&◌, ◌||◌, List, [], ◌∷◌, Option, Some, None, is_some, codes, if◌then◌else◌}
 use Rattle.std.specs.List.{list_all}
 use Rattle.rdx_sexp.specs.Sexp.{integer, truth, text, symbol, keyword, Sexp, leaf, list}
-use Rattle.rdx_grammar.specs.Parts.{parts, is_symbol, is_word}
+use Rattle.rdx_patterns.specs.Parts.{parts, is_symbol, is_word}
 use Rattle.rdx_parts.specs.Headed.{headed}
 
 -- `(where p t)`; `(side-condition h)`, which in a rule is `(side-condition t)` and stands for the host expression `(term t)`; a premise

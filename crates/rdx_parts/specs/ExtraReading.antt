@@ -6,11 +6,11 @@ use Rattle.rdx_lang.specs.Patterns as trees
 use Rattle.rdx_lang.specs.Patterns.{Pattern, Items, seq, nil}
 use Rattle.rdx_lang.specs.Programs.{Extra, such_as, holds, Premise}
 use Rattle.rdx_lang.specs.Templates.{Template, term}
-use Rattle.rdx_grammar.specs.Heads.{patterns as items_of_list}
-use Rattle.rdx_grammar.specs.Parts.{text_of}
-use Rattle.rdx_grammar.specs.PatternChecks as patterns
-use Rattle.rdx_grammar.specs.Reading.{reading, items_among}
-use Rattle.rdx_grammar.specs.declared.patterns.position.Position.TheVariants.{Query}
+use Rattle.rdx_patterns.specs.Heads.{patterns as items_of_list}
+use Rattle.rdx_patterns.specs.Parts.{text_of}
+use Rattle.rdx_patterns.specs.PatternChecks as patterns
+use Rattle.rdx_patterns.specs.Reading.{reading, items_among}
+use Rattle.rdx_patterns.specs.declared.patterns.position.Position.TheVariants.{Query}
 use Rattle.rdx_parts.specs.Arguments.{Arguments, patterns_in, templates_in}
 use Rattle.rdx_parts.specs.Bound.{Bound}
 use Rattle.rdx_parts.specs.ExtraForms.{ExtraForm, such_that, provided, confirmed, holding, freshly, name, no_extra, ExtraPlace, form_at}

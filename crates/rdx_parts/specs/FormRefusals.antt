@@ -1,7 +1,7 @@
 -- When a form with such an outline is refused, by the checks in two groups.
 use Rattle.std.specs.Prelude.{ℕ, List, [], ◌∷◌, Option, option_map}
-use Rattle.rdx_grammar.specs.Refusal.{Refusal, unnamed, named, or_else, first_refusal}
-use Rattle.rdx_grammar.specs.declared.shape.fault.DefKind.TheVariants.{BadPattern, EllipsisDepth, EllipsisVariable, RacketEscape}
+use Rattle.rdx_patterns.specs.Refusal.{Refusal, unnamed, named, or_else, first_refusal}
+use Rattle.rdx_patterns.specs.declared.shape.fault.DefKind.TheVariants.{BadPattern, EllipsisDepth, EllipsisVariable, RacketEscape}
 use Rattle.rdx_parts.specs.Earliest.{start, earliest}
 use Rattle.rdx_parts.specs.Outlines.{Outline}
 use Rattle.rdx_parts.specs.ByNames.{outline_faults}

@@ -1,7 +1,7 @@
 -- Lists headed by a symbol, `(J d ...)`: the premises and the conclusions of judgements, their modes and their contracts.
 use Rattle.std.specs.Prelude.{List, [], ◌∷◌, Option, Some, None, if◌then◌else◌}
 use Rattle.rdx_sexp.specs.Sexp.{Sexp}
-use Rattle.rdx_grammar.specs.Parts.{parts, is_symbol}
+use Rattle.rdx_patterns.specs.Parts.{parts, is_symbol}
 
 -- the symbol, and what stands behind it
 pub record Headed : Type 0 where

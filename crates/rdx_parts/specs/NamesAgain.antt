@@ -3,9 +3,9 @@
 use Rattle.std.specs.Prelude.{ℕ, List, [], ◌∷◌, ◌++◌, map, bytes_eq}
 use Rattle.std.specs.List.{list_any}
 use Rattle.rdx_sexp.specs.Sexp.{Sexp}
-use Rattle.rdx_grammar.specs.Parts.{text_of}
-use Rattle.rdx_grammar.specs.PatternChecks as patterns
-use Rattle.rdx_grammar.specs.PatternChecks.{when}
+use Rattle.rdx_patterns.specs.Parts.{text_of}
+use Rattle.rdx_patterns.specs.PatternChecks as patterns
+use Rattle.rdx_patterns.specs.PatternChecks.{when}
 use Rattle.rdx_parts.specs.StandChecks.{label, names_with}
 use Rattle.rdx_parts.specs.Stands.{Stand, misshaped, function, judgement, asked, arrow, pattern, template, condition, plain, misfit, fresh, named, repeated, bound_among}
 

@@ -3,10 +3,10 @@
 use Rattle.std.specs.Prelude.{ℕ, Bool, List, ◌++◌, Option, flat_map}
 use Rattle.rdx_sexp.specs.Sexp.{Sexp}
 use Rattle.rdx_lang.specs.Patterns.{Pattern, seq}
-use Rattle.rdx_grammar.specs.Occurrences.{Occurrence, occurrences}
-use Rattle.rdx_grammar.specs.PatternChecks as patterns
-use Rattle.rdx_grammar.specs.Reading.{reading}
-use Rattle.rdx_grammar.specs.declared.patterns.position.Position.TheVariants.{Query}
+use Rattle.rdx_patterns.specs.Occurrences.{Occurrence, occurrences}
+use Rattle.rdx_patterns.specs.PatternChecks as patterns
+use Rattle.rdx_patterns.specs.Reading.{reading}
+use Rattle.rdx_patterns.specs.declared.patterns.position.Position.TheVariants.{Query}
 use Rattle.rdx_parts.specs.Arguments.{Arguments}
 use Rattle.rdx_parts.specs.ExtraForms.{ExtraPlace}
 use Rattle.rdx_parts.specs.ExtraReading.{argument_items, list_reading}

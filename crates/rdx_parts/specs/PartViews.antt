@@ -1,7 +1,7 @@
 -- What values of the code stand for: extras, arguments, branches, outlines, and what stands in a form.
 use Rattle.std.specs.Prelude.{Bool, true, false, not, [], List, Option, map, option_map}
 use Rattle.rdx_sexp.specs.Sexp.{Sexp}
-use Rattle.rdx_grammar.specs.OccurrenceView.{occurrences_of}
+use Rattle.rdx_patterns.specs.OccurrenceView.{occurrences_of}
 use Rattle.rdx_parts.specs.ExtraForms as model
 use Rattle.rdx_parts.specs.Arguments as arguments
 use Rattle.rdx_parts.specs.ExtraForms.{such_that, provided, confirmed, holding, freshly, name, no_extra, of_case, of_clause, of_rule}

@@ -5,9 +5,9 @@ use Rattle.rdx_sexp.specs.Size.{sexps_depth, AreSpelled}
 use Rattle.rdx_term.specs.Spelling.{is_name}
 use Rattle.rdx_lang.specs.Patterns.{Language}
 use Rattle.rdx_lang.specs.WellFormed.{is_well_formed_in}
-use Rattle.rdx_grammar.specs.Parts.{text_of, is_symbol}
-use Rattle.rdx_grammar.specs.PatternChecks as patterns
-use Rattle.rdx_grammar.specs.Readable.{IsReadable}
+use Rattle.rdx_patterns.specs.Parts.{text_of, is_symbol}
+use Rattle.rdx_patterns.specs.PatternChecks as patterns
+use Rattle.rdx_patterns.specs.Readable.{IsReadable}
 use Rattle.rdx_parts.specs.Arguments.{Arguments, patterns_in}
 use Rattle.rdx_parts.specs.ExtraForms.{ExtraForm, such_that, provided, confirmed, holding, freshly, name, no_extra, ExtraPlace, of_rule, form_at}
 use Rattle.rdx_parts.specs.Headed.{Headed, headed}

@@ -5,13 +5,13 @@ use Rattle.std.specs.List.{list_any}
 use Rattle.rdx_base.specs.declared.place.Place.{Place}
 use Rattle.rdx_sexp.specs.Sexp.{integer, truth, text, symbol, keyword, Sexp, leaf, list, span_of}
 use Rattle.rdx_term.specs.Text.{label_text}
-use Rattle.rdx_grammar.specs.Names.{is_one_of, begins_with_dots, is_bad_name}
-use Rattle.rdx_grammar.specs.Parts.{is_word, text_of}
-use Rattle.rdx_grammar.specs.PatternChecks as patterns
-use Rattle.rdx_grammar.specs.PatternChecks.{when, keyword_faults, bad_binders, bad_occurrences}
-use Rattle.rdx_grammar.specs.Refusal.{Refusal, unnamed, named_at}
-use Rattle.rdx_grammar.specs.Refusal as refusal
-use Rattle.rdx_grammar.specs.declared.shape.fault.DefKind.TheVariants.{Shape, Duplicate, BadName, BadPattern, EllipsisDepth, UnknownName, EllipsisVariable, RacketEscape, Mode}
+use Rattle.rdx_patterns.specs.Names.{is_one_of, begins_with_dots, is_bad_name}
+use Rattle.rdx_patterns.specs.Parts.{is_word, text_of}
+use Rattle.rdx_patterns.specs.PatternChecks as patterns
+use Rattle.rdx_patterns.specs.PatternChecks.{when, keyword_faults, bad_binders, bad_occurrences}
+use Rattle.rdx_patterns.specs.Refusal.{Refusal, unnamed, named_at}
+use Rattle.rdx_patterns.specs.Refusal as refusal
+use Rattle.rdx_patterns.specs.declared.shape.fault.DefKind.TheVariants.{Shape, Duplicate, BadName, BadPattern, EllipsisDepth, UnknownName, EllipsisVariable, RacketEscape, Mode}
 use Rattle.rdx_parts.specs.Bound.{Bound, depth_of}
 use Rattle.rdx_parts.specs.Earliest.{start, earliest}
 use Rattle.rdx_parts.specs.Scope.{Scope, mode_of}

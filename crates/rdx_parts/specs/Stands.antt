@@ -4,12 +4,12 @@
 -- names before it but for its own, and then the template.
 use Rattle.std.specs.Prelude.{ℕ, Bool, true, false, List, [], ◌∷◌, ◌++◌, Option, Some, None, map, flat_map, if◌then◌else◌}
 use Rattle.rdx_sexp.specs.Sexp.{Sexp, sexps}
-use Rattle.rdx_grammar.specs.Heads.{patterns as items_of_list}
-use Rattle.rdx_grammar.specs.Occurrences.{Occurrence, occurrences, occurrences_among}
-use Rattle.rdx_grammar.specs.Parts.{text_of}
-use Rattle.rdx_grammar.specs.PatternChecks as patterns
-use Rattle.rdx_grammar.specs.PatternChecks.{all_bound}
-use Rattle.rdx_grammar.specs.declared.patterns.position.Position.TheVariants.{Query}
+use Rattle.rdx_patterns.specs.Heads.{patterns as items_of_list}
+use Rattle.rdx_patterns.specs.Occurrences.{Occurrence, occurrences, occurrences_among}
+use Rattle.rdx_patterns.specs.Parts.{text_of}
+use Rattle.rdx_patterns.specs.PatternChecks as patterns
+use Rattle.rdx_patterns.specs.PatternChecks.{all_bound}
+use Rattle.rdx_patterns.specs.declared.patterns.position.Position.TheVariants.{Query}
 use Rattle.rdx_parts.specs.Arguments.{Arguments, in_premise, is_misfit, patterns_in}
 use Rattle.rdx_parts.specs.Bound.{Bound}
 use Rattle.rdx_parts.specs.ExtraForms.{ExtraForm, such_that, provided, confirmed, holding, freshly, name, no_extra, ExtraPlace, form_at}

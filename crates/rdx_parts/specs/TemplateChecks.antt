@@ -3,9 +3,9 @@
 use Rattle.std.specs.Prelude.{ℕ, Bool, false, not, List, [], ◌∷◌, Option, Some, None, flat_map, nat_lt}
 use Rattle.rdx_sexp.specs.Sexp.{Sexp}
 use Rattle.rdx_lang.specs.Fitting.{drives}
-use Rattle.rdx_grammar.specs.Names.{begins_with_dots}
-use Rattle.rdx_grammar.specs.Parts.{text_of}
-use Rattle.rdx_grammar.specs.PatternChecks.{when}
+use Rattle.rdx_patterns.specs.Names.{begins_with_dots}
+use Rattle.rdx_patterns.specs.Parts.{text_of}
+use Rattle.rdx_patterns.specs.PatternChecks.{when}
 use Rattle.rdx_parts.specs.Bound.{Bound, depth_of}
 use Rattle.rdx_parts.specs.Scope.{Scope}
 use Rattle.rdx_parts.specs.TemplateOccurrences.{TemplatePart, single, repeated, malformed, escape}

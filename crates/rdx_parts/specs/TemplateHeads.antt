@@ -2,8 +2,8 @@
 -- that begins with the name of a metafunction, unless that is bound. In every other list each item is a template, or the ellipsis behind one.
 use Rattle.std.specs.Prelude.{Bool, true, false, not, ◌&&◌, is_some, codes, if◌then◌else◌}
 use Rattle.rdx_sexp.specs.Sexp.{Sexp, Sexps, nil, cons}
-use Rattle.rdx_grammar.specs.Heads.{Roles, item, every, patterns, word, pattern}
-use Rattle.rdx_grammar.specs.Parts.{is_symbol, is_word, text_of}
+use Rattle.rdx_patterns.specs.Heads.{Roles, item, every, patterns, word, pattern}
+use Rattle.rdx_patterns.specs.Parts.{is_symbol, is_word, text_of}
 use Rattle.rdx_parts.specs.Bound.{Bound, depth_of}
 use Rattle.rdx_parts.specs.Scope.{Scope, has_metafunction}
 

@@ -2,9 +2,9 @@
 -- to know of it: of a symbol also how many ellipses stand around it.
 use Rattle.std.specs.Prelude.{ℕ, Bool, true, false, List, [], ◌∷◌, ◌++◌, if◌then◌else◌}
 use Rattle.rdx_sexp.specs.Sexp.{Atom, integer, truth, text, symbol, keyword, Sexp, Sexps, leaf, list, nil, cons}
-use Rattle.rdx_grammar.specs.Heads.{Roles, item, every, word, pattern, next, rest, is_repeated}
-use Rattle.rdx_grammar.specs.Occurrences.{deeper}
-use Rattle.rdx_grammar.specs.Reading.{is_pattern}
+use Rattle.rdx_patterns.specs.Heads.{Roles, item, every, word, pattern, next, rest, is_repeated}
+use Rattle.rdx_patterns.specs.Occurrences.{deeper}
+use Rattle.rdx_patterns.specs.Reading.{is_pattern}
 use Rattle.rdx_parts.specs.Bound.{Bound}
 use Rattle.rdx_parts.specs.HostHeads.{HostHead, quoting, applying, all_of, some_of, miscounted, foreign, host_head}
 use Rattle.rdx_parts.specs.Scope.{Scope}

@@ -6,9 +6,9 @@ use Rattle.rdx_term.specs.Spelling.{is_name}
 use Rattle.rdx_term.specs.Tree as tree
 use Rattle.rdx_lang.specs.Templates as model
 use Rattle.rdx_lang.specs.Templates.{Template, lit, var, fill, call, host, seq, Items, Host, term, number, boolean, apply, both, either, Hosts, none, more}
-use Rattle.rdx_grammar.specs.Heads.{Role, Roles, item, every, word, pattern, next, rest, is_repeated}
-use Rattle.rdx_grammar.specs.Parts.{text_of}
-use Rattle.rdx_grammar.specs.Reading.{is_pattern}
+use Rattle.rdx_patterns.specs.Heads.{Role, Roles, item, every, word, pattern, next, rest, is_repeated}
+use Rattle.rdx_patterns.specs.Parts.{text_of}
+use Rattle.rdx_patterns.specs.Reading.{is_pattern}
 use Rattle.rdx_parts.specs.Bound.{Bound, depth_of}
 use Rattle.rdx_parts.specs.HostHeads.{HostHead, quoting, applying, all_of, some_of, miscounted, foreign, host_head}
 use Rattle.rdx_parts.specs.Scope.{Scope}

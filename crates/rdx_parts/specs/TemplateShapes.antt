@@ -3,9 +3,9 @@
 -- has to stand, is not searched.
 use Rattle.std.specs.Prelude.{◌&&◌, List, [], ◌∷◌, ◌++◌, codes, if◌then◌else◌}
 use Rattle.rdx_sexp.specs.Sexp.{Atom, integer, truth, text, symbol, keyword, Sexp, Sexps, leaf, list, nil, cons}
-use Rattle.rdx_grammar.specs.Occurrences.{keys_in}
-use Rattle.rdx_grammar.specs.Parts.{is_word}
-use Rattle.rdx_grammar.specs.PatternChecks.{keyword_faults}
+use Rattle.rdx_patterns.specs.Occurrences.{keys_in}
+use Rattle.rdx_patterns.specs.Parts.{is_word}
+use Rattle.rdx_patterns.specs.PatternChecks.{keyword_faults}
 use Rattle.rdx_parts.specs.HostHeads.{HostHead, quoting, applying, all_of, some_of, miscounted, foreign, host_head}
 use Rattle.rdx_parts.specs.TemplateHeads.{is_pair}
 

@@ -7,7 +7,7 @@ ghost use Rattle.rdx_parts.specs.Scope as scopes;
 ghost use Rattle.rdx_parts.specs.Stands as stands;
 
 use crate::Scope;
-use rdx_grammar::shape::{is_symbol, items, text};
+use rdx_patterns::shape::{is_symbol, items, text};
 use rdx_sexp::Datum;
 
 /// A list headed by a symbol.

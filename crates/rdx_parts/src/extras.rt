@@ -1,11 +1,11 @@
 // What a binding has to meet, as it is written.
 ghost use Rattle.std.specs.List.{list_all};
 ghost use Rattle.std.specs.Prelude.{◌≡◌, Some};
-ghost use Rattle.rdx_grammar.specs.Parts as shape;
+ghost use Rattle.rdx_patterns.specs.Parts as shape;
 ghost use Rattle.rdx_parts.specs.ExtraForms as model;
 ghost use Rattle.rdx_parts.specs.PartViews.{extra_form_of, place_of};
 
-use rdx_grammar::shape::{is_symbol, is_word};
+use rdx_patterns::shape::{is_symbol, is_word};
 use rdx_sexp::{Datum, Form};
 
 /// One of these things.

@@ -10,20 +10,20 @@ use Rattle.rdx_lang.specs.Members.{In}
 use Rattle.rdx_lang.specs.Patterns.{Language}
 use Rattle.rdx_lang.specs.Programs.{Program, language_among}
 use Rattle.rdx_lang.specs.WellFormed.{IsWellFormed}
-use Rattle.rdx_grammar.proofs.Firsts.{none_or}
+use Rattle.rdx_patterns.proofs.Firsts.{none_or}
 use Rattle.rdx_grammar.proofs.ShallowParts.{AreShallowIn-language, AreShallowIn-extension}
 use Rattle.rdx_grammar.proofs.SpelledParts.{AreSpelledIn-language, AreSpelledIn-extension}
 use Rattle.rdx_grammar.proofs.WellFormedForms.{IsWellFormed-language_over}
-use Rattle.rdx_grammar.specs.Ends.{known_ends, crossed_for}
+use Rattle.rdx_patterns.specs.Ends.{known_ends, crossed_for}
 use Rattle.rdx_grammar.specs.Forms.{GrammarForm, language_form, extension_form}
 use Rattle.rdx_grammar.specs.Inside.CheckedForms.{AreSpelledIn, AreShallowIn}
 use Rattle.rdx_grammar.specs.Languages.{empty_language, language_over}
-use Rattle.rdx_grammar.specs.Nonterminals.{names_of}
-use Rattle.rdx_grammar.specs.Parts.{text_of}
-use Rattle.rdx_grammar.specs.Refusal.{or_else}
+use Rattle.rdx_patterns.specs.Nonterminals.{names_of}
+use Rattle.rdx_patterns.specs.Parts.{text_of}
+use Rattle.rdx_patterns.specs.Refusal.{or_else}
 use Rattle.rdx_grammar.specs.Refused.{shape_at, refusal_over}
 use Rattle.rdx_grammar.specs.Stands.{form_stands}
-use Rattle.rdx_grammar.specs.Unbuilt.{unbuilt_at}
+use Rattle.rdx_patterns.specs.Unbuilt.{unbuilt_at}
 use Rattle.rdx_eval.specs.Laws.{AreFree}
 use Rattle.rdx_answer.specs.Queries.{Query}
 use Rattle.rdx_query.specs.DefineForms.{defined_relation}

@@ -8,15 +8,15 @@ use Rattle.rdx_lang.specs.Patterns.{Language}
 use Rattle.rdx_lang.specs.Programs.{Relation}
 use Rattle.rdx_grammar.specs.Forms.{GrammarForm, language_form, extension_form}
 use Rattle.rdx_grammar.specs.Languages.{empty_language, language_over}
-use Rattle.rdx_grammar.specs.Occurrences.{occurrences}
-use Rattle.rdx_grammar.specs.Parts.{text_of}
-use Rattle.rdx_grammar.specs.PatternRefusal.{keyword_at, bad_binder_at, bad_occurrence_at, depth_clash_at, escape_at}
-use Rattle.rdx_grammar.specs.Reading.{reading}
-use Rattle.rdx_grammar.specs.Refusal.{Refusal, unnamed, or_else, first_refusal}
-use Rattle.rdx_grammar.specs.Unbuilt.{unbuilt_at}
+use Rattle.rdx_patterns.specs.Occurrences.{occurrences}
+use Rattle.rdx_patterns.specs.Parts.{text_of}
+use Rattle.rdx_patterns.specs.PatternRefusal.{keyword_at, bad_binder_at, bad_occurrence_at, depth_clash_at, escape_at}
+use Rattle.rdx_patterns.specs.Reading.{reading}
+use Rattle.rdx_patterns.specs.Refusal.{Refusal, unnamed, or_else, first_refusal}
+use Rattle.rdx_patterns.specs.Unbuilt.{unbuilt_at}
 use Rattle.rdx_grammar.specs.Refused.{recursion_at}
-use Rattle.rdx_grammar.specs.declared.shape.fault.DefKind.TheVariants.{Shape, RacketEscape}
-use Rattle.rdx_grammar.specs.declared.patterns.position.Position.TheVariants as position
+use Rattle.rdx_patterns.specs.declared.shape.fault.DefKind.TheVariants.{Shape, RacketEscape}
+use Rattle.rdx_patterns.specs.declared.patterns.position.Position.TheVariants as position
 use Rattle.rdx_parts.specs.Earliest.{start}
 use Rattle.rdx_parts.specs.Headed.{Headed, headed}
 use Rattle.rdx_defs.specs.JudgementForms.{JudgementForm, judgement_form}
@@ -49,7 +49,7 @@ use Rattle.rdx_answer.specs.Queries.{Query, matches, whether, splits, reducts, t
 use Rattle.rdx_query.specs.RelationForms.{relation_names, cases_refusal_over, bad_relation_at}
 use Rattle.rdx_query.specs.StepForms.{StepParts, step_parts, steps_refusal}
 use Rattle.rdx_query.specs.TestForms.{EqualParts, LeadingParts, equal_parts, leading_parts, equal_refusal, leading_refusal}
-use Rattle.rdx_grammar.proofs.Firsts.{none_or}
+use Rattle.rdx_patterns.proofs.Firsts.{none_or}
 use Rattle.rdx_parts.proofs.EarliestPlaces.{earliest-none}
 use Rattle.rdx_query.proofs.CheckNumbers.{none-at}
 use Rattle.rdx_query.proofs.FoundByName.{HasValue, mapped, relation-found}

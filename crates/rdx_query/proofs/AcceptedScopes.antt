@@ -9,12 +9,12 @@ use Rattle.rdx_sexp.specs.Sexp.{integer, truth, text, symbol, keyword, Sexp, lea
 use Rattle.rdx_term.specs.Spelling.{is_name}
 use Rattle.rdx_lang.specs.Programs.{Mode, Metafunction, Judgement, Program, metafunction_among, judgement_among}
 use Rattle.rdx_lang.specs.Valid.{callable_in}
-use Rattle.rdx_grammar.proofs.Booleans.{and_both, and_true, or_true, not_true, not_either_way}
-use Rattle.rdx_grammar.proofs.Firsts.{none_both}
-use Rattle.rdx_grammar.specs.PatternChecks as patterns
-use Rattle.rdx_grammar.specs.Parts.{parts, text_of}
-use Rattle.rdx_grammar.specs.Readable.{IsReadable}
-use Rattle.rdx_grammar.specs.Reading.{name_in}
+use Rattle.rdx_patterns.proofs.Booleans.{and_both, and_true, or_true, not_true, not_either_way}
+use Rattle.rdx_patterns.proofs.Firsts.{none_both}
+use Rattle.rdx_patterns.specs.PatternChecks as patterns
+use Rattle.rdx_patterns.specs.Parts.{parts, text_of}
+use Rattle.rdx_patterns.specs.Readable.{IsReadable}
+use Rattle.rdx_patterns.specs.Reading.{name_in}
 use Rattle.rdx_parts.specs.ExtraForms.{of_clause}
 use Rattle.rdx_defs.specs.JudgementForms.{judgement_form}
 use Rattle.rdx_defs.specs.MetafunctionForms.{ClauseForm, clause_form, MetafunctionForm, metafunction_form, function_in}

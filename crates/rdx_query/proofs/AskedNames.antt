@@ -8,13 +8,13 @@ use Rattle.rdx_lang.proofs.KnownCrosses.{KnowsAll, crosses_known}
 use Rattle.rdx_lang.proofs.MemberLaws.{in-append}
 use Rattle.rdx_lang.specs.Edges.{IsFree}
 use Rattle.rdx_lang.specs.Programs.{Judgement, Mode, Program, judgement_among, judgement_named}
-use Rattle.rdx_grammar.specs.Nonterminals.{names_of}
+use Rattle.rdx_patterns.specs.Nonterminals.{names_of}
 use Rattle.rdx_parts.specs.Scope.{mode_among, mode_of}
 use Rattle.rdx_defs.specs.Scopes.{defined_judgements}
 use Rattle.rdx_eval.specs.Laws.{AreFree}
 use Rattle.rdx_query.specs.Definitions.{Defined, language, metafunction, judgement, relation}
 use Rattle.rdx_query.specs.File.{Defines, Accepts, accepts_none, accepts_definition, accepts_query, accepts_passed, known_before}
-use Rattle.rdx_grammar.specs.Ends.{known_ends, crossed_for}
+use Rattle.rdx_patterns.specs.Ends.{known_ends, crossed_for}
 use Rattle.rdx_query.specs.Known.{Known, known_as, with_definition}
 use Rattle.rdx_answer.specs.Queries.{Query, NamesKnown}
 use Rattle.rdx_answer.specs.Views.{AllNamesKnown}

@@ -3,9 +3,9 @@ use Rattle.std.proofs.Common.{◌≡◌, ℕ, zero, suc, get_or, ◌<◌, ◌≤
 use Rattle.std.proofs.lemmas.Bool.{lt-ltb, le-ltb, ltb-true, ltb-false}
 use Rattle.std.specs.Prelude.{nat_lt, option_map}
 use Rattle.rdx_sexp.specs.Sexp.{Sexp}
-use Rattle.rdx_grammar.specs.Refusal.{Refusal, unnamed, named, or_else, first_refusal}
-use Rattle.rdx_grammar.specs.declared.shape.fault.DefKind.{DefKind}
-use Rattle.rdx_grammar.proofs.Firsts.{none_of}
+use Rattle.rdx_patterns.specs.Refusal.{Refusal, unnamed, named, or_else, first_refusal}
+use Rattle.rdx_patterns.specs.declared.shape.fault.DefKind.{DefKind}
+use Rattle.rdx_patterns.proofs.Firsts.{none_of}
 use Rattle.rdx_query.specs.Inside.Earlier.{number, earlier_of, earlier}
 
 -- ---- two refusals

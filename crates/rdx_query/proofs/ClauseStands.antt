@@ -3,12 +3,12 @@
 use Rattle.std.proofs.Common.{◌≡◌, ◌++◌, ℕ, Bool, true, false, List, [], ◌∷◌, Option, Some, None, refl, ap, map, if◌then◌else◌}
 use Rattle.std.specs.Prelude.{option_map, bytes_eq}
 use Rattle.rdx_sexp.specs.Sexp.{Sexp, Sexps, nil, cons}
-use Rattle.rdx_grammar.specs.Heads.{Roles, patterns as items_of_list, next, rest}
-use Rattle.rdx_grammar.specs.Parts.{text_of}
-use Rattle.rdx_grammar.specs.PatternChecks as patterns
-use Rattle.rdx_grammar.specs.Reading.{is_pattern}
-use Rattle.rdx_grammar.specs.Refusal.{Refusal, unnamed, or_else}
-use Rattle.rdx_grammar.specs.declared.shape.fault.DefKind.TheVariants.{Shape}
+use Rattle.rdx_patterns.specs.Heads.{Roles, patterns as items_of_list, next, rest}
+use Rattle.rdx_patterns.specs.Parts.{text_of}
+use Rattle.rdx_patterns.specs.PatternChecks as patterns
+use Rattle.rdx_patterns.specs.Reading.{is_pattern}
+use Rattle.rdx_patterns.specs.Refusal.{Refusal, unnamed, or_else}
+use Rattle.rdx_patterns.specs.declared.shape.fault.DefKind.TheVariants.{Shape}
 use Rattle.rdx_parts.specs.Arguments.{is_misfit}
 use Rattle.rdx_parts.specs.Bound.{Bound}
 use Rattle.rdx_parts.specs.Earliest.{start, earliest}

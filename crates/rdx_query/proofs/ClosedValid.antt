@@ -15,7 +15,7 @@ use Rattle.rdx_lang.specs.Templates.{Template, lit, var, fill, call, host, seq, 
 use Rattle.rdx_lang.specs.Valid.{is_used, is_valid_extra, are_valid_extras, is_valid_rule, is_valid_domain, is_valid_over}
 use Rattle.rdx_lang.specs.WellFormed.{is_well_formed_in}
 use Rattle.rdx_lang.proofs.ClosedRules.{rule_in_context-well_formed}
-use Rattle.rdx_grammar.proofs.Booleans.{or_false, and_true, and_both, not_true}
+use Rattle.rdx_patterns.proofs.Booleans.{or_false, and_true, and_both, not_true}
 use Rattle.rdx_reduce.specs.ClosureLaws.{LeavesAName}
 
 -- ---- where more names are bound, what fits does

@@ -16,20 +16,20 @@ use Rattle.rdx_lang.specs.WellFormed.{defined}
 use Rattle.rdx_lang.specs.declared.checked.CheckedPat.{CheckedPat}
 use Rattle.rdx_lang.specs.declared.pattern.Ref.TheVariants.{Nt, Cross}
 use Rattle.rdx_lang.specs.declared.program.Relation.{Relation}
-use Rattle.rdx_grammar.specs.Answers.{ReadsPattern}
-use Rattle.rdx_grammar.specs.Kinds.{is_among}
-use Rattle.rdx_grammar.specs.Names.{is_bad_name}
-use Rattle.rdx_grammar.specs.Nonterminals.{names_of}
-use Rattle.rdx_grammar.specs.Parts.{is_symbol, text_of}
-use Rattle.rdx_grammar.specs.PatternRefusal.{pattern_refusal}
-use Rattle.rdx_grammar.specs.Reading.{reading}
-use Rattle.rdx_grammar.specs.Readable.{IsReadable}
-use Rattle.rdx_grammar.specs.Refusal.{Refusal, refusal_of, unnamed, named, or_else, first_refusal}
-use Rattle.rdx_grammar.specs.Unbuilt.{has_word_to_come}
-use Rattle.rdx_grammar.specs.declared.shape.fault.DefFault.{DefFault}
-use Rattle.rdx_grammar.specs.declared.shape.fault.DefKind.TheVariants.{Shape, UnknownLanguage, BadPattern}
-use Rattle.rdx_grammar.specs.declared.shape.fault.DefRefusal.{DefRefusal}
-use Rattle.rdx_grammar.specs.declared.patterns.position.Position.TheVariants as position
+use Rattle.rdx_patterns.specs.Answers.{ReadsPattern}
+use Rattle.rdx_patterns.specs.Kinds.{is_among}
+use Rattle.rdx_patterns.specs.Names.{is_bad_name}
+use Rattle.rdx_patterns.specs.Nonterminals.{names_of}
+use Rattle.rdx_patterns.specs.Parts.{is_symbol, text_of}
+use Rattle.rdx_patterns.specs.PatternRefusal.{pattern_refusal}
+use Rattle.rdx_patterns.specs.Reading.{reading}
+use Rattle.rdx_patterns.specs.Readable.{IsReadable}
+use Rattle.rdx_patterns.specs.Refusal.{Refusal, refusal_of, unnamed, named, or_else, first_refusal}
+use Rattle.rdx_patterns.specs.Unbuilt.{has_word_to_come}
+use Rattle.rdx_patterns.specs.declared.shape.fault.DefFault.{DefFault}
+use Rattle.rdx_patterns.specs.declared.shape.fault.DefKind.TheVariants.{Shape, UnknownLanguage, BadPattern}
+use Rattle.rdx_patterns.specs.declared.shape.fault.DefRefusal.{DefRefusal}
+use Rattle.rdx_patterns.specs.declared.patterns.position.Position.TheVariants as position
 use Rattle.rdx_query.specs.ClosureForms.{closed_relation, closure_names, other_language_by, closure_language_at, unknown_closed_at, no_nonterminal_at, context_refusal_by, context_relation_by, compatible_refusal_by, compatible_relation_by}
 use Rattle.rdx_query.specs.DefineForms.{define_refusal, define_refusal_by, defined_relation, relation_by}
 use Rattle.rdx_query.specs.DefineParts.{by_contexts, by_crosses, ClosureParts, define_parts, closure_parts, with_symbol}
@@ -42,12 +42,12 @@ use Rattle.rdx_query.specs.RelationForms.{bad_relation_at}
 use Rattle.rdx_query.specs.Inside.Closing.{ClosesByContexts, ClosesByCrosses, contexts_refusal, contexts_relation, crosses_refusal, crosses_relation, context_parts_refusal, compatible_parts_refusal}
 use Rattle.rdx_query.specs.Inside.Defining.{AnswersBy, RelatesBy}
 use Rattle.rdx_query.specs.Inside.Earlier.{earlier, IsFaultAt, IsFirstFault}
-use Rattle.rdx_grammar.specs.Ends.{ends_in}
-use Rattle.rdx_grammar.specs.Inside.Among.{AreAmong}
+use Rattle.rdx_patterns.specs.Ends.{ends_in}
+use Rattle.rdx_patterns.specs.Inside.Among.{AreAmong}
 use Rattle.rdx_query.specs.Inside.Fitting.{IsFitting, IsRelationOf}
 use Rattle.rdx_term.specs.Spelling.{is_name}
-use Rattle.rdx_grammar.proofs.Among.{is_among-names}
-use Rattle.rdx_grammar.proofs.Firsts.{none_or}
+use Rattle.rdx_patterns.proofs.Among.{is_among-names}
+use Rattle.rdx_patterns.proofs.Firsts.{none_or}
 use Rattle.rdx_query.proofs.GainingNothing.{parts-ask}
 use Rattle.rdx_query.proofs.CheckNumbers.{HasNumber, Checks, AreChecks, refused, merge, merged, named-number, none-at}
 use Rattle.rdx_query.proofs.DefineChecks.{bad-number, good_name, sole_parts, body-built, relates-by}

@@ -6,14 +6,14 @@ use Rattle.rdx_sexp.specs.Size.{IsSpelledSexp}
 use Rattle.rdx_lang.specs.Programs as model
 use Rattle.rdx_lang.specs.declared.program.Relation.{Relation}
 use Rattle.rdx_term.specs.Spelling.{is_name, is_symbol_spelling}
-use Rattle.rdx_grammar.specs.Names.{begins_with_dots, is_bad_name}
-use Rattle.rdx_grammar.specs.Parts.{is_symbol, text_of}
-use Rattle.rdx_grammar.specs.Readable.{IsReadable}
-use Rattle.rdx_grammar.specs.Refusal.{Refusal, named}
-use Rattle.rdx_grammar.specs.Unbuilt.{has_word_to_come}
-use Rattle.rdx_grammar.specs.declared.shape.fault.DefFault.{DefFault}
-use Rattle.rdx_grammar.specs.declared.shape.fault.DefFault.TheVariants.{Refused, NoMemory}
-use Rattle.rdx_grammar.specs.declared.shape.fault.DefKind.TheVariants.{BadName}
+use Rattle.rdx_patterns.specs.Names.{begins_with_dots, is_bad_name}
+use Rattle.rdx_patterns.specs.Parts.{is_symbol, text_of}
+use Rattle.rdx_patterns.specs.Readable.{IsReadable}
+use Rattle.rdx_patterns.specs.Refusal.{Refusal, named}
+use Rattle.rdx_patterns.specs.Unbuilt.{has_word_to_come}
+use Rattle.rdx_patterns.specs.declared.shape.fault.DefFault.{DefFault}
+use Rattle.rdx_patterns.specs.declared.shape.fault.DefFault.TheVariants.{Refused, NoMemory}
+use Rattle.rdx_patterns.specs.declared.shape.fault.DefKind.TheVariants.{BadName}
 use Rattle.rdx_query.specs.DefineForms.{define_refusal, defined_relation}
 use Rattle.rdx_query.specs.DefineParts.{DefineKind, DefineParts, define_parts}
 use Rattle.rdx_query.specs.Definitions as defined

@@ -7,7 +7,7 @@ use Rattle.std.specs.Str.{chars}
 use Rattle.rdx_sexp.specs.Sexp.{integer, truth, text, symbol, keyword, Sexp, leaf, list}
 use Rattle.rdx_lang.specs.Programs.{Judgement, Mode, judgement_among}
 use Rattle.rdx_term.specs.Spelling.{is_name}
-use Rattle.rdx_grammar.specs.Parts.{parts, text_of}
+use Rattle.rdx_patterns.specs.Parts.{parts, text_of}
 use Rattle.rdx_defs.specs.JudgementForms.{JudgementForm, rule_form, judgement_form, judgement_in, own_mode, are_fit_options}
 use Rattle.rdx_defs.specs.JudgementReading.{judgement_reading}
 use Rattle.rdx_defs.specs.MetafunctionReading.{text_in}

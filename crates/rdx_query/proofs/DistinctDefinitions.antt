@@ -7,15 +7,15 @@ use Rattle.rdx_lang.specs.Crosses.{Way, with_crosses, with_crosses_to, with_way,
 use Rattle.rdx_lang.specs.Patterns.{Language}
 use Rattle.rdx_lang.specs.Programs.{Metafunction, Judgement, Relation, language_among, metafunction_among, judgement_among, relation_among, language_named, metafunction_named, judgement_named, relation_named}
 use Rattle.rdx_lang.specs.Valid.{is_new, are_distinct, defined_names}
-use Rattle.rdx_grammar.proofs.Among.{bytes_eq-sym}
-use Rattle.rdx_grammar.proofs.Booleans.{and_both, and_true, not_true, or_false}
-use Rattle.rdx_grammar.specs.Ends.{known_ends, crossed_for}
+use Rattle.rdx_patterns.proofs.Among.{bytes_eq-sym}
+use Rattle.rdx_patterns.proofs.Booleans.{and_both, and_true, not_true, or_false}
+use Rattle.rdx_patterns.specs.Ends.{known_ends, crossed_for}
 use Rattle.rdx_grammar.specs.Forms.{GrammarForm}
 use Rattle.rdx_grammar.specs.Languages.{written_over, language_over}
-use Rattle.rdx_grammar.specs.Nonterminals.{names_of}
-use Rattle.rdx_grammar.specs.Parts.{text_of}
-use Rattle.rdx_grammar.specs.Refusal.{Refusal, named}
-use Rattle.rdx_grammar.specs.declared.shape.fault.DefKind.TheVariants.{Duplicate}
+use Rattle.rdx_patterns.specs.Nonterminals.{names_of}
+use Rattle.rdx_patterns.specs.Parts.{text_of}
+use Rattle.rdx_patterns.specs.Refusal.{Refusal, named}
+use Rattle.rdx_patterns.specs.declared.shape.fault.DefKind.TheVariants.{Duplicate}
 use Rattle.rdx_query.specs.Definitions.{Defined, language, metafunction, judgement, relation}
 use Rattle.rdx_query.specs.Known.{Known, with_definition, is_taken}
 use Rattle.rdx_query.specs.LanguageForms.{name_taken_at}

@@ -3,8 +3,8 @@ use Rattle.std.proofs.Common.{◌≡◌, ℕ, List, [], ◌∷◌, Option, Some,
 use Rattle.std.specs.Prelude.{Bool, true, false}
 use Rattle.rdx_sexp.specs.Sexp.{integer, truth, text, symbol, keyword, Sexp, leaf, list}
 use Rattle.rdx_term.specs.Spelling.{is_name}
-use Rattle.rdx_grammar.specs.Parts.{symbol_text, text_or_none, is_symbol}
-use Rattle.rdx_grammar.specs.Reading.{name_in}
+use Rattle.rdx_patterns.specs.Parts.{symbol_text, text_or_none, is_symbol}
+use Rattle.rdx_patterns.specs.Reading.{name_in}
 use Rattle.rdx_query.specs.DefineParts.{ClosureParts, with_symbol}
 use Rattle.rdx_query.specs.Ends.{closure_ends}
 

@@ -5,23 +5,23 @@ use Rattle.rdx_sexp.specs.Size.{AreFileData}
 use Rattle.rdx_lang.proofs.MemberLaws.{flat_map-in}
 use Rattle.rdx_lang.specs.Members.{In, here, there}
 use Rattle.rdx_lang.specs.Programs.{Program}
-use Rattle.rdx_grammar.specs.Readable.{IsReadable}
-use Rattle.rdx_grammar.specs.Refusal.{Refusal, refusal_of}
-use Rattle.rdx_grammar.specs.declared.shape.fault.DefFault.{DefFault}
-use Rattle.rdx_grammar.specs.declared.shape.fault.DefFault.TheVariants.{Refused, NoMemory}
+use Rattle.rdx_patterns.specs.Readable.{IsReadable}
+use Rattle.rdx_patterns.specs.Refusal.{Refusal, refusal_of}
+use Rattle.rdx_patterns.specs.declared.shape.fault.DefFault.{DefFault}
+use Rattle.rdx_patterns.specs.declared.shape.fault.DefFault.TheVariants.{Refused, NoMemory}
 use Rattle.rdx_parts.specs.Scope.{Scope}
 use Rattle.rdx_defs.specs.Scopes.{languages_in, scope_in}
 use Rattle.rdx_query.specs.Definitions.{Defined}
 use Rattle.rdx_query.specs.Ends.{form_ends, file_ends}
 use Rattle.rdx_query.specs.File.{Defines, Asks, IsPassedOver, Accepts, accepts_none, accepts_definition, accepts_query, accepts_passed, Refuses, refuses_here, refuses_behind_definition, refuses_behind_query, refuses_behind_passed, known_before, IsFile, IsFileRefusal}
 use Rattle.rdx_query.specs.Inside.Defining.{IsFormFault}
-use Rattle.rdx_grammar.specs.Inside.Among.{AreAmong}
+use Rattle.rdx_patterns.specs.Inside.Among.{AreAmong}
 use Rattle.rdx_query.specs.Inside.Steps.{Step, step_defines, step_asks, step_passes}
 use Rattle.rdx_query.specs.Known.{Known, nothing_in, with_definition}
 use Rattle.rdx_answer.specs.Queries.{Query}
 use Rattle.rdx_answer.specs.Views.{AllNamesKnown}
 use Rattle.rdx_query.specs.Views.{IsFileFault}
-use Rattle.rdx_grammar.proofs.Rests.{drop-at}
+use Rattle.rdx_patterns.proofs.Rests.{drop-at}
 use Rattle.rdx_query.proofs.AskedNames.{fit-before, can_answer}
 
 -- ---- what is read so far

@@ -13,11 +13,11 @@ use Rattle.rdx_lang.specs.References.{is_among}
 use Rattle.rdx_lang.specs.WellFormed.{defined}
 use Rattle.rdx_lang.specs.declared.pattern.Ref.TheVariants.{Nt}
 use Rattle.rdx_parts.specs.Scope.{Scope}
-use Rattle.rdx_grammar.specs.Kinds as kinds
-use Rattle.rdx_grammar.specs.Nonterminals.{names_of}
-use Rattle.rdx_grammar.proofs.Among.{is_among-names}
-use Rattle.rdx_grammar.proofs.KnownReadings.{in-known_ends, cross-there}
-use Rattle.rdx_grammar.specs.Ends.{known_ends, crossed_for}
+use Rattle.rdx_patterns.specs.Kinds as kinds
+use Rattle.rdx_patterns.specs.Nonterminals.{names_of}
+use Rattle.rdx_patterns.proofs.Among.{is_among-names}
+use Rattle.rdx_patterns.proofs.KnownReadings.{in-known_ends, cross-there}
+use Rattle.rdx_patterns.specs.Ends.{known_ends, crossed_for}
 use Rattle.rdx_query.specs.Definitions.{language, metafunction, judgement, relation}
 use Rattle.rdx_query.specs.Inside.Fitting.{IsCrossedTo, AreCrossed, IsRelationOf, IsFitting}
 use Rattle.rdx_query.specs.Known.{Known, nothing_in, with_definition}

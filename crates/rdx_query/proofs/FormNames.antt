@@ -6,9 +6,9 @@ use Rattle.rdx_lang.specs.Patterns.{Language}
 use Rattle.rdx_lang.specs.declared.checked.CheckedLang.{CheckedLang}
 use Rattle.rdx_grammar.specs.Forms.{GrammarForm, form_parts, language_parts, extension_parts, language_form, extension_form}
 use Rattle.rdx_grammar.specs.Languages.{empty_language, language_over}
-use Rattle.rdx_grammar.specs.Parts.{parts, text_of, is_word, is_symbol}
-use Rattle.rdx_grammar.specs.declared.shape.fault.DefFault.{DefFault}
-use Rattle.rdx_grammar.specs.declared.shape.fault.DefFault.TheVariants.{Refused, NoMemory}
+use Rattle.rdx_patterns.specs.Parts.{parts, text_of, is_word, is_symbol}
+use Rattle.rdx_patterns.specs.declared.shape.fault.DefFault.{DefFault}
+use Rattle.rdx_patterns.specs.declared.shape.fault.DefFault.TheVariants.{Refused, NoMemory}
 use Rattle.rdx_query.specs.Definitions.{language}
 use Rattle.rdx_query.specs.File.{by_check, by_recursion, by_late_check}
 use Rattle.rdx_query.specs.FormKinds.{defines, form_kind}

@@ -3,11 +3,11 @@ use Rattle.std.proofs.Common.{◌≡◌, ◌<◌, Bool, true, false, List, [], �
 use Rattle.std.specs.Prelude.{◌||◌, ◌&&◌, if◌then◌else◌}
 use Rattle.rdx_sexp.specs.Sexp.{Sexp, Sexps, leaf, list, nil, cons}
 use Rattle.rdx_sexp.specs.Size.{sexps_depth, AreSpelled}
-use Rattle.rdx_grammar.specs.Parts.{listed, parts, is_symbol}
-use Rattle.rdx_grammar.specs.Readable.{IsReadable}
-use Rattle.rdx_grammar.specs.Refusal.{unnamed}
-use Rattle.rdx_grammar.specs.Unbuilt.{has_word_to_come, have_word_to_come, unbuilt_at}
-use Rattle.rdx_grammar.specs.declared.shape.fault.DefKind.TheVariants.{Unbuilt}
+use Rattle.rdx_patterns.specs.Parts.{listed, parts, is_symbol}
+use Rattle.rdx_patterns.specs.Readable.{IsReadable}
+use Rattle.rdx_patterns.specs.Refusal.{unnamed}
+use Rattle.rdx_patterns.specs.Unbuilt.{has_word_to_come, have_word_to_come, unbuilt_at}
+use Rattle.rdx_patterns.specs.declared.shape.fault.DefKind.TheVariants.{Unbuilt}
 use Rattle.rdx_query.specs.MatchForms.{QueryParts, query_among, query_parts}
 use Rattle.rdx_query.specs.DefineParts.{DefineKind, DefineParts, ClosureParts, kind_among, define_by, define_among, define_parts, closure_among, closure_parts}
 use Rattle.rdx_query.specs.StepForms.{StepParts, steps_among, step_parts}

@@ -8,8 +8,8 @@ use Rattle.rdx_lang.specs.Closures.{rule_names}
 use Rattle.rdx_lang.specs.Members.{In, here, there}
 use Rattle.rdx_lang.specs.Programs.{Rule}
 use Rattle.rdx_lang.specs.Variants.{variant, first_from, first_variant}
-use Rattle.rdx_grammar.proofs.Booleans.{unless_true, not_either_way}
-use Rattle.rdx_grammar.specs.Inside.Among.{AreAmong}
+use Rattle.rdx_patterns.proofs.Booleans.{unless_true, not_either_way}
+use Rattle.rdx_patterns.specs.Inside.Among.{AreAmong}
 use Rattle.rdx_query.proofs.ClosedValid.{HaveFreeContexts, or-second}
 
 -- ---- members by the test

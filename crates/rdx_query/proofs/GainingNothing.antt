@@ -12,13 +12,13 @@ use Rattle.rdx_lang.specs.WellFormed.{defined}
 use Rattle.rdx_lang.specs.declared.checked.CheckedLang.{CheckedLang}
 use Rattle.rdx_lang.specs.declared.pattern.Ref.TheVariants.{Nt}
 use Rattle.rdx_lang.proofs.MemberLaws.{append-left, append-right}
-use Rattle.rdx_grammar.proofs.Among.{is_among-names}
-use Rattle.rdx_grammar.specs.Ends.{end_of, ends_in, ends_among, known_ends, crossed_for, Gained}
-use Rattle.rdx_grammar.specs.Inside.Among.{AreAmong}
-use Rattle.rdx_grammar.specs.Kinds as kinds
-use Rattle.rdx_grammar.specs.Nonterminals.{names_of}
-use Rattle.rdx_grammar.specs.Parts.{listed, parts}
-use Rattle.rdx_grammar.specs.declared.shape.fault.DefFault.{DefFault}
+use Rattle.rdx_patterns.proofs.Among.{is_among-names}
+use Rattle.rdx_patterns.specs.Ends.{end_of, ends_in, ends_among, known_ends, crossed_for, Gained}
+use Rattle.rdx_patterns.specs.Inside.Among.{AreAmong}
+use Rattle.rdx_patterns.specs.Kinds as kinds
+use Rattle.rdx_patterns.specs.Nonterminals.{names_of}
+use Rattle.rdx_patterns.specs.Parts.{listed, parts}
+use Rattle.rdx_patterns.specs.declared.shape.fault.DefFault.{DefFault}
 use Rattle.rdx_query.specs.DefineParts.{DefineParts, define_parts}
 use Rattle.rdx_query.specs.Ends.{define_ends, form_ends}
 use Rattle.rdx_query.specs.Inside.Fitting.{IsCrossedTo, AreCrossed}

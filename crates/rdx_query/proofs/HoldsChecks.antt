@@ -7,13 +7,13 @@ use Rattle.rdx_lang.specs.ProgramView.{premise_of}
 use Rattle.rdx_lang.specs.Programs.{Premise, language_named}
 use Rattle.rdx_lang.specs.Templates.{Template}
 use Rattle.rdx_lang.specs.TemplateView.{template_of}
-use Rattle.rdx_grammar.specs.Parts.{parts, text_of}
-use Rattle.rdx_grammar.specs.Readable.{IsReadable}
-use Rattle.rdx_grammar.specs.Refusal.{Refusal, refusal_of, named_at, or_else}
-use Rattle.rdx_grammar.specs.declared.shape.fault.DefFault.{DefFault}
-use Rattle.rdx_grammar.specs.declared.shape.fault.DefFault.TheVariants.{Refused, NoMemory}
-use Rattle.rdx_grammar.specs.declared.shape.fault.DefKind.TheVariants.{UnknownLanguage}
-use Rattle.rdx_grammar.specs.declared.shape.fault.DefRefusal.{DefRefusal}
+use Rattle.rdx_patterns.specs.Parts.{parts, text_of}
+use Rattle.rdx_patterns.specs.Readable.{IsReadable}
+use Rattle.rdx_patterns.specs.Refusal.{Refusal, refusal_of, named_at, or_else}
+use Rattle.rdx_patterns.specs.declared.shape.fault.DefFault.{DefFault}
+use Rattle.rdx_patterns.specs.declared.shape.fault.DefFault.TheVariants.{Refused, NoMemory}
+use Rattle.rdx_patterns.specs.declared.shape.fault.DefKind.TheVariants.{UnknownLanguage}
+use Rattle.rdx_patterns.specs.declared.shape.fault.DefRefusal.{DefRefusal}
 use Rattle.rdx_defs.specs.Answers.{ReadsPremise}
 use Rattle.rdx_parts.specs.ExtraReading.{premise_reading}
 use Rattle.rdx_parts.specs.Headed.{Headed, headed}
@@ -22,8 +22,8 @@ use Rattle.rdx_parts.specs.Scope.{Scope}
 use Rattle.rdx_parts.specs.Stands.{Stand, names_bound, bound_by_premise}
 use Rattle.rdx_parts.specs.TemplateReading.{template_reading}
 use Rattle.rdx_defs.specs.declared.judgements.premises.ReadPremise.{ReadPremise}
-use Rattle.rdx_grammar.specs.Ends.{ends_in}
-use Rattle.rdx_grammar.specs.Inside.Among.{AreAmong}
+use Rattle.rdx_patterns.specs.Ends.{ends_in}
+use Rattle.rdx_patterns.specs.Inside.Among.{AreAmong}
 use Rattle.rdx_query.specs.HoldsForms.{HoldsParts, holds_parts, holds_among, lone_parts, lone_among, asked_names, unfound, unfound_for, asked_unknown_at, holds_refusal, asked_premise, holds_by, holds_over, holds_test_by}
 use Rattle.rdx_query.specs.Known.{Known, judgement_language}
 use Rattle.rdx_answer.specs.Queries.{holds, test_holds}

@@ -3,11 +3,11 @@ use Rattle.std.proofs.Common.{◌≡◌, false, List, [], ◌∷◌, None, Resul
 use Rattle.std.specs.Prelude.{option_map}
 use Rattle.rdx_sexp.specs.Sexp.{Sexp}
 use Rattle.rdx_lang.specs.declared.template.HostExpr.{HostExpr}
-use Rattle.rdx_grammar.specs.Refusal.{unnamed, named, or_else}
-use Rattle.rdx_grammar.specs.Unbuilt.{has_word_to_come}
-use Rattle.rdx_grammar.specs.declared.shape.fault.DefFault.{DefFault}
-use Rattle.rdx_grammar.specs.declared.shape.fault.DefFault.TheVariants.{Refused, NoMemory}
-use Rattle.rdx_grammar.specs.declared.shape.fault.DefKind.TheVariants.{Shape, BadPattern, EllipsisDepth, EllipsisVariable, RacketEscape}
+use Rattle.rdx_patterns.specs.Refusal.{unnamed, named, or_else}
+use Rattle.rdx_patterns.specs.Unbuilt.{has_word_to_come}
+use Rattle.rdx_patterns.specs.declared.shape.fault.DefFault.{DefFault}
+use Rattle.rdx_patterns.specs.declared.shape.fault.DefFault.TheVariants.{Refused, NoMemory}
+use Rattle.rdx_patterns.specs.declared.shape.fault.DefKind.TheVariants.{Shape, BadPattern, EllipsisDepth, EllipsisVariable, RacketEscape}
 use Rattle.rdx_parts.specs.Answers.{ReadsHost}
 use Rattle.rdx_parts.specs.Earliest.{start, earliest}
 use Rattle.rdx_parts.specs.Scope.{Scope}

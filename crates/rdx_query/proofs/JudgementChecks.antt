@@ -4,14 +4,14 @@ use Rattle.std.specs.Prelude.{option_map}
 use Rattle.rdx_sexp.specs.Sexp.{Sexp}
 use Rattle.rdx_lang.specs.ProgramView.{judgement_of}
 use Rattle.rdx_lang.specs.declared.program.Judgement.{Judgement}
-use Rattle.rdx_grammar.specs.Nonterminals.{names_of}
-use Rattle.rdx_grammar.specs.Parts.{parts}
-use Rattle.rdx_grammar.specs.Refusal.{Refusal, refusal_of, unnamed, or_else, first_refusal}
-use Rattle.rdx_grammar.specs.Unbuilt.{has_word_to_come, unbuilt_at}
-use Rattle.rdx_grammar.specs.declared.shape.fault.DefFault.{DefFault}
-use Rattle.rdx_grammar.specs.declared.shape.fault.DefFault.TheVariants.{Refused, NoMemory}
-use Rattle.rdx_grammar.specs.declared.shape.fault.DefKind.TheVariants.{Shape}
-use Rattle.rdx_grammar.specs.declared.shape.fault.DefRefusal.{DefRefusal}
+use Rattle.rdx_patterns.specs.Nonterminals.{names_of}
+use Rattle.rdx_patterns.specs.Parts.{parts}
+use Rattle.rdx_patterns.specs.Refusal.{Refusal, refusal_of, unnamed, or_else, first_refusal}
+use Rattle.rdx_patterns.specs.Unbuilt.{has_word_to_come, unbuilt_at}
+use Rattle.rdx_patterns.specs.declared.shape.fault.DefFault.{DefFault}
+use Rattle.rdx_patterns.specs.declared.shape.fault.DefFault.TheVariants.{Refused, NoMemory}
+use Rattle.rdx_patterns.specs.declared.shape.fault.DefKind.TheVariants.{Shape}
+use Rattle.rdx_patterns.specs.declared.shape.fault.DefRefusal.{DefRefusal}
 use Rattle.rdx_defs.specs.Answers.{ReadsJudgement}
 use Rattle.rdx_defs.specs.JudgementForms.{JudgementForm, cut_options, judgement_among, judgement_form, judgement_in}
 use Rattle.rdx_defs.specs.JudgementReading.{judgement_reading}

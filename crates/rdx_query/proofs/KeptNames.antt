@@ -3,7 +3,7 @@ use Rattle.std.proofs.Common.{◌≡◌, ◌<◌, ◌∙◌, ℕ, zero, suc, Lis
 use Rattle.std.proofs.lemmas.List.{length-map}
 use Rattle.rdx_lang.specs.Checked.{language_in}
 use Rattle.rdx_lang.specs.declared.checked.CheckedLang.{CheckedLang}
-use Rattle.rdx_grammar.specs.Nonterminals.{names_of}
+use Rattle.rdx_patterns.specs.Nonterminals.{names_of}
 
 -- so it is at each place
 at-place : (ls : List CheckedLang) (i : ℕ) (ns : List (List ℕ)) (l : CheckedLang)

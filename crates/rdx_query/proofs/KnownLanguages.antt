@@ -6,18 +6,18 @@ use Rattle.rdx_lang.proofs.KnownCrosses.{KnowsAll}
 use Rattle.rdx_lang.specs.Members.{In}
 use Rattle.rdx_lang.specs.Patterns.{Language}
 use Rattle.rdx_lang.specs.Programs.{language_among}
-use Rattle.rdx_grammar.proofs.Firsts.{nothing, none_or}
+use Rattle.rdx_patterns.proofs.Firsts.{nothing, none_or}
 use Rattle.rdx_grammar.proofs.KnownForms.{knows-language_over}
 use Rattle.rdx_grammar.specs.Checks.{bad_patterns}
 use Rattle.rdx_grammar.specs.Forms.{GrammarForm, language_form, extension_form}
 use Rattle.rdx_grammar.specs.Languages.{empty_language, language_over}
 use Rattle.rdx_grammar.specs.Nonterminals.{all_names}
-use Rattle.rdx_grammar.specs.Parts.{text_of}
-use Rattle.rdx_grammar.specs.Refusal.{unnamed}
+use Rattle.rdx_patterns.specs.Parts.{text_of}
+use Rattle.rdx_patterns.specs.Refusal.{unnamed}
 use Rattle.rdx_grammar.specs.Refused.{shape_at, duplicate_at, bad_name_at, bad_pattern_at}
 use Rattle.rdx_grammar.specs.Stands.{definitions_stand, form_stands}
-use Rattle.rdx_grammar.specs.Unbuilt.{unbuilt_at}
-use Rattle.rdx_grammar.specs.declared.shape.fault.DefKind.TheVariants.{BadPattern}
+use Rattle.rdx_patterns.specs.Unbuilt.{unbuilt_at}
+use Rattle.rdx_patterns.specs.declared.shape.fault.DefKind.TheVariants.{BadPattern}
 use Rattle.rdx_query.specs.DefineForms.{defined_relation}
 use Rattle.rdx_query.specs.Definitions.{Defined, language, metafunction, judgement, relation}
 use Rattle.rdx_query.specs.File.{Defines}

@@ -13,17 +13,19 @@ use Rattle.rdx_lang.specs.References.{is_among}
 use Rattle.rdx_lang.specs.WellFormed.{defined}
 use Rattle.rdx_lang.specs.declared.pattern.Ref.{Ref}
 use Rattle.rdx_lang.specs.declared.pattern.Ref.TheVariants.{Nt, Cross}
-use Rattle.rdx_grammar.proofs.Booleans.{or_true}
+use Rattle.rdx_patterns.proofs.Booleans.{or_true}
 use Rattle.rdx_grammar.proofs.ExtendedNames.{is_among-append, heads-append, heads-extended, Within-added}
-use Rattle.rdx_grammar.proofs.PlainDefinitions.{is_among-plain}
+use Rattle.rdx_patterns.proofs.PlainDefinitions.{is_among-plain}
 use Rattle.rdx_grammar.proofs.WellFormedForms.{refs, heads-definitions_of}
-use Rattle.rdx_grammar.specs.Ends.{crossed_for, known_ends}
-use Rattle.rdx_grammar.specs.Extension.{heads, added}
+use Rattle.rdx_patterns.specs.Ends.{crossed_for, known_ends}
+use Rattle.rdx_grammar.specs.Extension.{added}
+use Rattle.rdx_patterns.specs.Found.{heads}
 use Rattle.rdx_grammar.specs.Forms.{GrammarForm}
-use Rattle.rdx_grammar.specs.Inside.AreNames.{AreNames}
+use Rattle.rdx_patterns.specs.AreNames.{AreNames}
 use Rattle.rdx_grammar.specs.Languages.{definitions_of, written_over, language_over}
-use Rattle.rdx_grammar.specs.Nonterminals.{names_of, names_in, all_names}
-use Rattle.rdx_grammar.specs.Parts.{text_of}
+use Rattle.rdx_grammar.specs.Nonterminals.{names_in, all_names}
+use Rattle.rdx_patterns.specs.Nonterminals.{names_of}
+use Rattle.rdx_patterns.specs.Parts.{text_of}
 use Rattle.rdx_query.specs.Known.{Known, or_empty}
 use Rattle.rdx_query.specs.LanguageForms.{named_base}
 use Rattle.rdx_query.proofs.FittingKnown.{plain-before}

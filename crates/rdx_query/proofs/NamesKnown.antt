@@ -9,17 +9,17 @@ use Rattle.rdx_lang.proofs.MemberLaws.{in-append}
 use Rattle.rdx_lang.specs.Members.{In}
 use Rattle.rdx_lang.specs.Programs.{Judgement, Program, Relation, language_among, language_named, judgement_among, judgement_named, relation_among, relation_named}
 use Rattle.rdx_lang.specs.Templates.{Host}
-use Rattle.rdx_grammar.specs.Nonterminals.{names_of}
-use Rattle.rdx_grammar.specs.Parts.{text_of}
-use Rattle.rdx_grammar.specs.Occurrences.{occurrences}
-use Rattle.rdx_grammar.specs.PatternRefusal.{keyword_at, bad_binder_at, bad_occurrence_at, depth_clash_at}
-use Rattle.rdx_grammar.specs.PatternRefusal as pattern
-use Rattle.rdx_grammar.specs.Reading.{reading}
-use Rattle.rdx_grammar.specs.declared.patterns.position.Position.TheVariants as position
-use Rattle.rdx_grammar.specs.PatternChecks.{when}
-use Rattle.rdx_grammar.specs.Refusal.{Refusal, named, or_else, first_refusal}
-use Rattle.rdx_grammar.specs.Unbuilt.{unbuilt_at}
-use Rattle.rdx_grammar.specs.declared.shape.fault.DefKind.TheVariants.{UnknownName}
+use Rattle.rdx_patterns.specs.Nonterminals.{names_of}
+use Rattle.rdx_patterns.specs.Parts.{text_of}
+use Rattle.rdx_patterns.specs.Occurrences.{occurrences}
+use Rattle.rdx_patterns.specs.PatternRefusal.{keyword_at, bad_binder_at, bad_occurrence_at, depth_clash_at}
+use Rattle.rdx_patterns.specs.PatternRefusal as pattern
+use Rattle.rdx_patterns.specs.Reading.{reading}
+use Rattle.rdx_patterns.specs.declared.patterns.position.Position.TheVariants as position
+use Rattle.rdx_patterns.specs.PatternChecks.{when}
+use Rattle.rdx_patterns.specs.Refusal.{Refusal, named, or_else, first_refusal}
+use Rattle.rdx_patterns.specs.Unbuilt.{unbuilt_at}
+use Rattle.rdx_patterns.specs.declared.shape.fault.DefKind.TheVariants.{UnknownName}
 use Rattle.rdx_parts.specs.Arguments.{is_misfit}
 use Rattle.rdx_parts.specs.Earliest.{start}
 use Rattle.rdx_parts.specs.Headed.{Headed, headed}
@@ -55,7 +55,7 @@ use Rattle.rdx_query.specs.TestForms.{EqualParts, LeadingParts, equal_parts, lea
 use Rattle.rdx_query.proofs.ClosureChecks.{language-known, same-language}
 use Rattle.rdx_query.proofs.DefinedJudgements.{judgements_in, mapped-some}
 use Rattle.rdx_query.proofs.FoundByName.{judgement-among}
-use Rattle.rdx_grammar.proofs.Firsts.{none_or}
+use Rattle.rdx_patterns.proofs.Firsts.{none_or}
 use Rattle.rdx_parts.proofs.EarliestPlaces.{earliest-none}
 
 -- ---- names stay known

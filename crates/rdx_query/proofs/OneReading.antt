@@ -5,7 +5,7 @@ use Rattle.rdx_sexp.specs.Sexp.{Sexp}
 use Rattle.rdx_lang.specs.Edges.{IsFirstRecursive}
 use Rattle.rdx_lang.specs.Patterns.{Language}
 use Rattle.rdx_lang.specs.declared.pattern.Ref.{Ref}
-use Rattle.rdx_grammar.specs.Refusal.{Refusal}
+use Rattle.rdx_patterns.specs.Refusal.{Refusal}
 use Rattle.rdx_grammar.specs.Refused.{recursion_at}
 use Rattle.rdx_query.specs.Definitions.{Defined, language, IsSound}
 use Rattle.rdx_query.specs.File.{Defines, Asks, IsPassedOver, IsRefusedForm, by_check, by_recursion, by_late_check, Accepts, accepts_none, accepts_definition, accepts_query, accepts_passed, Refuses, refuses_here, refuses_behind_definition, refuses_behind_query, refuses_behind_passed}

@@ -9,20 +9,20 @@ use Rattle.rdx_lang.specs.Programs.{Program, language_among, language_named}
 use Rattle.rdx_lang.specs.TemplateView.{host_of}
 use Rattle.rdx_lang.specs.declared.checked.CheckedPat.{CheckedPat}
 use Rattle.rdx_lang.specs.declared.template.HostExpr.{HostExpr}
-use Rattle.rdx_grammar.specs.Answers.{ReadsPattern}
-use Rattle.rdx_grammar.specs.Nonterminals.{names_of}
-use Rattle.rdx_grammar.specs.Occurrences.{occurrences}
-use Rattle.rdx_grammar.specs.Parts.{text_of}
-use Rattle.rdx_grammar.specs.PatternRefusal.{keyword_at, bad_binder_at, bad_occurrence_at, depth_clash_at, escape_at, pattern_refusal}
-use Rattle.rdx_grammar.specs.Reading.{reading}
-use Rattle.rdx_grammar.specs.Readable.{IsReadable}
-use Rattle.rdx_grammar.specs.Refusal.{Refusal, refusal_of, named, or_else}
-use Rattle.rdx_grammar.specs.Unbuilt.{has_word_to_come}
-use Rattle.rdx_grammar.specs.declared.shape.fault.DefFault.{DefFault}
-use Rattle.rdx_grammar.specs.declared.shape.fault.DefFault.TheVariants.{Refused, NoMemory}
-use Rattle.rdx_grammar.specs.declared.shape.fault.DefKind.TheVariants.{Shape, UnknownLanguage, BadName, BadPattern, EllipsisDepth, RacketEscape}
-use Rattle.rdx_grammar.specs.declared.shape.fault.DefRefusal.{DefRefusal}
-use Rattle.rdx_grammar.specs.declared.patterns.position.Position.TheVariants as position
+use Rattle.rdx_patterns.specs.Answers.{ReadsPattern}
+use Rattle.rdx_patterns.specs.Nonterminals.{names_of}
+use Rattle.rdx_patterns.specs.Occurrences.{occurrences}
+use Rattle.rdx_patterns.specs.Parts.{text_of}
+use Rattle.rdx_patterns.specs.PatternRefusal.{keyword_at, bad_binder_at, bad_occurrence_at, depth_clash_at, escape_at, pattern_refusal}
+use Rattle.rdx_patterns.specs.Reading.{reading}
+use Rattle.rdx_patterns.specs.Readable.{IsReadable}
+use Rattle.rdx_patterns.specs.Refusal.{Refusal, refusal_of, named, or_else}
+use Rattle.rdx_patterns.specs.Unbuilt.{has_word_to_come}
+use Rattle.rdx_patterns.specs.declared.shape.fault.DefFault.{DefFault}
+use Rattle.rdx_patterns.specs.declared.shape.fault.DefFault.TheVariants.{Refused, NoMemory}
+use Rattle.rdx_patterns.specs.declared.shape.fault.DefKind.TheVariants.{Shape, UnknownLanguage, BadName, BadPattern, EllipsisDepth, RacketEscape}
+use Rattle.rdx_patterns.specs.declared.shape.fault.DefRefusal.{DefRefusal}
+use Rattle.rdx_patterns.specs.declared.patterns.position.Position.TheVariants as position
 use Rattle.rdx_parts.specs.Answers.{ReadsHost}
 use Rattle.rdx_parts.specs.TemplateRefusal.{host_refusal}
 use Rattle.rdx_query.specs.HostForms.{parts_of_host, host_shape_at, bad_host_at, undriven_host_at, host_escape_at}

@@ -16,14 +16,14 @@ use Rattle.rdx_lang.specs.Scopes.{bound_by, case_uses}
 use Rattle.rdx_lang.specs.Valid.{are_valid_extras, is_valid_rule, is_valid_domain, is_valid_over}
 use Rattle.rdx_lang.specs.WellFormed.{is_well_formed_in}
 use Rattle.rdx_lang.specs.declared.program.Relation.{Relation}
-use Rattle.rdx_grammar.specs.Names.{is_bad_name}
-use Rattle.rdx_grammar.specs.Nonterminals.{names_of}
-use Rattle.rdx_grammar.specs.Parts.{parts, text_of}
-use Rattle.rdx_grammar.specs.Refusal.{Refusal, refusal_of, or_else, first_refusal}
-use Rattle.rdx_grammar.specs.Unbuilt.{has_word_to_come}
-use Rattle.rdx_grammar.specs.declared.shape.fault.DefFault.{DefFault}
-use Rattle.rdx_grammar.specs.declared.shape.fault.DefFault.TheVariants.{Refused, NoMemory}
-use Rattle.rdx_grammar.specs.declared.shape.fault.DefRefusal.{DefRefusal}
+use Rattle.rdx_patterns.specs.Names.{is_bad_name}
+use Rattle.rdx_patterns.specs.Nonterminals.{names_of}
+use Rattle.rdx_patterns.specs.Parts.{parts, text_of}
+use Rattle.rdx_patterns.specs.Refusal.{Refusal, refusal_of, or_else, first_refusal}
+use Rattle.rdx_patterns.specs.Unbuilt.{has_word_to_come}
+use Rattle.rdx_patterns.specs.declared.shape.fault.DefFault.{DefFault}
+use Rattle.rdx_patterns.specs.declared.shape.fault.DefFault.TheVariants.{Refused, NoMemory}
+use Rattle.rdx_patterns.specs.declared.shape.fault.DefRefusal.{DefRefusal}
 use Rattle.rdx_defs.specs.Answers.{ReadsRelation}
 use Rattle.rdx_defs.specs.RelationForms.{RelationForm, is_keyword, may_name, relation_among, relation_over, relation_form}
 use Rattle.rdx_defs.specs.RelationReading.{relation_reading}
@@ -43,7 +43,7 @@ use Rattle.rdx_query.specs.Inside.Defining.{parts_refusal, parts_relation, Relat
 use Rattle.rdx_query.specs.Inside.Earlier.{earlier, IsFaultAt, IsRefusedBy, IsUnless}
 use Rattle.rdx_query.specs.Inside.Fitting.{IsRelationOf, language_at}
 use Rattle.rdx_query.specs.Inside.PartViews.{second_among, may_name_item, language_item}
-use Rattle.rdx_grammar.proofs.Firsts.{none_of}
+use Rattle.rdx_patterns.proofs.Firsts.{none_of}
 use Rattle.rdx_query.proofs.CheckNumbers.{or_none, Checks, AreChecks, refused, merge, merged}
 use Rattle.rdx_query.proofs.DefineChecks.{bad-number, good_name, sole_parts, body-built, relates-by}
 use Rattle.rdx_query.proofs.FormParts.{unbuilt_at-built}

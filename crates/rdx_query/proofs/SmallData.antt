@@ -5,9 +5,9 @@ use Rattle.std.specs.Prelude.{◌&&◌, bytes_eq, codes}
 use Rattle.rdx_base.specs.declared.place.Span.{Span}
 use Rattle.rdx_sexp.specs.Sexp.{Atom, integer, truth, text, symbol, keyword, Sexp, Sexps, leaf, list, nil, cons, sexps, span_of, sexp_nodes, sexps_nodes}
 use Rattle.rdx_sexp.specs.Size.{sexp_depth, sexps_depth, IsSpelledSexp, AreSpelled}
-use Rattle.rdx_grammar.specs.Kinds.{is_among}
-use Rattle.rdx_grammar.specs.Parts.{listed, parts, is_symbol, is_word, text_of}
-use Rattle.rdx_grammar.specs.Readable.{IsReadable}
+use Rattle.rdx_patterns.specs.Kinds.{is_among}
+use Rattle.rdx_patterns.specs.Parts.{listed, parts, is_symbol, is_word, text_of}
+use Rattle.rdx_patterns.specs.Readable.{IsReadable}
 use Rattle.rdx_defs.specs.Expansion.{replaced, replaced_in, by_shortcut, expanded_case, settled, expanded_by, used_shortcuts, expanded_cases, expanded_form}
 use Rattle.rdx_defs.specs.RelationForms.{CaseForm, case_among, case_form, RelationForm, is_keyword, relation_over, may_name, relation_among, relation_form}
 use Rattle.rdx_defs.specs.Shorthand.{before_with, behind_with, Shortcut, is_new_arrow, shortcut_among, shortcut_of_lists, shortcut_form, with_shortcut, shortcuts_of, first_of_each}

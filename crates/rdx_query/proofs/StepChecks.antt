@@ -6,13 +6,13 @@ use Rattle.rdx_sexp.specs.Sexp.{Sexp}
 use Rattle.rdx_lang.specs.Programs.{Program, Relation, relation_among, relation_named}
 use Rattle.rdx_lang.specs.TemplateView.{host_of}
 use Rattle.rdx_lang.specs.declared.template.HostExpr.{HostExpr}
-use Rattle.rdx_grammar.specs.Parts.{text_of}
-use Rattle.rdx_grammar.specs.Readable.{IsReadable}
-use Rattle.rdx_grammar.specs.Refusal.{Refusal, or_else}
-use Rattle.rdx_grammar.specs.Unbuilt.{has_word_to_come}
-use Rattle.rdx_grammar.specs.declared.shape.fault.DefFault.{DefFault}
-use Rattle.rdx_grammar.specs.declared.shape.fault.DefFault.TheVariants.{Refused, NoMemory}
-use Rattle.rdx_grammar.specs.declared.shape.fault.DefKind.TheVariants.{UnknownName}
+use Rattle.rdx_patterns.specs.Parts.{text_of}
+use Rattle.rdx_patterns.specs.Readable.{IsReadable}
+use Rattle.rdx_patterns.specs.Refusal.{Refusal, or_else}
+use Rattle.rdx_patterns.specs.Unbuilt.{has_word_to_come}
+use Rattle.rdx_patterns.specs.declared.shape.fault.DefFault.{DefFault}
+use Rattle.rdx_patterns.specs.declared.shape.fault.DefFault.TheVariants.{Refused, NoMemory}
+use Rattle.rdx_patterns.specs.declared.shape.fault.DefKind.TheVariants.{UnknownName}
 use Rattle.rdx_parts.specs.Answers.{ReadsHost}
 use Rattle.rdx_parts.specs.TemplateRefusal.{host_refusal}
 use Rattle.rdx_query.specs.HostForms.{parts_of_host, host_of_datum, bad_host_at, undriven_host_at, host_escape_at}

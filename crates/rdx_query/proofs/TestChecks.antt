@@ -7,13 +7,13 @@ use Rattle.rdx_lang.specs.Programs.{Relation, relation_named}
 use Rattle.rdx_lang.specs.Templates.{Host}
 use Rattle.rdx_lang.specs.TemplateView.{host_of}
 use Rattle.rdx_lang.specs.declared.template.HostExpr.{HostExpr}
-use Rattle.rdx_grammar.specs.Parts.{text_of}
-use Rattle.rdx_grammar.specs.Readable.{IsReadable}
-use Rattle.rdx_grammar.specs.Refusal.{Refusal, refusal_of, named, or_else}
-use Rattle.rdx_grammar.specs.Unbuilt.{has_word_to_come}
-use Rattle.rdx_grammar.specs.declared.shape.fault.DefFault.{DefFault}
-use Rattle.rdx_grammar.specs.declared.shape.fault.DefKind.TheVariants.{Shape, BadPattern, UnknownName, EllipsisVariable, RacketEscape}
-use Rattle.rdx_grammar.specs.declared.shape.fault.DefRefusal.{DefRefusal}
+use Rattle.rdx_patterns.specs.Parts.{text_of}
+use Rattle.rdx_patterns.specs.Readable.{IsReadable}
+use Rattle.rdx_patterns.specs.Refusal.{Refusal, refusal_of, named, or_else}
+use Rattle.rdx_patterns.specs.Unbuilt.{has_word_to_come}
+use Rattle.rdx_patterns.specs.declared.shape.fault.DefFault.{DefFault}
+use Rattle.rdx_patterns.specs.declared.shape.fault.DefKind.TheVariants.{Shape, BadPattern, UnknownName, EllipsisVariable, RacketEscape}
+use Rattle.rdx_patterns.specs.declared.shape.fault.DefRefusal.{DefRefusal}
 use Rattle.rdx_parts.specs.Answers.{ReadsHost}
 use Rattle.rdx_parts.specs.Earliest.{start, earliest}
 use Rattle.rdx_parts.specs.Scope.{Scope}
@@ -28,7 +28,7 @@ use Rattle.rdx_query.specs.StepForms.{unknown_relation_by}
 use Rattle.rdx_query.specs.TestForms.{EqualParts, LeadingParts, equal_parts, leading_parts, hosts_shape_at, bad_hosts_at, undriven_hosts_at, hosts_escape_at, unknown_tested_at, test_refusal_over, equal_refusal, leading_refusal}
 use Rattle.rdx_query.specs.Inside.Asking.{AreReadable, hosts_refusal, ReadsHosts, IsEqualFit, IsSame, IsLeadingFit, IsLeading}
 use Rattle.rdx_query.specs.Inside.Earlier.{earlier, IsFaultAt, IsRefusedBy, IsFirstFault}
-use Rattle.rdx_grammar.proofs.Rests.{drop-at}
+use Rattle.rdx_patterns.proofs.Rests.{drop-at}
 use Rattle.rdx_query.proofs.CheckNumbers.{or_none, one-behind, HasNumber, Checks, AreChecks, refused, merge, merged, unnamed-number, first-number-of, earlier-assoc, earlier_none}
 use Rattle.rdx_query.proofs.FormParts.{unbuilt_at-built, AllBuilt, equal-items, leading-items, parts-readable, parts-built}
 use Rattle.rdx_query.proofs.HostChecks.{host_checks, host-checks, host-refusal, host-refused}

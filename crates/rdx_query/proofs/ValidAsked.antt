@@ -11,21 +11,21 @@ use Rattle.rdx_lang.specs.Programs.{Mode, Premise, holds as held, language_named
 use Rattle.rdx_lang.specs.Scopes.{bound_by}
 use Rattle.rdx_lang.specs.Templates.{Host, Template}
 use Rattle.rdx_lang.specs.Valid.{is_valid_extra}
-use Rattle.rdx_grammar.proofs.Booleans.{and_both, and_true}
-use Rattle.rdx_grammar.proofs.Firsts.{none_or}
-use Rattle.rdx_grammar.proofs.KnownReadings.{pattern_well_formed}
-use Rattle.rdx_grammar.specs.Ends.{ends_in, crossed_for}
-use Rattle.rdx_grammar.specs.Inside.Among.{AreAmong}
-use Rattle.rdx_grammar.specs.Nonterminals.{names_of}
-use Rattle.rdx_grammar.specs.Occurrences.{occurrences}
-use Rattle.rdx_grammar.specs.Parts.{parts, text_of, is_symbol}
-use Rattle.rdx_grammar.specs.PatternRefusal.{keyword_at, bad_binder_at, bad_occurrence_at, depth_clash_at, escape_at, pattern_refusal}
-use Rattle.rdx_grammar.specs.Readable.{IsReadable}
-use Rattle.rdx_grammar.specs.Reading.{reading}
-use Rattle.rdx_grammar.specs.Refusal.{unnamed, named, or_else}
-use Rattle.rdx_grammar.specs.Unbuilt.{unbuilt_at}
-use Rattle.rdx_grammar.specs.declared.patterns.position.Position.TheVariants as position
-use Rattle.rdx_grammar.specs.declared.shape.fault.DefKind.TheVariants.{Shape, BadPattern, EllipsisDepth, EllipsisVariable}
+use Rattle.rdx_patterns.proofs.Booleans.{and_both, and_true}
+use Rattle.rdx_patterns.proofs.Firsts.{none_or}
+use Rattle.rdx_patterns.proofs.KnownReadings.{pattern_well_formed}
+use Rattle.rdx_patterns.specs.Ends.{ends_in, crossed_for}
+use Rattle.rdx_patterns.specs.Inside.Among.{AreAmong}
+use Rattle.rdx_patterns.specs.Nonterminals.{names_of}
+use Rattle.rdx_patterns.specs.Occurrences.{occurrences}
+use Rattle.rdx_patterns.specs.Parts.{parts, text_of, is_symbol}
+use Rattle.rdx_patterns.specs.PatternRefusal.{keyword_at, bad_binder_at, bad_occurrence_at, depth_clash_at, escape_at, pattern_refusal}
+use Rattle.rdx_patterns.specs.Readable.{IsReadable}
+use Rattle.rdx_patterns.specs.Reading.{reading}
+use Rattle.rdx_patterns.specs.Refusal.{unnamed, named, or_else}
+use Rattle.rdx_patterns.specs.Unbuilt.{unbuilt_at}
+use Rattle.rdx_patterns.specs.declared.patterns.position.Position.TheVariants as position
+use Rattle.rdx_patterns.specs.declared.shape.fault.DefKind.TheVariants.{Shape, BadPattern, EllipsisDepth, EllipsisVariable}
 use Rattle.rdx_parts.specs.Earliest.{start, earliest}
 use Rattle.rdx_parts.specs.ExtraReading.{premise_reading}
 use Rattle.rdx_parts.specs.Headed.{Headed, headed}

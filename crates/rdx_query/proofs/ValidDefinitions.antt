@@ -15,27 +15,27 @@ use Rattle.rdx_lang.specs.declared.pattern.Ref.TheVariants.{Nt, Cross}
 use Rattle.rdx_lang.proofs.ClosedRules.{nonterminal-well_formed}
 use Rattle.rdx_lang.proofs.MemberLaws.{append-left, append-right}
 use Rattle.rdx_term.specs.Spelling.{is_name}
-use Rattle.rdx_grammar.proofs.Among.{is_among-names}
-use Rattle.rdx_grammar.proofs.Firsts.{none_or}
-use Rattle.rdx_grammar.proofs.KnownReadings.{pattern_well_formed}
+use Rattle.rdx_patterns.proofs.Among.{is_among-names}
+use Rattle.rdx_patterns.proofs.Firsts.{none_or}
+use Rattle.rdx_patterns.proofs.KnownReadings.{pattern_well_formed}
 use Rattle.rdx_grammar.proofs.NamedForms.{AreNamedIn-passed}
 use Rattle.rdx_grammar.proofs.SpelledParts.{AreSpelledIn-language, AreSpelledIn-extension}
-use Rattle.rdx_grammar.specs.Ends.{ends_in, crossed_for}
+use Rattle.rdx_patterns.specs.Ends.{ends_in, crossed_for}
 use Rattle.rdx_grammar.specs.Forms.{GrammarForm, language_form, extension_form}
-use Rattle.rdx_grammar.specs.Inside.Among.{AreAmong}
+use Rattle.rdx_patterns.specs.Inside.Among.{AreAmong}
 use Rattle.rdx_grammar.specs.Inside.CheckedForms.{AreSpelledIn}
-use Rattle.rdx_grammar.specs.Kinds.{is_among}
+use Rattle.rdx_patterns.specs.Kinds.{is_among}
 use Rattle.rdx_grammar.specs.Languages.{empty_language}
-use Rattle.rdx_grammar.specs.Nonterminals.{names_of}
-use Rattle.rdx_grammar.specs.Occurrences.{occurrences}
-use Rattle.rdx_grammar.specs.Parts.{listed, parts, text_of}
-use Rattle.rdx_grammar.specs.PatternRefusal.{keyword_at, bad_binder_at, bad_occurrence_at, depth_clash_at, pattern_refusal}
-use Rattle.rdx_grammar.specs.Readable.{IsReadable}
-use Rattle.rdx_grammar.specs.Reading.{reading}
-use Rattle.rdx_grammar.specs.Refusal.{Refusal, or_else, unnamed}
-use Rattle.rdx_grammar.specs.Unbuilt.{has_word_to_come, unbuilt_at}
-use Rattle.rdx_grammar.specs.declared.patterns.position.Position.TheVariants as position
-use Rattle.rdx_grammar.specs.declared.shape.fault.DefKind.TheVariants.{Unbuilt, BadPattern}
+use Rattle.rdx_patterns.specs.Nonterminals.{names_of}
+use Rattle.rdx_patterns.specs.Occurrences.{occurrences}
+use Rattle.rdx_patterns.specs.Parts.{listed, parts, text_of}
+use Rattle.rdx_patterns.specs.PatternRefusal.{keyword_at, bad_binder_at, bad_occurrence_at, depth_clash_at, pattern_refusal}
+use Rattle.rdx_patterns.specs.Readable.{IsReadable}
+use Rattle.rdx_patterns.specs.Reading.{reading}
+use Rattle.rdx_patterns.specs.Refusal.{Refusal, or_else, unnamed}
+use Rattle.rdx_patterns.specs.Unbuilt.{has_word_to_come, unbuilt_at}
+use Rattle.rdx_patterns.specs.declared.patterns.position.Position.TheVariants as position
+use Rattle.rdx_patterns.specs.declared.shape.fault.DefKind.TheVariants.{Unbuilt, BadPattern}
 use Rattle.rdx_defs.specs.Expansion.{expanded_form}
 use Rattle.rdx_parts.specs.Headed.{Headed}
 use Rattle.rdx_defs.specs.Inside.FormOutlines.{domain_patterns}

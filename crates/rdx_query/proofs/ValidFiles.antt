@@ -11,10 +11,10 @@ use Rattle.rdx_lang.specs.Modes.{Callable}
 use Rattle.rdx_lang.specs.Patterns.{Pattern, Language}
 use Rattle.rdx_lang.specs.Programs.{Metafunction, Judgement, Relation, Rule, Premise, Program, judgement_among, relation_among, language_named, relation_named}
 use Rattle.rdx_lang.specs.Valid.{is_valid_metafunction, is_valid_judgement, is_valid_over, callable_in, is_valid_beside, is_valid_metafunction_of, is_valid_judgement_of, are_distinct, defined_names, is_valid}
-use Rattle.rdx_grammar.proofs.Booleans.{and_both, and_true}
-use Rattle.rdx_grammar.specs.Ends.{crossed_for}
-use Rattle.rdx_grammar.specs.Inside.Among.{AreAmong}
-use Rattle.rdx_grammar.specs.Readable.{IsReadable}
+use Rattle.rdx_patterns.proofs.Booleans.{and_both, and_true}
+use Rattle.rdx_patterns.specs.Ends.{crossed_for}
+use Rattle.rdx_patterns.specs.Inside.Among.{AreAmong}
+use Rattle.rdx_patterns.specs.Readable.{IsReadable}
 use Rattle.rdx_defs.proofs.PartsOfForms.{Each}
 use Rattle.rdx_parts.specs.Scope.{mode_of, callable}
 use Rattle.rdx_defs.specs.Scopes.{scope_in}

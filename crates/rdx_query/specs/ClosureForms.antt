@@ -4,16 +4,16 @@ use Rattle.std.specs.Prelude.{ℕ, List, [], ◌∷◌, Option, Some, None, byte
 use Rattle.rdx_sexp.specs.Sexp.{Sexp}
 use Rattle.rdx_lang.specs.Closures.{context_closure, compatible_closure}
 use Rattle.rdx_lang.specs.Programs.{Relation, relation_named}
-use Rattle.rdx_grammar.specs.Kinds.{is_among}
-use Rattle.rdx_grammar.specs.Nonterminals.{names_of}
-use Rattle.rdx_grammar.specs.Occurrences.{Occurrence, occurrences}
-use Rattle.rdx_grammar.specs.Parts.{text_of}
-use Rattle.rdx_grammar.specs.PatternRefusal.{keyword_at, bad_binder_at, bad_occurrence_at, depth_clash_at, escape_at}
-use Rattle.rdx_grammar.specs.Reading.{reading}
-use Rattle.rdx_grammar.specs.Refusal.{Refusal, unnamed, named, or_else, first_refusal}
-use Rattle.rdx_grammar.specs.Unbuilt.{unbuilt_at}
-use Rattle.rdx_grammar.specs.declared.shape.fault.DefKind.TheVariants.{Shape, UnknownLanguage, BadPattern}
-use Rattle.rdx_grammar.specs.declared.patterns.position.Position.TheVariants as position
+use Rattle.rdx_patterns.specs.Kinds.{is_among}
+use Rattle.rdx_patterns.specs.Nonterminals.{names_of}
+use Rattle.rdx_patterns.specs.Occurrences.{Occurrence, occurrences}
+use Rattle.rdx_patterns.specs.Parts.{text_of}
+use Rattle.rdx_patterns.specs.PatternRefusal.{keyword_at, bad_binder_at, bad_occurrence_at, depth_clash_at, escape_at}
+use Rattle.rdx_patterns.specs.Reading.{reading}
+use Rattle.rdx_patterns.specs.Refusal.{Refusal, unnamed, named, or_else, first_refusal}
+use Rattle.rdx_patterns.specs.Unbuilt.{unbuilt_at}
+use Rattle.rdx_patterns.specs.declared.shape.fault.DefKind.TheVariants.{Shape, UnknownLanguage, BadPattern}
+use Rattle.rdx_patterns.specs.declared.patterns.position.Position.TheVariants as position
 use Rattle.rdx_query.specs.DefineParts.{DefineParts, ClosureParts, closure_parts, with_symbol}
 use Rattle.rdx_query.specs.Known.{Known}
 use Rattle.rdx_query.specs.LanguageForms.{named_base, unknown_at, name_taken_at}

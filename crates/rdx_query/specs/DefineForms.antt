@@ -2,9 +2,9 @@
 use Rattle.std.specs.Prelude.{[], ◌∷◌, Option, Some, None}
 use Rattle.rdx_sexp.specs.Sexp.{Sexp}
 use Rattle.rdx_lang.specs.Programs.{Relation}
-use Rattle.rdx_grammar.specs.Refusal.{Refusal, unnamed, first_refusal}
-use Rattle.rdx_grammar.specs.Unbuilt.{unbuilt_at}
-use Rattle.rdx_grammar.specs.declared.shape.fault.DefKind.TheVariants.{RacketEscape}
+use Rattle.rdx_patterns.specs.Refusal.{Refusal, unnamed, first_refusal}
+use Rattle.rdx_patterns.specs.Unbuilt.{unbuilt_at}
+use Rattle.rdx_patterns.specs.declared.shape.fault.DefKind.TheVariants.{RacketEscape}
 use Rattle.rdx_query.specs.ClosureForms.{context_refusal, context_relation, compatible_refusal, compatible_relation}
 use Rattle.rdx_query.specs.DefineParts.{DefineKind, by_cases, by_contexts, by_crosses, DefineParts, define_parts}
 use Rattle.rdx_query.specs.Known.{Known}

@@ -2,7 +2,7 @@
 -- anything else is Racket that means nothing here.
 use Rattle.std.specs.Prelude.{ℕ, ◌&&◌, List, [], ◌∷◌, Option, Some, None, codes, bytes_eq, if◌then◌else◌}
 use Rattle.rdx_sexp.specs.Sexp.{symbol, Sexp, leaf}
-use Rattle.rdx_grammar.specs.Parts.{parts, is_symbol}
+use Rattle.rdx_patterns.specs.Parts.{parts, is_symbol}
 
 -- ---- the list
 

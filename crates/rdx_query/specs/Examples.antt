@@ -2,8 +2,8 @@
 use Rattle.std.specs.Prelude.{ℕ, Bool, true, false, pos, List, [], ◌∷◌, codes}
 use Rattle.rdx_base.specs.declared.place.Span.{Span}
 use Rattle.rdx_sexp.specs.Sexp.{Sexp, symbol, integer, text, keyword, leaf, list, sexps}
-use Rattle.rdx_grammar.specs.Refusal.{unnamed, named, named_at}
-use Rattle.rdx_grammar.specs.declared.shape.fault.DefKind.TheVariants.{Shape, RacketEscape, UnknownLanguage, Duplicate, LeftRecursive}
+use Rattle.rdx_patterns.specs.Refusal.{unnamed, named, named_at}
+use Rattle.rdx_patterns.specs.declared.shape.fault.DefKind.TheVariants.{Shape, RacketEscape, UnknownLanguage, Duplicate, LeftRecursive}
 use Rattle.rdx_query.specs.Writing.{Writes}
 use Rattle.rdx_query.specs.File.{IsFileRefusal}
 

@@ -5,7 +5,7 @@ use Rattle.rdx_lang.specs.Edges.{IsFirstRecursive}
 use Rattle.rdx_lang.specs.Patterns.{Language}
 use Rattle.rdx_lang.specs.Programs.{Program}
 use Rattle.rdx_lang.specs.declared.pattern.Ref.{Ref}
-use Rattle.rdx_grammar.specs.Refusal.{Refusal}
+use Rattle.rdx_patterns.specs.Refusal.{Refusal}
 use Rattle.rdx_grammar.specs.Refused.{recursion_at}
 use Rattle.rdx_defs.specs.Scopes.{scope_in, languages_in}
 use Rattle.rdx_query.specs.Definitions.{Defined, language, IsSound}

@@ -1,7 +1,7 @@
 -- What a form does, by its head: it defines something, it asks something, or it is passed over. A form of another kind has to be a host expression.
 use Rattle.std.specs.Prelude.{ℕ, List, [], ◌∷◌, Option, Some, None, bytes_eq, codes, if◌then◌else◌}
 use Rattle.rdx_sexp.specs.Sexp.{symbol, Sexp, leaf}
-use Rattle.rdx_grammar.specs.Parts.{parts}
+use Rattle.rdx_patterns.specs.Parts.{parts}
 
 -- what a form defines: a language by itself, one that extends another, a metafunction, a judgement, or a relation
 pub data DefinitionKind : Type 0 where

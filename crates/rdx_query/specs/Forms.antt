@@ -3,8 +3,8 @@
 use Rattle.std.specs.Prelude.{Bool, true, false, Option, Some, None, option_map}
 use Rattle.rdx_sexp.specs.Sexp.{Sexp}
 use Rattle.rdx_grammar.specs.Forms.{language_form, extension_form}
-use Rattle.rdx_grammar.specs.Refusal.{Refusal, unnamed}
-use Rattle.rdx_grammar.specs.declared.shape.fault.DefKind.TheVariants.{Unbuilt}
+use Rattle.rdx_patterns.specs.Refusal.{Refusal, unnamed}
+use Rattle.rdx_patterns.specs.declared.shape.fault.DefKind.TheVariants.{Unbuilt}
 use Rattle.rdx_query.specs.Definitions.{Defined, language, metafunction, judgement, relation}
 use Rattle.rdx_query.specs.DefineForms.{define_refusal, defined_relation}
 use Rattle.rdx_query.specs.FormKinds as kind

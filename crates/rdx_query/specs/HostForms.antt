@@ -2,8 +2,8 @@
 use Rattle.std.specs.Prelude.{List, [], Option, option_map}
 use Rattle.rdx_sexp.specs.Sexp.{Sexp}
 use Rattle.rdx_lang.specs.Templates.{Host}
-use Rattle.rdx_grammar.specs.Refusal.{Refusal, unnamed}
-use Rattle.rdx_grammar.specs.declared.shape.fault.DefKind.TheVariants.{Shape, BadPattern, EllipsisVariable, RacketEscape}
+use Rattle.rdx_patterns.specs.Refusal.{Refusal, unnamed}
+use Rattle.rdx_patterns.specs.declared.shape.fault.DefKind.TheVariants.{Shape, BadPattern, EllipsisVariable, RacketEscape}
 use Rattle.rdx_parts.specs.Earliest.{start, earliest}
 use Rattle.rdx_parts.specs.TemplateChecks.{bad_parts, undriven_parts, escapes}
 use Rattle.rdx_parts.specs.TemplateOccurrences.{TemplatePart, host_parts}

@@ -2,7 +2,7 @@
 use Rattle.std.specs.Prelude.{ℕ, Bool, ◌||◌, List, [], ◌∷◌, ◌++◌, Option, Some, None, is_some, bytes_eq, if◌then◌else◌}
 use Rattle.rdx_lang.specs.Patterns.{Language}
 use Rattle.rdx_lang.specs.Programs.{Program, language_named, metafunction_named, judgement_named, relation_named}
-use Rattle.rdx_grammar.specs.Ends.{crossed_for}
+use Rattle.rdx_patterns.specs.Ends.{crossed_for}
 use Rattle.rdx_grammar.specs.Languages.{empty_language}
 use Rattle.rdx_parts.specs.Scope.{Scope}
 use Rattle.rdx_query.specs.Definitions.{Defined, language, metafunction, judgement, relation}

@@ -5,11 +5,11 @@ use Rattle.rdx_lang.specs.Patterns.{Language}
 use Rattle.rdx_grammar.specs.Forms.{GrammarForm, language_form, extension_form}
 use Rattle.rdx_grammar.specs.Languages.{empty_language, language_over}
 use Rattle.rdx_grammar.specs.Stands.{form_stands}
-use Rattle.rdx_grammar.specs.Parts.{parts, text_of}
-use Rattle.rdx_grammar.specs.Refusal.{Refusal, named, first_refusal}
-use Rattle.rdx_grammar.specs.Unbuilt.{unbuilt_at}
+use Rattle.rdx_patterns.specs.Parts.{parts, text_of}
+use Rattle.rdx_patterns.specs.Refusal.{Refusal, named, first_refusal}
+use Rattle.rdx_patterns.specs.Unbuilt.{unbuilt_at}
 use Rattle.rdx_grammar.specs.Refused.{shape_at, duplicate_at, bad_name_at, bad_pattern_at, depth_clash_at, escape_at, names_over}
-use Rattle.rdx_grammar.specs.declared.shape.fault.DefKind.TheVariants.{UnknownLanguage, Duplicate}
+use Rattle.rdx_patterns.specs.declared.shape.fault.DefKind.TheVariants.{UnknownLanguage, Duplicate}
 use Rattle.rdx_lang.specs.Programs.{language_named}
 use Rattle.rdx_query.specs.Known.{Known, is_taken, or_empty}
 

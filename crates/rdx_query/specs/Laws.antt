@@ -8,7 +8,7 @@ use Rattle.rdx_lang.specs.Programs.{Program, Relation, Rule}
 use Rattle.rdx_lang.specs.Valid.{is_valid}
 use Rattle.rdx_lang.specs.WellFormed.{IsWellFormed}
 use Rattle.rdx_eval.specs.Laws.{AreFree}
-use Rattle.rdx_grammar.specs.Refusal.{Refusal}
+use Rattle.rdx_patterns.specs.Refusal.{Refusal}
 use Rattle.rdx_query.specs.Writing.{Writes}
 use Rattle.rdx_query.specs.File.{IsFile, IsFileRefusal}
 use Rattle.rdx_reduce.specs.ClosureLaws.{LeavesAName}

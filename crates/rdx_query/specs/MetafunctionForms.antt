@@ -2,9 +2,9 @@
 use Rattle.std.specs.Prelude.{ℕ, List, [], ◌∷◌, Option, Some, None, option_map}
 use Rattle.rdx_sexp.specs.Sexp.{Sexp}
 use Rattle.rdx_lang.specs.Programs.{Metafunction}
-use Rattle.rdx_grammar.specs.Nonterminals.{names_of}
-use Rattle.rdx_grammar.specs.Refusal.{Refusal, first_refusal}
-use Rattle.rdx_grammar.specs.Unbuilt.{unbuilt_at}
+use Rattle.rdx_patterns.specs.Nonterminals.{names_of}
+use Rattle.rdx_patterns.specs.Refusal.{Refusal, first_refusal}
+use Rattle.rdx_patterns.specs.Unbuilt.{unbuilt_at}
 use Rattle.rdx_defs.specs.MetafunctionForms.{MetafunctionForm, metafunction_form, function_in}
 use Rattle.rdx_defs.specs.MetafunctionReading.{metafunction_reading}
 use Rattle.rdx_defs.specs.MetafunctionStands.{metafunction_stands}

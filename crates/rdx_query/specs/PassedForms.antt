@@ -2,11 +2,11 @@
 use Rattle.std.specs.Prelude.{ℕ, Bool, not, ◌&&◌, ◌||◌, List, [], ◌∷◌, Option, Some, None, option_map, flat_map, codes, nat_eq}
 use Rattle.std.specs.List.{starts_with}
 use Rattle.rdx_sexp.specs.Sexp.{Sexp}
-use Rattle.rdx_grammar.specs.Parts.{parts, is_symbol, text_of}
-use Rattle.rdx_grammar.specs.PatternChecks.{when}
-use Rattle.rdx_grammar.specs.Refusal.{Refusal, unnamed, first, first_refusal}
-use Rattle.rdx_grammar.specs.Unbuilt.{unbuilt_at}
-use Rattle.rdx_grammar.specs.declared.shape.fault.DefKind.TheVariants.{Shape, RacketEscape}
+use Rattle.rdx_patterns.specs.Parts.{parts, is_symbol, text_of}
+use Rattle.rdx_patterns.specs.PatternChecks.{when}
+use Rattle.rdx_patterns.specs.Refusal.{Refusal, unnamed, first, first_refusal}
+use Rattle.rdx_patterns.specs.Unbuilt.{unbuilt_at}
+use Rattle.rdx_patterns.specs.declared.shape.fault.DefKind.TheVariants.{Shape, RacketEscape}
 
 -- the items behind the head of a list
 abbrev pub wanted_among : Option (List Sexp) → List Sexp

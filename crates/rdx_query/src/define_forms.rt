@@ -1,8 +1,8 @@
 // Forms that define a relation.
 ghost use Rattle.std.specs.Prelude.{◌≡◌, IfOk};
 ghost use Rattle.rdx_lang.specs.ProgramView.{relation_of};
-ghost use Rattle.rdx_grammar.specs.Inside.Among.{AreAmong};
-ghost use Rattle.rdx_grammar.specs.Readable.{IsReadable};
+ghost use Rattle.rdx_patterns.specs.Inside.Among.{AreAmong};
+ghost use Rattle.rdx_patterns.specs.Readable.{IsReadable};
 ghost use Rattle.rdx_query.specs.Ends.{form_ends};
 ghost use Rattle.rdx_query.specs.FormKinds as forms;
 ghost use Rattle.rdx_query.specs.Inside.Defining.{RelatesBy};
@@ -13,10 +13,10 @@ use crate::closure_forms::{define_by_contexts, define_by_crosses};
 use crate::known::Known;
 use crate::parts::{DefineKind, define_parts};
 use crate::relation_forms::define_by_cases;
-use rdx_grammar::refusal::unnamed;
-use rdx_grammar::unbuilt::has_word_to_come;
-use rdx_grammar::{DefFault, DefKind};
 use rdx_lang::Relation;
+use rdx_patterns::refusal::unnamed;
+use rdx_patterns::unbuilt::has_word_to_come;
+use rdx_patterns::{DefFault, DefKind};
 use rdx_sexp::Datum;
 use std::alloc::Global;
 

@@ -1,10 +1,10 @@
 // Which of two refusals is reported: the one by the check with the lesser number.
 ghost use Rattle.std.specs.Prelude.{◌≡◌, Ok, Option, IfOk};
-ghost use Rattle.rdx_grammar.specs.Refusal.{Refusal, refusal_of};
+ghost use Rattle.rdx_patterns.specs.Refusal.{Refusal, refusal_of};
 ghost use Rattle.rdx_query.specs.Inside.Earlier as model;
 ghost use Rattle.rdx_query.specs.Inside.Earlier.{IsFirstFault, IsRefusedBy, IsUnless};
 
-use rdx_grammar::{DefFault, DefKind, DefRefusal};
+use rdx_patterns::{DefFault, DefKind, DefRefusal};
 
 // The number of a check.
 fn number(kind: DefKind) -> u32

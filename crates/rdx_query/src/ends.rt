@@ -5,8 +5,8 @@ ghost use Rattle.rdx_query.specs.Ends as model;
 
 use crate::parts::{DefineKind, closure_parts, define_parts};
 use rdx_defs::relation_ends;
-use rdx_grammar::ends_in;
-use rdx_grammar::shape::symbol;
+use rdx_patterns::ends_in;
+use rdx_patterns::shape::symbol;
 use rdx_sexp::Datum;
 use rdx_term::{Name, NoMemory};
 use std::alloc::Global;

@@ -1,12 +1,12 @@
 // Host expressions in queries, and forms that are one.
 ghost use Rattle.std.specs.Prelude.{[]};
-ghost use Rattle.rdx_grammar.specs.Readable.{IsReadable};
+ghost use Rattle.rdx_patterns.specs.Readable.{IsReadable};
 ghost use Rattle.rdx_parts.specs.Answers.{ReadsHost};
 ghost use Rattle.rdx_parts.specs.Scope.{scope_of};
 
-use rdx_grammar::DefFault;
 use rdx_lang::HostExpr;
 use rdx_parts::{Scope, read_host};
+use rdx_patterns::DefFault;
 use rdx_sexp::Datum;
 use std::alloc::Global;
 

@@ -2,11 +2,11 @@
 ghost use Rattle.std.specs.Prelude.{◌≡◌, option_map};
 ghost use Rattle.rdx_defs.specs.Answers.{ReadsJudgement};
 ghost use Rattle.rdx_parts.specs.Scope.{scope_of};
-ghost use Rattle.rdx_grammar.specs.Nonterminals.{names_of};
-ghost use Rattle.rdx_grammar.specs.Readable.{IsReadable};
+ghost use Rattle.rdx_patterns.specs.Nonterminals.{names_of};
+ghost use Rattle.rdx_patterns.specs.Readable.{IsReadable};
 ghost use Rattle.rdx_query.specs.FormKinds as forms;
-ghost use Rattle.rdx_grammar.specs.Ends.{ends_in};
-ghost use Rattle.rdx_grammar.specs.Inside.Among.{AreAmong};
+ghost use Rattle.rdx_patterns.specs.Ends.{ends_in};
+ghost use Rattle.rdx_patterns.specs.Inside.Among.{AreAmong};
 ghost use Rattle.rdx_query.specs.Inside.Fitting.{AreCrossed};
 ghost use Rattle.rdx_query.specs.Inside.Defining.{JudgementsBy};
 ghost use Rattle.rdx_query.specs.Inside.KnownView.{known_of};
@@ -19,8 +19,8 @@ use crate::lookup::place_of;
 use crate::parts::language_item;
 use crate::refusals::refuse_names;
 use rdx_defs::{judgement_name, read_judgement, read_judgement_over};
-use rdx_grammar::DefFault;
 use rdx_lang::Judgement;
+use rdx_patterns::DefFault;
 use rdx_sexp::Datum;
 use std::alloc::Global;
 

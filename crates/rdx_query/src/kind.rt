@@ -3,7 +3,7 @@ ghost use Rattle.std.specs.Prelude.{◌≡◌};
 ghost use Rattle.rdx_query.specs.FormKinds as forms;
 ghost use Rattle.rdx_query.specs.Inside.KindViews.{kind_of};
 
-use rdx_grammar::shape::items;
+use rdx_patterns::shape::items;
 use rdx_sexp::{Datum, Form};
 
 /// What a form defines.

@@ -1,8 +1,8 @@
 // Forms that define languages.
 ghost use Rattle.std.specs.Prelude.{◌≡◌, [], Some, IfOk};
 ghost use Rattle.rdx_lang.specs.Checked.{language_in};
-ghost use Rattle.rdx_grammar.specs.Nonterminals.{names_of};
-ghost use Rattle.rdx_grammar.specs.Readable.{IsReadable};
+ghost use Rattle.rdx_patterns.specs.Nonterminals.{names_of};
+ghost use Rattle.rdx_patterns.specs.Readable.{IsReadable};
 ghost use Rattle.rdx_query.specs.FormKinds as forms;
 ghost use Rattle.rdx_query.specs.Inside.Defining.{DefinesBy};
 ghost use Rattle.rdx_query.specs.Inside.KnownView.{known_of};
@@ -13,10 +13,11 @@ use crate::known::Known;
 use crate::lookup::place_named;
 use crate::parts::{base_name, second_item};
 use crate::refusals::{misshaped, refuse_taken};
-use rdx_grammar::refusal::named;
-use rdx_grammar::shape::text;
-use rdx_grammar::{DefFault, DefKind, extend, read_language};
+use rdx_grammar::{extend, read_language};
 use rdx_lang::{CheckedLang, Language, Ranks};
+use rdx_patterns::refusal::named;
+use rdx_patterns::shape::text;
+use rdx_patterns::{DefFault, DefKind};
 use rdx_sexp::Datum;
 use rdx_term::{Name, NoMemory};
 use std::alloc::Global;

@@ -4,7 +4,7 @@ ghost use Rattle.rdx_lang.specs.Checked.{language_in};
 ghost use Rattle.rdx_lang.specs.declared.checked.CheckedLang.{CheckedLang};
 ghost use Rattle.rdx_lang.specs.ProgramView.{program_of, relation_of};
 ghost use Rattle.rdx_lang.specs.Programs.{judgement_named, language_named, metafunction_named, relation_named};
-ghost use Rattle.rdx_grammar.specs.Nonterminals.{names_of};
+ghost use Rattle.rdx_patterns.specs.Nonterminals.{names_of};
 ghost use Rattle.rdx_query.specs.Known as model;
 ghost use Rattle.rdx_query.specs.Known.{is_taken};
 ghost use Rattle.rdx_query.specs.LanguageForms.{named_base};
@@ -12,8 +12,8 @@ ghost use Rattle.rdx_query.specs.Inside.Fitting.{language_at};
 ghost use Rattle.rdx_query.specs.Inside.KnownView.{known_of};
 
 use crate::known::Known;
-use rdx_grammar::shape::text;
 use rdx_lang::Relation;
+use rdx_patterns::shape::text;
 use rdx_sexp::Datum;
 use rdx_term::Name;
 

@@ -1,6 +1,6 @@
 // The parts of data and of forms.
 ghost use Rattle.std.specs.Prelude.{◌≡◌, [], option_map};
-ghost use Rattle.rdx_grammar.specs.Parts.{parts};
+ghost use Rattle.rdx_patterns.specs.Parts.{parts};
 ghost use Rattle.rdx_query.specs.HoldsForms.{holds_parts, lone_parts};
 ghost use Rattle.rdx_query.specs.Inside.PartViews.{closure_of, define_kind_of, defining_by, defining_of, defining_with, holds_of, judgement_head, parts_of, second_item, language_item, equals_of, leading_of, steps_of};
 ghost use Rattle.rdx_query.specs.LanguageForms.{base_name};
@@ -9,7 +9,7 @@ ghost use Rattle.rdx_query.specs.DefineParts.{closure_among, closure_parts, defi
 ghost use Rattle.rdx_query.specs.StepForms.{step_parts};
 ghost use Rattle.rdx_query.specs.TestForms.{equal_parts, leading_parts};
 
-use rdx_grammar::shape::{is_symbol, is_word, items, symbol};
+use rdx_patterns::shape::{is_symbol, is_word, items, symbol};
 use rdx_sexp::Datum;
 
 /// The name of a language, a pattern, and the host expression that gives the term.

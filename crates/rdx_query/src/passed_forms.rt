@@ -1,14 +1,14 @@
 // Forms that are passed over.
 ghost use Rattle.std.specs.Prelude.{◌≡◌, option_map};
-ghost use Rattle.rdx_grammar.specs.Refusal.{first};
+ghost use Rattle.rdx_patterns.specs.Refusal.{first};
 ghost use Rattle.rdx_query.specs.Inside.Earlier.{IsRefusedBy};
 ghost use Rattle.rdx_query.specs.Inside.Passing.{modules_refusal};
 ghost use Rattle.rdx_query.specs.PassedForms as model;
 
-use rdx_grammar::refusal::unnamed;
-use rdx_grammar::shape::{is_symbol, items, text};
-use rdx_grammar::unbuilt::has_word_to_come;
-use rdx_grammar::{DefFault, DefKind};
+use rdx_patterns::refusal::unnamed;
+use rdx_patterns::shape::{is_symbol, items, text};
+use rdx_patterns::unbuilt::has_word_to_come;
+use rdx_patterns::{DefFault, DefKind};
 use rdx_sexp::Datum;
 
 // Whether this is how a module of Redex or of Racket is named.

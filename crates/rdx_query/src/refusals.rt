@@ -1,19 +1,19 @@
 // Refusals of a form that has not its shape, and of the names in forms.
 ghost use Rattle.std.specs.Prelude.{◌≡◌, ◌∷◌, [], Some, IfOk, option_map};
-ghost use Rattle.rdx_grammar.specs.Refusal.{first_refusal, refusal_of};
-ghost use Rattle.rdx_grammar.specs.Refusal as places;
-ghost use Rattle.rdx_grammar.specs.Unbuilt.{unbuilt_at};
-ghost use Rattle.rdx_grammar.specs.declared.shape.fault.DefKind.TheVariants.{Shape};
+ghost use Rattle.rdx_patterns.specs.Refusal.{first_refusal, refusal_of};
+ghost use Rattle.rdx_patterns.specs.Refusal as places;
+ghost use Rattle.rdx_patterns.specs.Unbuilt.{unbuilt_at};
+ghost use Rattle.rdx_patterns.specs.declared.shape.fault.DefKind.TheVariants.{Shape};
 ghost use Rattle.rdx_query.specs.LanguageForms.{unknown_at};
 ghost use Rattle.rdx_query.specs.Inside.Defining.{taken_at_item};
 ghost use Rattle.rdx_query.specs.Inside.KnownView.{known_of};
 
 use crate::known::Known;
 use crate::lookup::{is_taken, place_named};
-use rdx_grammar::refusal::{named, unnamed};
-use rdx_grammar::shape::text;
-use rdx_grammar::unbuilt::has_word_to_come;
-use rdx_grammar::{DefKind, DefRefusal};
+use rdx_patterns::refusal::{named, unnamed};
+use rdx_patterns::shape::text;
+use rdx_patterns::unbuilt::has_word_to_come;
+use rdx_patterns::{DefKind, DefRefusal};
 use rdx_sexp::Datum;
 use rdx_term::NoMemory;
 use std::alloc::Global;

@@ -1,5 +1,5 @@
 // Forms that ask for the steps of a relation: their shape, their refusal and what they ask.
-ghost use Rattle.rdx_grammar.specs.Readable.{IsReadable};
+ghost use Rattle.rdx_patterns.specs.Readable.{IsReadable};
 ghost use Rattle.rdx_query.specs.Inside.Asking.{StepFitsBy, StepsAskedBy};
 ghost use Rattle.rdx_query.specs.Inside.KnownView.{known_of};
 
@@ -9,11 +9,11 @@ use crate::known::Known;
 use crate::lookup::relation_named;
 use crate::parts::{StepParts, step_parts};
 use crate::refusals::misshaped;
-use rdx_grammar::refusal::{named, unnamed};
-use rdx_grammar::shape::{is_symbol, text};
-use rdx_grammar::unbuilt::has_word_to_come;
-use rdx_grammar::{DefFault, DefKind};
 use rdx_lang::HostExpr;
+use rdx_patterns::refusal::{named, unnamed};
+use rdx_patterns::shape::{is_symbol, text};
+use rdx_patterns::unbuilt::has_word_to_come;
+use rdx_patterns::{DefFault, DefKind};
 use rdx_sexp::Datum;
 use rdx_term::Name;
 use std::alloc::Global;

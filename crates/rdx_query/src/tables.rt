@@ -4,7 +4,7 @@ ghost use Rattle.std.specs.Vec.{vec_capacity, vec_len};
 ghost use Rattle.rdx_query.specs.Inside.Tabled.{AreTabled, FindsFirsts};
 ghost use Rattle.rdx_query.specs.Known.{empty_program};
 
-use rdx_grammar::Names;
+use rdx_patterns::Names;
 use rdx_term::{Name, NoMemory};
 use std::alloc::Global;
 use std::collections::BTreeMap;

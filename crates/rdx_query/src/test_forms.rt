@@ -1,7 +1,7 @@
 // Forms of tests over host expressions, and the form that counts tests: their shape, their refusal and what they ask.
 ghost use Rattle.std.specs.Prelude.{◌≡◌, Some, option_map};
-ghost use Rattle.rdx_grammar.specs.Refusal.{refusal_of};
-ghost use Rattle.rdx_grammar.specs.Readable.{IsReadable};
+ghost use Rattle.rdx_patterns.specs.Refusal.{refusal_of};
+ghost use Rattle.rdx_patterns.specs.Readable.{IsReadable};
 ghost use Rattle.rdx_parts.specs.Scope.{scope_of};
 ghost use Rattle.rdx_query.specs.Inside.Asking.{AreReadable, EqualAskedBy, EqualFitsBy, LeadingAskedBy, LeadingFitsBy, ReadsHosts};
 ghost use Rattle.rdx_query.specs.Inside.Earlier as refusals;
@@ -15,12 +15,12 @@ use crate::known::Known;
 use crate::lookup::relation_named;
 use crate::parts::{EqualParts, LeadingParts, equal_parts, leading_parts};
 use crate::refusals::misshaped;
-use rdx_grammar::refusal::{named, unnamed};
-use rdx_grammar::shape::{items, text};
-use rdx_grammar::unbuilt::has_word_to_come;
-use rdx_grammar::{DefFault, DefKind, DefRefusal};
 use rdx_lang::HostExpr;
 use rdx_parts::Scope;
+use rdx_patterns::refusal::{named, unnamed};
+use rdx_patterns::shape::{items, text};
+use rdx_patterns::unbuilt::has_word_to_come;
+use rdx_patterns::{DefFault, DefKind, DefRefusal};
 use rdx_sexp::Datum;
 use rdx_term::Name;
 use std::alloc::Global;

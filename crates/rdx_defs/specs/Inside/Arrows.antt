@@ -4,8 +4,8 @@ use Rattle.std.specs.BTreeMap.{BTreeMap}
 use Rattle.std.specs.Borrow.{Bor}
 use Rattle.rdx_sexp.specs.Sexp.{Sexp}
 use Rattle.rdx_lang.specs.Model.Places as places
-use Rattle.rdx_grammar.specs.Kinds.{is_among}
-use Rattle.rdx_grammar.specs.Parts.{text_of}
+use Rattle.rdx_patterns.specs.Kinds.{is_among}
+use Rattle.rdx_patterns.specs.Parts.{text_of}
 use Rattle.rdx_defs.specs.Shorthand.{Shortcut}
 
 -- the place of the first with this new arrow, if they have the places from i on

@@ -2,7 +2,7 @@
 use Rattle.std.specs.Prelude.{ℕ, List, map, option_map}
 use Rattle.rdx_sexp.specs.Sexp.{Sexp}
 use Rattle.rdx_lang.specs.Programs.{Clause, Metafunction, Rule}
-use Rattle.rdx_grammar.specs.Parts.{text_of}
+use Rattle.rdx_patterns.specs.Parts.{text_of}
 use Rattle.rdx_parts.specs.ExtraReading.{extras_reading}
 use Rattle.rdx_parts.specs.Outlines.{Branch, bound_by_taken, bound_by_branch, taken_reading}
 use Rattle.rdx_defs.specs.MetafunctionForms.{MetafunctionForm}

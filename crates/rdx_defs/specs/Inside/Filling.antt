@@ -1,7 +1,7 @@
 -- Shortcuts that stand in one another: the second in place of the symbol of the first, and so on.
 use Rattle.std.specs.Prelude.{ℕ, Bool, false, List, [], ◌∷◌, codes, if◌then◌else◌}
 use Rattle.rdx_sexp.specs.Sexp.{Sexp}
-use Rattle.rdx_grammar.specs.Parts.{is_word, text_of}
+use Rattle.rdx_patterns.specs.Parts.{is_word, text_of}
 use Rattle.rdx_defs.specs.Expansion.{replaced, by_shortcut}
 use Rattle.rdx_defs.specs.Inside.ShortcutViews.{shortcuts_in}
 use Rattle.rdx_defs.specs.RelationForms.{CaseForm}

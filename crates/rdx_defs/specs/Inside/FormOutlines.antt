@@ -1,9 +1,9 @@
 -- The outlines of forms: the branches of their cases, clauses and rules, and the patterns that stand by themselves.
 use Rattle.std.specs.Prelude.{ℕ, suc, Bool, [], List, ◌∷◌, ◌++◌, Option, Some, None, codes, bytes_eq, if◌then◌else◌}
 use Rattle.rdx_sexp.specs.Sexp.{Sexp, Sexps, sexps, nil, cons}
-use Rattle.rdx_grammar.specs.Heads.{Roles, patterns as items_of_list, next, rest}
-use Rattle.rdx_grammar.specs.Parts.{is_word, text_of}
-use Rattle.rdx_grammar.specs.Reading.{is_pattern}
+use Rattle.rdx_patterns.specs.Heads.{Roles, patterns as items_of_list, next, rest}
+use Rattle.rdx_patterns.specs.Parts.{is_word, text_of}
+use Rattle.rdx_patterns.specs.Reading.{is_pattern}
 use Rattle.rdx_lang.specs.Programs.{Mode}
 use Rattle.rdx_parts.specs.ExtraForms.{of_case, of_clause}
 use Rattle.rdx_parts.specs.Headed.{Headed, headed}

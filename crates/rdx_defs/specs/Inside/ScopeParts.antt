@@ -1,7 +1,7 @@
 -- What the scope of a file has of a form.
 use Rattle.std.specs.Prelude.{Option, None, codes, if◌then◌else◌}
 use Rattle.rdx_sexp.specs.Sexp.{Sexp}
-use Rattle.rdx_grammar.specs.Parts.{parts}
+use Rattle.rdx_patterns.specs.Parts.{parts}
 use Rattle.rdx_defs.specs.JudgementForms.{JudgementForm, judgement_form}
 use Rattle.rdx_defs.specs.Scopes.{begins_with}
 

@@ -8,9 +8,9 @@ ghost use Rattle.rdx_parts.specs.PartViews.{headed_of, rule_branch_of};
 ghost use Rattle.rdx_defs.specs.JudgementForms as model;
 
 use crate::relations::forms::{is_keyword, may_name};
-use rdx_grammar::shape::{is_symbol, is_word, items, text};
 use rdx_parts::arguments::{Headed, headed_list, in_conclusion};
 use rdx_parts::branches::RuleBranch;
+use rdx_patterns::shape::{is_symbol, is_word, items, text};
 use rdx_sexp::{Datum, Form};
 use rdx_term::NoMemory;
 use std::alloc::Global;

@@ -3,9 +3,9 @@ ghost use Rattle.std.specs.Prelude.{◌≡◌, [], IfOk, IfSome, IsSome, Some, o
 ghost use Rattle.rdx_lang.specs.Checked.{language_in};
 ghost use Rattle.rdx_lang.specs.ProgramView.{premise_of};
 ghost use Rattle.rdx_lang.specs.TemplateView.{template_of};
-ghost use Rattle.rdx_grammar.specs.Ends.{Gained, ends_in};
-ghost use Rattle.rdx_grammar.specs.Nonterminals.{names_of};
-ghost use Rattle.rdx_grammar.specs.Readable.{IsReadable};
+ghost use Rattle.rdx_patterns.specs.Ends.{Gained, ends_in};
+ghost use Rattle.rdx_patterns.specs.Nonterminals.{names_of};
+ghost use Rattle.rdx_patterns.specs.Readable.{IsReadable};
 ghost use Rattle.rdx_defs.specs.Answers.{ReadsPremise};
 ghost use Rattle.rdx_parts.specs.ExtraReading.{premise_reading};
 ghost use Rattle.rdx_parts.specs.Headed as headed;
@@ -16,7 +16,6 @@ ghost use Rattle.rdx_parts.specs.TemplateReading.{template_reading};
 
 use crate::crosses::add_asked;
 use crate::judgements::refusals::refuse_question;
-use rdx_grammar::{DefFault, Names};
 use rdx_lang::{CheckedLang, Premise, Template};
 use rdx_parts::Scope;
 use rdx_parts::arguments::headed_list;
@@ -24,6 +23,7 @@ use rdx_parts::stands::names::lone_names;
 use rdx_parts::stands::readings;
 use rdx_parts::templates::bound::Bound;
 use rdx_parts::templates::readings as templates;
+use rdx_patterns::{DefFault, Names};
 use rdx_sexp::Datum;
 use rdx_term::NoMemory;
 use std::alloc::Global;

@@ -3,9 +3,9 @@ ghost use Rattle.std.specs.Prelude.{◌≡◌, None, Some, IfOk, IsTrue, option_
 ghost use Rattle.rdx_lang.specs.Checked.{language_in};
 ghost use Rattle.rdx_lang.specs.ProgramView.{judgement_of};
 ghost use Rattle.rdx_lang.specs.Valid.{is_valid_judgement};
-ghost use Rattle.rdx_grammar.specs.Ends.{Gained, ends_in};
-ghost use Rattle.rdx_grammar.specs.Nonterminals.{names_of};
-ghost use Rattle.rdx_grammar.specs.Readable.{IsReadable};
+ghost use Rattle.rdx_patterns.specs.Ends.{Gained, ends_in};
+ghost use Rattle.rdx_patterns.specs.Nonterminals.{names_of};
+ghost use Rattle.rdx_patterns.specs.Readable.{IsReadable};
 ghost use Rattle.rdx_defs.specs.Answers.{ReadsJudgement};
 ghost use Rattle.rdx_defs.specs.JudgementForms as forms;
 ghost use Rattle.rdx_parts.specs.Scope.{callable, scope_of};
@@ -14,11 +14,11 @@ use crate::crosses::add_asked;
 use crate::judgements::forms::{judgement_form, judgement_in, own_mode};
 use crate::judgements::readings::read_parts;
 use crate::judgements::refusals::refuse_judgement;
-use rdx_grammar::refusal::unnamed;
-use rdx_grammar::unbuilt::has_word_to_come;
-use rdx_grammar::{DefFault, DefKind, Names};
 use rdx_lang::{CheckedLang, Judgement};
 use rdx_parts::Scope;
+use rdx_patterns::refusal::unnamed;
+use rdx_patterns::unbuilt::has_word_to_come;
+use rdx_patterns::{DefFault, DefKind, Names};
 use rdx_sexp::Datum;
 use std::alloc::Global;
 

@@ -6,7 +6,7 @@ ghost use Rattle.rdx_lang.specs.Checked.{language_in, pattern_in};
 ghost use Rattle.rdx_lang.specs.PatternView.{items_of, slot_of};
 ghost use Rattle.rdx_lang.specs.ProgramView.{extras_of, judgement_of, judgement_rule_of, judgement_rules_of};
 ghost use Rattle.rdx_lang.specs.TemplateView.{template_of};
-ghost use Rattle.rdx_grammar.specs.Parts.{text_of};
+ghost use Rattle.rdx_patterns.specs.Parts.{text_of};
 ghost use Rattle.rdx_parts.specs.Arguments.{templates_in};
 ghost use Rattle.rdx_parts.specs.ByNames as by_names;
 ghost use Rattle.rdx_parts.specs.ExtraForms.{of_rule};
@@ -25,7 +25,6 @@ ghost use Rattle.rdx_parts.specs.StandChecks as checks;
 use crate::judgements::forms::{
     JudgementForm, RuleForm, contract_form, judgement_in, own_rule, rule_branch,
 };
-use rdx_grammar::{Names, Position, readings, symbol_name};
 use rdx_lang::{CheckedLang, CheckedPat, Extra, Item, JRule, Judgement, Pat, Template};
 use rdx_parts::Scope;
 use rdx_parts::arguments::Headed;
@@ -34,6 +33,7 @@ use rdx_parts::extras::ExtraPlace;
 use rdx_parts::stands::checks::label;
 use rdx_parts::stands::names::{input_names, rule_names};
 use rdx_parts::stands::readings::{read_extras, read_patterns, read_templates};
+use rdx_patterns::{Names, Position, readings, symbol_name};
 use rdx_sexp::Datum;
 use rdx_term::{Name, NoMemory};
 use std::alloc::Global;

@@ -1,8 +1,8 @@
 // Why a form of a judgement or a premise by itself is refused.
 ghost use Rattle.std.specs.Prelude.{◌≡◌, IfOk, None, Some, option_map};
-ghost use Rattle.rdx_grammar.specs.Readable.{IsReadable};
-ghost use Rattle.rdx_grammar.specs.Refusal.{refusal_of};
-ghost use Rattle.rdx_grammar.specs.Unbuilt.{unbuilt_at};
+ghost use Rattle.rdx_patterns.specs.Readable.{IsReadable};
+ghost use Rattle.rdx_patterns.specs.Refusal.{refusal_of};
+ghost use Rattle.rdx_patterns.specs.Unbuilt.{unbuilt_at};
 ghost use Rattle.rdx_defs.specs.Inside.FormViews.{judgement_form_of};
 ghost use Rattle.rdx_parts.specs.PartsHave.{IsReadableIn};
 ghost use Rattle.rdx_defs.specs.JudgementForms as forms;
@@ -13,9 +13,9 @@ use crate::judgements::forms::JudgementForm;
 use crate::judgements::stands::{
     judgement_outline, judgement_stands, question_outline, question_stands,
 };
-use rdx_grammar::{DefRefusal, Names};
 use rdx_parts::Scope;
 use rdx_parts::stands::refusals::refuse_parts;
+use rdx_patterns::{DefRefusal, Names};
 use rdx_sexp::Datum;
 use rdx_term::NoMemory;
 use std::alloc::Global;

@@ -1,6 +1,6 @@
 // What stands in a form of a judgement, and in a premise by itself.
 ghost use Rattle.std.specs.Prelude.{◌≡◌, ◌++◌, ◌∷◌, [], Some, IfOk, IsTrue, true, map, option_map, if◌then◌else◌};
-ghost use Rattle.rdx_grammar.specs.Readable.{IsReadable};
+ghost use Rattle.rdx_patterns.specs.Readable.{IsReadable};
 ghost use Rattle.rdx_parts.specs.ExtraForms.{of_rule};
 ghost use Rattle.rdx_parts.specs.BareStands as bare;
 ghost use Rattle.rdx_defs.specs.Inside.BareForms as bare_forms;

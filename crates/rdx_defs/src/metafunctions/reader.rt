@@ -3,9 +3,9 @@ ghost use Rattle.std.specs.Prelude.{◌≡◌, Some, IfOk, IsTrue};
 ghost use Rattle.rdx_lang.specs.Checked.{language_in};
 ghost use Rattle.rdx_lang.specs.ProgramView.{metafunction_of};
 ghost use Rattle.rdx_lang.specs.Valid.{is_valid_metafunction};
-ghost use Rattle.rdx_grammar.specs.Ends.{Gained, ends_in};
-ghost use Rattle.rdx_grammar.specs.Nonterminals.{names_of};
-ghost use Rattle.rdx_grammar.specs.Readable.{IsReadable};
+ghost use Rattle.rdx_patterns.specs.Ends.{Gained, ends_in};
+ghost use Rattle.rdx_patterns.specs.Nonterminals.{names_of};
+ghost use Rattle.rdx_patterns.specs.Readable.{IsReadable};
 ghost use Rattle.rdx_defs.specs.Answers.{ReadsMetafunction};
 ghost use Rattle.rdx_parts.specs.Scope.{callable, scope_of};
 
@@ -13,12 +13,12 @@ use crate::crosses::add_asked;
 use crate::metafunctions::forms::{function_in, metafunction_form};
 use crate::metafunctions::readings::read_parts;
 use crate::metafunctions::stands::{function_stands, metafunction_outline};
-use rdx_grammar::refusal::unnamed;
-use rdx_grammar::unbuilt::has_word_to_come;
-use rdx_grammar::{DefFault, DefKind, Names};
 use rdx_lang::{CheckedLang, Metafunction};
 use rdx_parts::Scope;
 use rdx_parts::stands::refusals::refuse_parts;
+use rdx_patterns::refusal::unnamed;
+use rdx_patterns::unbuilt::has_word_to_come;
+use rdx_patterns::{DefFault, DefKind, Names};
 use rdx_sexp::Datum;
 use std::alloc::Global;
 

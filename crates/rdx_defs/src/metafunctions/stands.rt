@@ -1,8 +1,8 @@
 // What stands in a form of a metafunction.
 ghost use Rattle.std.specs.Prelude.{◌≡◌, ◌++◌, IfOk, map, option_map};
 ghost use Rattle.rdx_sexp.specs.Sexp.{sexps};
-ghost use Rattle.rdx_grammar.specs.Heads.{patterns};
-ghost use Rattle.rdx_grammar.specs.Readable.{IsReadable};
+ghost use Rattle.rdx_patterns.specs.Heads.{patterns};
+ghost use Rattle.rdx_patterns.specs.Readable.{IsReadable};
 ghost use Rattle.rdx_parts.specs.BareStands as bare;
 ghost use Rattle.rdx_defs.specs.Inside.BareForms as bare_forms;
 ghost use Rattle.rdx_defs.specs.Inside.FormOutlines as inside;
@@ -15,10 +15,10 @@ ghost use Rattle.rdx_parts.specs.Scope.{scope_of};
 use crate::metafunctions::forms::{
     ContractForm, MetafunctionForm, clause_branch, clause_of, text_in,
 };
-use rdx_grammar::heads::{Roles, is_pattern, next, rest};
 use rdx_parts::Scope;
 use rdx_parts::branches::{Branch, Outline};
 use rdx_parts::stands::collecting::{Stand, add_alone, add_branch};
+use rdx_patterns::heads::{Roles, is_pattern, next, rest};
 use rdx_sexp::Datum;
 use rdx_term::NoMemory;
 use std::alloc::Global;

@@ -1,15 +1,15 @@
 // The cross nonterminals that relations ask for.
 ghost use Rattle.std.specs.Prelude.{◌≡◌, IfOk, OnErr, OnOk};
 ghost use Rattle.rdx_lang.specs.Checked.{language_in};
-ghost use Rattle.rdx_grammar.specs.Ends.{crossed_for};
+ghost use Rattle.rdx_patterns.specs.Ends.{crossed_for};
 ghost use Rattle.rdx_defs.specs.Inside.FormViews.{relation_form_of};
 ghost use Rattle.rdx_defs.specs.RelationEnds as model;
 
 use crate::relations::forms::{RelationForm, relation_form};
 use crate::shorthand::expanding::expanded_cases;
 use crate::shorthand::forms::cut_at_with;
-use rdx_grammar::{add_crosses_for, add_ends};
 use rdx_lang::CheckedLang;
+use rdx_patterns::{add_crosses_for, add_ends};
 use rdx_sexp::Datum;
 use rdx_term::{Name, NoMemory};
 use std::alloc::Global;

@@ -5,9 +5,9 @@ ghost use Rattle.rdx_defs.specs.Inside.FormViews.{case_form_of, relation_form_of
 ghost use Rattle.rdx_parts.specs.PartViews.{branch_of};
 ghost use Rattle.rdx_defs.specs.RelationForms as model;
 
-use rdx_grammar::shape::{is_symbol, is_word, items};
 use rdx_parts::branches::{Branch, Takes};
 use rdx_parts::extras::ExtraPlace;
+use rdx_patterns::shape::{is_symbol, is_word, items};
 use rdx_sexp::{Datum, Form};
 
 /// A case: `(--> p t extra ...)`, with any symbol for the arrow.

@@ -1,7 +1,7 @@
 // What stands in a form of a relation.
 ghost use Rattle.std.specs.Prelude.{◌≡◌, ◌++◌, [], IfOk, map, option_map};
-ghost use Rattle.rdx_grammar.specs.Inside.Repeats.{texts_in, HaveSame};
-ghost use Rattle.rdx_grammar.specs.Readable.{IsReadable};
+ghost use Rattle.rdx_patterns.specs.Inside.Repeats.{texts_in, HaveSame};
+ghost use Rattle.rdx_patterns.specs.Readable.{IsReadable};
 ghost use Rattle.rdx_defs.specs.Inside.BareForms as bare;
 ghost use Rattle.rdx_defs.specs.Inside.FormOutlines as inside;
 ghost use Rattle.rdx_defs.specs.Inside.FormViews.{relation_form_of};
@@ -16,10 +16,10 @@ ghost use Rattle.rdx_parts.specs.Scope.{scope_of};
 use crate::relations::forms::{RelationForm, case_branch, case_form};
 use crate::shorthand::checks::{is_known, was_seen};
 use crate::shorthand::forms::{Shortcut, shortcut_form};
-use rdx_grammar::shape::text;
 use rdx_parts::Scope;
 use rdx_parts::branches::{Branch, Outline};
 use rdx_parts::stands::collecting::{Stand, add_alone, add_branch};
+use rdx_patterns::shape::text;
 use rdx_sexp::Datum;
 use rdx_term::NoMemory;
 use std::alloc::Global;

@@ -1,12 +1,12 @@
 // The shortcuts of a relation, found by their new arrows.
 ghost use Rattle.std.specs.Prelude.{◌≡◌, IfOk};
-ghost use Rattle.rdx_grammar.specs.Kinds.{is_among};
+ghost use Rattle.rdx_patterns.specs.Kinds.{is_among};
 ghost use Rattle.rdx_defs.specs.Expansion.{new_arrows};
 ghost use Rattle.rdx_defs.specs.Inside.Arrows as model;
 ghost use Rattle.rdx_defs.specs.Inside.ShortcutViews.{shortcuts_in};
 
 use crate::shorthand::forms::Shortcut;
-use rdx_grammar::shape::text;
+use rdx_patterns::shape::text;
 use rdx_term::NoMemory;
 use std::alloc::Global;
 use std::collections::BTreeMap;

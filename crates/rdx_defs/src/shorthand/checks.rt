@@ -1,9 +1,9 @@
 // The checks of the shorthand of a relation, one by one.
 ghost use Rattle.std.specs.Prelude.{◌≡◌, ◌++◌, ◌∷◌, [], IfOk, option_map};
-ghost use Rattle.rdx_grammar.specs.Inside.Repeats.{texts_in, HaveSame};
-ghost use Rattle.rdx_grammar.specs.Kinds.{is_among};
-ghost use Rattle.rdx_grammar.specs.Parts.{text_of};
-ghost use Rattle.rdx_grammar.specs.Refusal.{first, refusal_of};
+ghost use Rattle.rdx_patterns.specs.Inside.Repeats.{texts_in, HaveSame};
+ghost use Rattle.rdx_patterns.specs.Kinds.{is_among};
+ghost use Rattle.rdx_patterns.specs.Parts.{text_of};
+ghost use Rattle.rdx_patterns.specs.Refusal.{first, refusal_of};
 ghost use Rattle.rdx_defs.specs.Expansion as model;
 ghost use Rattle.rdx_defs.specs.Inside.Arrows.{again};
 ghost use Rattle.rdx_defs.specs.Inside.ShortcutViews.{shortcuts_in};
@@ -13,10 +13,10 @@ ghost use Rattle.rdx_defs.specs.Shorthand as shorthand;
 use crate::relations::forms::case_form;
 use crate::shorthand::arrows::Arrows;
 use crate::shorthand::forms::{Cut, Shortcut, shortcut_form};
-use rdx_grammar::checks::when;
-use rdx_grammar::refusal::{named, unnamed};
-use rdx_grammar::shape::{is_word, text};
-use rdx_grammar::{DefKind, DefRefusal};
+use rdx_patterns::checks::when;
+use rdx_patterns::refusal::{named, unnamed};
+use rdx_patterns::shape::{is_word, text};
+use rdx_patterns::{DefKind, DefRefusal};
 use rdx_sexp::Datum;
 use rdx_term::NoMemory;
 use std::alloc::Global;

@@ -15,7 +15,7 @@ use crate::shorthand::filling::{Side, copied, put_into};
 use crate::shorthand::forms::{Cut, Shortcut};
 use crate::shorthand::room::Stock;
 use crate::shorthand::used::used_among;
-use rdx_grammar::shape::{is_word, text};
+use rdx_patterns::shape::{is_word, text};
 use rdx_sexp::{Datum, Form};
 use rdx_term::NoMemory;
 use std::alloc::Global;

@@ -7,7 +7,7 @@ ghost use Rattle.rdx_defs.specs.Inside.Filling as model;
 
 use crate::shorthand::forms::Shortcut;
 use crate::shorthand::room::{Room, Stock};
-use rdx_grammar::shape::{is_word, text};
+use rdx_patterns::shape::{is_word, text};
 use rdx_sexp::{Datum, Form};
 use rdx_term::NoMemory;
 use std::alloc::Global;

@@ -3,7 +3,7 @@ ghost use Rattle.std.specs.Prelude.{◌≡◌, Some, IfOk, map, option_map};
 ghost use Rattle.rdx_defs.specs.Inside.ShortcutViews.{shortcut_of, shortcuts_in};
 ghost use Rattle.rdx_defs.specs.Shorthand as model;
 
-use rdx_grammar::shape::{is_symbol, is_word, items, text};
+use rdx_patterns::shape::{is_symbol, is_word, items, text};
 use rdx_sexp::Datum;
 use rdx_term::NoMemory;
 use std::alloc::Global;

@@ -6,8 +6,8 @@ use crate::shorthand::arrows::Arrows;
 use crate::shorthand::checks::refuse_shorthand;
 use crate::shorthand::expanding::expanded_cases;
 use crate::shorthand::forms::{cut_at_with, shortcuts_among};
-use rdx_grammar::refusal::unnamed;
-use rdx_grammar::{DefFault, DefKind};
+use rdx_patterns::refusal::unnamed;
+use rdx_patterns::{DefFault, DefKind};
 use rdx_sexp::Datum;
 use std::alloc::Global;
 

@@ -1,14 +1,10 @@
 -- The names that are bound in the alternatives of a form.
-use Rattle.std.specs.Prelude.{ℕ, List, [], ◌∷◌, map}
-use Rattle.rdx_grammar.specs.Inside.AreNames.{AreNames}
-use Rattle.rdx_grammar.specs.Parts.{text_of}
-use Rattle.rdx_grammar.specs.PatternChecks.{Bound, all_bound}
+use Rattle.std.specs.Prelude.{ℕ, List, [], ◌∷◌}
+use Rattle.rdx_patterns.specs.AreNames.{AreNames}
+use Rattle.rdx_patterns.specs.PatternChecks.{all_bound}
 use Rattle.rdx_grammar.specs.Stands.{Stand, misshaped, defined, nonterminal, alternative, inherited}
-use Rattle.rdx_grammar.specs.declared.patterns.position.Position.TheVariants.{Grammar as InGrammar}
-
--- the names that these bind
-abbrev pub bound_names : List Bound → List (List ℕ)
-bound_names bs = map (λ b. text_of b.symbol) bs
+use Rattle.rdx_patterns.specs.declared.patterns.position.Position.TheVariants.{Grammar as InGrammar}
+use Rattle.rdx_patterns.specs.BoundNames.{bound_names}
 
 -- what an alternative binds are names, over these nonterminals
 abbrev pub BindsNames : List (List ℕ) → Stand → Type 0

@@ -1,6 +1,6 @@
 -- The things in forms that values of the code stand for.
 use Rattle.std.specs.Prelude.{List, map}
-use Rattle.rdx_grammar.specs.OccurrenceView.{occurrences_of}
+use Rattle.rdx_patterns.specs.OccurrenceView.{occurrences_of}
 use Rattle.rdx_grammar.specs.Stands.{Stand, misshaped, defined, nonterminal, alternative, inherited}
 use Rattle.rdx_grammar.specs.declared.languages.stands.Stand as code_stand
 use Rattle.rdx_grammar.specs.declared.languages.stands.Stand.TheVariants as variants

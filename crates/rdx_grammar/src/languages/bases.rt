@@ -5,9 +5,9 @@ ghost use Rattle.rdx_lang.specs.declared.pattern.Ref.TheVariants as refs;
 ghost use Rattle.rdx_grammar.specs.Inside.BaseView.{base_in};
 ghost use Rattle.rdx_grammar.specs.Checks as model;
 
-use crate::languages::lookup::Definitions;
-use crate::shape::text;
 use rdx_lang::{CheckedLang, Pat, Ref};
+use rdx_patterns::Definitions;
+use rdx_patterns::shape::text;
 use rdx_sexp::Datum;
 use rdx_term::NoMemory;
 use std::alloc::Global;

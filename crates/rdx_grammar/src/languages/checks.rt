@@ -3,20 +3,18 @@ ghost use Rattle.std.specs.Prelude.{◌≡◌, [], IfOk, OnOk, option_map};
 ghost use Rattle.rdx_grammar.specs.Checks as model;
 ghost use Rattle.rdx_grammar.specs.Inside.BaseView.{base_in};
 ghost use Rattle.rdx_grammar.specs.Inside.BoundView.{BindsNames, BindNames};
-ghost use Rattle.rdx_grammar.specs.Inside.Repeats.{texts_in, HaveSame};
+ghost use Rattle.rdx_patterns.specs.Inside.Repeats.{texts_in, HaveSame};
 ghost use Rattle.rdx_grammar.specs.Inside.StandView.{stand_of, stands_of};
-ghost use Rattle.rdx_grammar.specs.Refusal.{first};
+ghost use Rattle.rdx_patterns.specs.Refusal.{first};
 
 use crate::languages::bases::{Base, all_inherit};
 use crate::languages::stands::Stand;
-use crate::patterns::checks::{
+use rdx_patterns::checks::{
     first_bad_binder, first_bad_occurrence, first_depth_clash, first_escape, first_keyword, when,
 };
-use crate::patterns::kinds::kind;
-use crate::patterns::names::Names;
-use crate::patterns::position::Position;
-use crate::shape::names::{begins_with_dots, has_suffix, is_bad_name, is_kept};
-use crate::shape::text;
+use rdx_patterns::names::{begins_with_dots, has_suffix, is_bad_name, is_kept};
+use rdx_patterns::shape::text;
+use rdx_patterns::{Names, Position, kind};
 use rdx_sexp::Datum;
 use rdx_term::NoMemory;
 use std::alloc::Global;

@@ -3,19 +3,18 @@ ghost use Rattle.std.specs.Prelude.{◌≡◌, ◌++◌, IfOk, OnOk, Some, map, 
 ghost use Rattle.rdx_lang.specs.Lookup.{alternatives_of};
 ghost use Rattle.rdx_lang.specs.PatternView.{definition_of, patterns_of};
 ghost use Rattle.rdx_grammar.specs.Inside.BaseView.{base_in};
-ghost use Rattle.rdx_grammar.specs.Inside.AreNames.{AreNames};
+ghost use Rattle.rdx_patterns.specs.AreNames.{AreNames};
 ghost use Rattle.rdx_grammar.specs.Languages as languages;
 ghost use Rattle.rdx_grammar.specs.Nonterminals.{names_in};
-ghost use Rattle.rdx_grammar.specs.Parts.{text_of};
+ghost use Rattle.rdx_patterns.specs.Parts.{text_of};
 ghost use Rattle.rdx_grammar.specs.Inside.PartViews as views;
 
 use crate::languages::bases::Base;
 use crate::languages::parts::{Definition, definition_in};
-use crate::patterns::names::{Names, symbol_name};
-use crate::patterns::position::Position;
-use crate::patterns::readings::read_datum;
-use crate::shape::is_word;
 use rdx_lang::{Pat, Ref};
+use rdx_patterns::readings::read_datum;
+use rdx_patterns::shape::is_word;
+use rdx_patterns::{Names, Position, symbol_name};
 use rdx_sexp::Datum;
 use rdx_term::NoMemory;
 use std::alloc::Global;

@@ -7,8 +7,8 @@ ghost use Rattle.rdx_grammar.specs.Extension as model;
 
 use crate::languages::bases::Base;
 use crate::languages::definitions::add_shared;
-use crate::languages::lookup::Definitions;
 use rdx_lang::{Pat, Ref};
+use rdx_patterns::Definitions;
 use rdx_term::NoMemory;
 use std::alloc::Global;
 

@@ -3,7 +3,7 @@ ghost use Rattle.std.specs.Prelude.{◌≡◌, option_map};
 ghost use Rattle.rdx_grammar.specs.Forms as model;
 ghost use Rattle.rdx_grammar.specs.Inside.PartViews.{parts_of};
 
-use crate::shape::{is_symbol, is_word, items};
+use rdx_patterns::shape::{is_symbol, is_word, items};
 use rdx_sexp::Datum;
 
 /// The name of a language, and the definitions of its nonterminals.

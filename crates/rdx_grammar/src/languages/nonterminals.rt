@@ -1,14 +1,13 @@
 // The names of the nonterminals of a form.
 ghost use Rattle.std.specs.Prelude.{◌≡◌, ◌++◌, IfOk, OnOk, map, option_map};
-ghost use Rattle.rdx_grammar.specs.Inside.AreNames.{AreNames};
+ghost use Rattle.rdx_patterns.specs.AreNames.{AreNames};
 ghost use Rattle.rdx_grammar.specs.Inside.BaseView.{base_in};
 ghost use Rattle.rdx_grammar.specs.Nonterminals.{names_in, all_names};
-ghost use Rattle.rdx_grammar.specs.Parts.{text_of};
+ghost use Rattle.rdx_patterns.specs.Parts.{text_of};
 
 use crate::languages::bases::Base;
 use crate::languages::parts::definition_in;
-use crate::patterns::names::symbol_name;
-use crate::patterns::nonterminals::language_names;
+use rdx_patterns::{language_names, symbol_name};
 use rdx_sexp::Datum;
 use rdx_term::{Name, NoMemory};
 use std::alloc::Global;

@@ -3,7 +3,7 @@ ghost use Rattle.std.specs.Prelude.{◌≡◌, ◌<◌, IfSome, length, option_m
 ghost use Rattle.rdx_grammar.specs.Inside.PartViews.{definition_of, around};
 ghost use Rattle.rdx_grammar.specs.Definitions as model;
 
-use crate::shape::{are_symbols, is_symbol, is_word, items};
+use rdx_patterns::shape::{are_symbols, is_symbol, is_word, items};
 use rdx_sexp::{Datum, Form};
 
 /// A definition of nonterminals: their names, and the alternatives that each of them has.

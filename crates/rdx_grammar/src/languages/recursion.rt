@@ -3,11 +3,10 @@ ghost use Rattle.rdx_lang.specs.PatternView.{language_of};
 ghost use Rattle.rdx_lang.specs.WellFormed.{IsWellFormed};
 ghost use Rattle.rdx_grammar.specs.Inside.CheckedForms.{ChecksRecursion};
 
-use crate::patterns::nonterminals::called;
-use crate::shape::refusal::named_at;
-use crate::shape::{DefFault, DefKind};
 use rdx_lang::{CheckedLang, Language};
 use rdx_leftrec::LeftRec;
+use rdx_patterns::refusal::named_at;
+use rdx_patterns::{DefFault, DefKind, called};
 use rdx_sexp::Datum;
 use std::alloc::Global;
 

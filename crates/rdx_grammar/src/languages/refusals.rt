@@ -5,7 +5,7 @@ ghost use Rattle.rdx_grammar.specs.Inside.BoundView.{BindNames};
 ghost use Rattle.rdx_grammar.specs.Inside.CheckedForms.{AreNamedIn, AreShallowIn, AreSpelledIn};
 ghost use Rattle.rdx_grammar.specs.Inside.PartViews.{parts_of};
 ghost use Rattle.rdx_grammar.specs.Inside.StandView.{stands_of};
-ghost use Rattle.rdx_grammar.specs.Refusal.{refusal_of, first_refusal};
+ghost use Rattle.rdx_patterns.specs.Refusal.{refusal_of, first_refusal};
 ghost use Rattle.rdx_grammar.specs.Refused as model;
 ghost use Rattle.rdx_grammar.specs.Stands as stands;
 
@@ -17,10 +17,9 @@ use crate::languages::checks::{
 use crate::languages::form_parts::FormParts;
 use crate::languages::nonterminals::form_names;
 use crate::languages::stands::Stand;
-use crate::patterns::names::Names;
-use crate::shape::refusal::{named, unnamed};
-use crate::shape::unbuilt::has_word_to_come;
-use crate::shape::{DefKind, DefRefusal};
+use rdx_patterns::refusal::{named, unnamed};
+use rdx_patterns::unbuilt::has_word_to_come;
+use rdx_patterns::{DefKind, DefRefusal, Names};
 use rdx_sexp::Datum;
 use rdx_term::{Name, NoMemory};
 use std::alloc::Global;

@@ -9,8 +9,8 @@ ghost use Rattle.rdx_grammar.specs.Stands as model;
 
 use crate::languages::form_parts::FormParts;
 use crate::languages::parts::definition_in;
-use crate::patterns::occurrences::{Occurrence, add_pattern};
-use crate::shape::is_word;
+use rdx_patterns::occurrences::{Occurrence, add_pattern};
+use rdx_patterns::shape::is_word;
 use rdx_sexp::Datum;
 use rdx_term::NoMemory;
 use std::alloc::Global;

@@ -1,7 +1,7 @@
 -- The heads of lists that values of the code stand for.
 use Rattle.std.specs.Prelude.{◌≡◌, ℕ, Bool, false, ◌&&◌, List, codes, if◌then◌else◌}
 use Rattle.rdx_sexp.specs.Sexp.{Sexp, Sexps, nil, cons}
-use Rattle.rdx_grammar.specs.Parts.{is_word}
+use Rattle.rdx_patterns.specs.Parts.{is_word}
 use Rattle.rdx_parts.specs.Bound.{Bound}
 use Rattle.rdx_parts.specs.HostHeads.{HostHead, quoting, applying, all_of, some_of, miscounted, foreign}
 use Rattle.rdx_parts.specs.Scope.{Scope}

@@ -1,8 +1,8 @@
 -- When a template is refused by one of the things that stand in it, by itself.
 use Rattle.std.specs.Prelude.{List, [], ◌∷◌, Option, option_map}
 use Rattle.rdx_sexp.specs.Sexp.{Sexp}
-use Rattle.rdx_grammar.specs.Refusal.{Refusal, unnamed, named, first_refusal}
-use Rattle.rdx_grammar.specs.declared.shape.fault.DefKind.TheVariants.{BadPattern, EllipsisDepth, EllipsisVariable, RacketEscape}
+use Rattle.rdx_patterns.specs.Refusal.{Refusal, unnamed, named, first_refusal}
+use Rattle.rdx_patterns.specs.declared.shape.fault.DefKind.TheVariants.{BadPattern, EllipsisDepth, EllipsisVariable, RacketEscape}
 use Rattle.rdx_parts.specs.Earliest.{start, earliest}
 use Rattle.rdx_parts.specs.Bound.{Bound}
 use Rattle.rdx_parts.specs.TemplateChecks.{bad_parts, shallow_parts, escapes}

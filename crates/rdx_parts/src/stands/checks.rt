@@ -1,7 +1,7 @@
 // The checks of a form for which it need not be known what is bound, one by one.
 ghost use Rattle.std.specs.Prelude.{◌≡◌, ◌++◌, [], IfOk, option_map};
-ghost use Rattle.rdx_grammar.specs.Inside.Repeats.{texts_in, HaveSame};
-ghost use Rattle.rdx_grammar.specs.OccurrenceView.{occurrences_of};
+ghost use Rattle.rdx_patterns.specs.Inside.Repeats.{texts_in, HaveSame};
+ghost use Rattle.rdx_patterns.specs.OccurrenceView.{occurrences_of};
 ghost use Rattle.rdx_parts.specs.Earliest.{earliest, lesser, start};
 ghost use Rattle.rdx_parts.specs.PartViews.{misfit_of, stand_of, stands_of};
 ghost use Rattle.rdx_parts.specs.NamesAgain as repeats;
@@ -15,11 +15,11 @@ use crate::earliest::{earlier, is_before};
 use crate::stands::collecting::Stand;
 use crate::stands::patterns::{earliest_bad_binder, earliest_keyword};
 use crate::templates::shapes::{shape_in_host, shape_in_template};
-use rdx_grammar::checks::{bound_by, when};
-use rdx_grammar::names::{begins_with_dots, is_bad_name};
-use rdx_grammar::occurrences::Occurrence;
-use rdx_grammar::shape::{is_word, text};
-use rdx_grammar::{Names, Position};
+use rdx_patterns::checks::{bound_by, when};
+use rdx_patterns::names::{begins_with_dots, is_bad_name};
+use rdx_patterns::occurrences::Occurrence;
+use rdx_patterns::shape::{is_word, text};
+use rdx_patterns::{Names, Position};
 use rdx_sexp::{Datum, Form};
 use rdx_term::NoMemory;
 use std::alloc::Global;

@@ -1,6 +1,6 @@
 // Names that are bound at two depths.
 ghost use Rattle.std.specs.Prelude.{◌≡◌, ◌++◌, IfOk, option_map};
-ghost use Rattle.rdx_grammar.specs.OccurrenceView.{occurrences_of};
+ghost use Rattle.rdx_patterns.specs.OccurrenceView.{occurrences_of};
 ghost use Rattle.rdx_parts.specs.Bound as model;
 ghost use Rattle.rdx_parts.specs.Earliest.{earliest, start};
 ghost use Rattle.rdx_parts.specs.PartsHave.{BindNames};
@@ -10,10 +10,10 @@ ghost use Rattle.rdx_parts.specs.Stands.{bound_among};
 use crate::earliest::earlier;
 use crate::stands::names::bound_name;
 use crate::templates::bound::Bound;
-use rdx_grammar::checks::{bound_by, when};
-use rdx_grammar::occurrences::Occurrence;
-use rdx_grammar::shape::text;
-use rdx_grammar::{Names, Position};
+use rdx_patterns::checks::{bound_by, when};
+use rdx_patterns::occurrences::Occurrence;
+use rdx_patterns::shape::text;
+use rdx_patterns::{Names, Position};
 use rdx_sexp::Datum;
 use rdx_term::NoMemory;
 use std::alloc::Global;

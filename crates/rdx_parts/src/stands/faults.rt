@@ -1,7 +1,7 @@
 // The checks of a form that have to know what is bound.
 ghost use Rattle.std.specs.Prelude.{◌≡◌, ◌++◌, ◌∷◌, [], IfOk, IsTrue, map, option_map};
-ghost use Rattle.rdx_grammar.specs.OccurrenceView.{occurrences_of};
-ghost use Rattle.rdx_grammar.specs.Readable.{IsReadable};
+ghost use Rattle.rdx_patterns.specs.OccurrenceView.{occurrences_of};
+ghost use Rattle.rdx_patterns.specs.Readable.{IsReadable};
 ghost use Rattle.rdx_parts.specs.Earliest.{earliest, start};
 ghost use Rattle.rdx_parts.specs.Headed as headed;
 ghost use Rattle.rdx_parts.specs.Outlines.{one, taken_occurrences};
@@ -29,8 +29,8 @@ use crate::templates::places::{
     bad_in_host, bad_in_template, escape_in_host, escape_in_template, shallow_in_host,
     shallow_in_template,
 };
-use rdx_grammar::Names;
-use rdx_grammar::occurrences::Occurrence;
+use rdx_patterns::Names;
+use rdx_patterns::occurrences::Occurrence;
 use rdx_sexp::Datum;
 use rdx_term::NoMemory;
 use std::alloc::Global;

@@ -1,7 +1,7 @@
 // The names that are bound in a case, a clause or a rule, in the order of binding.
 ghost use Rattle.std.specs.Prelude.{◌≡◌, ◌<◌, ◌++◌, ◌∷◌, [], IfOk, IsTrue};
-ghost use Rattle.rdx_grammar.specs.OccurrenceView.{occurrences_of};
-ghost use Rattle.rdx_grammar.specs.Parts.{text_of};
+ghost use Rattle.rdx_patterns.specs.OccurrenceView.{occurrences_of};
+ghost use Rattle.rdx_patterns.specs.Parts.{text_of};
 ghost use Rattle.rdx_term.specs.Spelling.{is_name};
 ghost use Rattle.rdx_parts.specs.Arguments.{data_at, patterns_in};
 ghost use Rattle.rdx_parts.specs.Headed as headed;
@@ -18,10 +18,10 @@ use crate::branches::{Branch, RuleBranch, Takes};
 use crate::extras::{ExtraForm, ExtraPlace, form_at};
 use crate::stands::collecting::in_takes;
 use crate::templates::bound::Bound;
-use rdx_grammar::checks::bound_by;
-use rdx_grammar::occurrences::Occurrence;
-use rdx_grammar::shape::text;
-use rdx_grammar::{Names, Position, symbol_name};
+use rdx_patterns::checks::bound_by;
+use rdx_patterns::occurrences::Occurrence;
+use rdx_patterns::shape::text;
+use rdx_patterns::{Names, Position, symbol_name};
 use rdx_sexp::Datum;
 use rdx_term::{Name, NoMemory};
 use std::alloc::Global;

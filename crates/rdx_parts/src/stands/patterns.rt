@@ -1,13 +1,13 @@
 // The checks of what stands in a pattern, one by one.
 ghost use Rattle.std.specs.Prelude.{◌≡◌, option_map};
-ghost use Rattle.rdx_grammar.specs.OccurrenceView.{occurrences_of};
-ghost use Rattle.rdx_grammar.specs.PatternChecks as model;
+ghost use Rattle.rdx_patterns.specs.OccurrenceView.{occurrences_of};
+ghost use Rattle.rdx_patterns.specs.PatternChecks as model;
 ghost use Rattle.rdx_parts.specs.Earliest.{earliest, start};
 
 use crate::earliest::earlier;
-use rdx_grammar::Names;
-use rdx_grammar::checks::{bad_binder, bad_occurrence, escape_in, keyword_fault};
-use rdx_grammar::occurrences::Occurrence;
+use rdx_patterns::Names;
+use rdx_patterns::checks::{bad_binder, bad_occurrence, escape_in, keyword_fault};
+use rdx_patterns::occurrences::Occurrence;
 use rdx_sexp::Datum;
 
 /// The earliest keyword.

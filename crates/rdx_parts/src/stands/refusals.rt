@@ -1,6 +1,6 @@
 // Why a form of a relation, a metafunction or a judgement is refused.
 ghost use Rattle.std.specs.Prelude.{◌≡◌, None, IfOk, option_map};
-ghost use Rattle.rdx_grammar.specs.Refusal.{refusal_of};
+ghost use Rattle.rdx_patterns.specs.Refusal.{refusal_of};
 ghost use Rattle.rdx_parts.specs.FormRefusals as forms;
 ghost use Rattle.rdx_parts.specs.PartViews.{misfit_of, outline_of, stands_of};
 ghost use Rattle.rdx_parts.specs.PartsHave.{OutlineHas, can_bind};
@@ -15,9 +15,9 @@ use crate::stands::checks::{
 };
 use crate::stands::collecting::Stand;
 use crate::stands::faults::{Check, earliest_fault};
-use rdx_grammar::refusal::{named, named_at, unnamed};
-use rdx_grammar::shape::text;
-use rdx_grammar::{DefKind, DefRefusal, Names};
+use rdx_patterns::refusal::{named, named_at, unnamed};
+use rdx_patterns::shape::text;
+use rdx_patterns::{DefKind, DefRefusal, Names};
 use rdx_sexp::Datum;
 use rdx_term::NoMemory;
 use rdx_term::printing::print_string;

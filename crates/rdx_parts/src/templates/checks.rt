@@ -7,9 +7,9 @@ ghost use Rattle.rdx_parts.specs.TemplateChecks as model;
 use crate::earliest::earlier;
 use crate::templates::bound::Bound;
 use crate::templates::parts::TemplatePart;
-use rdx_grammar::checks::when;
-use rdx_grammar::names::begins_with_dots;
-use rdx_grammar::shape::text;
+use rdx_patterns::checks::when;
+use rdx_patterns::names::begins_with_dots;
+use rdx_patterns::shape::text;
 use rdx_sexp::Datum;
 
 fn bad_part<'a>(part: &TemplatePart<'a>) -> Option<&'a Datum>

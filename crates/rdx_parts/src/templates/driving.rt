@@ -2,8 +2,8 @@
 ghost use Rattle.std.specs.Prelude.{◌≡◌, None, drop, option_map};
 ghost use Rattle.std.specs.Rc.{rc_str_bytes};
 ghost use Rattle.rdx_sexp.specs.Sexp.{sexps};
-ghost use Rattle.rdx_grammar.specs.HeadView.{roles_view};
-ghost use Rattle.rdx_grammar.specs.PatternChecks.{when};
+ghost use Rattle.rdx_patterns.specs.HeadView.{roles_view};
+ghost use Rattle.rdx_patterns.specs.PatternChecks.{when};
 ghost use Rattle.rdx_parts.specs.Earliest.{earliest, lesser, start};
 ghost use Rattle.rdx_parts.specs.Inside.Reach as model;
 ghost use Rattle.rdx_parts.specs.Scope.{scope_of};
@@ -16,7 +16,7 @@ use crate::earliest::earlier;
 use crate::templates::bound::Bound;
 use crate::templates::heads::{TemplateHead, template_head};
 use crate::templates::host_heads::{HostHead, host_head};
-use rdx_grammar::heads::{Role, Roles, is_pattern, is_repeated, next, rest};
+use rdx_patterns::heads::{Role, Roles, is_pattern, is_repeated, next, rest};
 use rdx_sexp::{Datum, Form};
 
 /// How many of the ellipses right around a template the names in it drive, and the earliest item in

@@ -1,7 +1,7 @@
 // Lists of templates by their heads.
 ghost use Rattle.std.specs.Prelude.{◌≡◌, IfSome, is_some};
 ghost use Rattle.rdx_sexp.specs.Sexp.{sexps};
-ghost use Rattle.rdx_grammar.specs.Parts.{text_of};
+ghost use Rattle.rdx_patterns.specs.Parts.{text_of};
 ghost use Rattle.rdx_parts.specs.Inside.HeadViews as inside;
 ghost use Rattle.rdx_parts.specs.Scope.{scope_of};
 ghost use Rattle.rdx_parts.specs.TemplateHeads as model;
@@ -9,7 +9,7 @@ ghost use Rattle.rdx_parts.specs.TemplateReading.{head_text};
 
 use crate::Scope;
 use crate::templates::bound::Bound;
-use rdx_grammar::shape::{is_symbol, is_word, text};
+use rdx_patterns::shape::{is_symbol, is_word, text};
 use rdx_sexp::Datum;
 use rdx_term::Name;
 

@@ -2,8 +2,8 @@
 ghost use Rattle.std.specs.Prelude.{◌≡◌, ◌<◌, ◌+◌, ◌++◌, ◌∷◌, [], drop, IfOk};
 ghost use Rattle.rdx_sexp.specs.Sexp.{sexps};
 ghost use Rattle.rdx_sexp.specs.Size.{sexp_depth, sexps_depth};
-ghost use Rattle.rdx_grammar.specs.HeadView.{roles_view};
-ghost use Rattle.rdx_grammar.specs.Occurrences as occurrences;
+ghost use Rattle.rdx_patterns.specs.HeadView.{roles_view};
+ghost use Rattle.rdx_patterns.specs.Occurrences as occurrences;
 ghost use Rattle.rdx_parts.specs.Inside.PartView.{part_of, parts_of, unrepeated};
 ghost use Rattle.rdx_parts.specs.Scope.{scope_of};
 ghost use Rattle.rdx_parts.specs.TemplateOccurrences as model;
@@ -12,7 +12,7 @@ use crate::Scope;
 use crate::templates::bound::Bound;
 use crate::templates::heads::{TemplateHead, template_head};
 use crate::templates::host_heads::{HostHead, host_head};
-use rdx_grammar::heads::{Role, Roles, is_pattern, is_repeated, next, rest};
+use rdx_patterns::heads::{Role, Roles, is_pattern, is_repeated, next, rest};
 use rdx_sexp::{Datum, Form};
 use rdx_term::NoMemory;
 

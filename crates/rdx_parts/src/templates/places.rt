@@ -1,6 +1,6 @@
 // The earliest place in a template or a host expression at which a check behind the first refuses it.
 ghost use Rattle.std.specs.Prelude.{◌≡◌, IfOk, option_map};
-ghost use Rattle.rdx_grammar.specs.Readable.{IsReadable};
+ghost use Rattle.rdx_patterns.specs.Readable.{IsReadable};
 ghost use Rattle.rdx_parts.specs.Earliest.{earliest, start};
 ghost use Rattle.rdx_parts.specs.Inside.PartView.{parts_of, unrepeated};
 ghost use Rattle.rdx_parts.specs.Scope.{scope_of};

@@ -1,6 +1,6 @@
 // Templates and host expressions where names are bound.
 ghost use Rattle.std.specs.Prelude.{IfOk, IsTrue};
-ghost use Rattle.rdx_grammar.specs.Readable.{IsReadable};
+ghost use Rattle.rdx_patterns.specs.Readable.{IsReadable};
 ghost use Rattle.rdx_lang.specs.Fitting.{fits, fits_in};
 ghost use Rattle.rdx_lang.specs.TemplateView.{template_of, host_of};
 ghost use Rattle.rdx_parts.specs.Answers.{ReadsTemplate, ReadsHost};
@@ -11,8 +11,8 @@ use crate::Scope;
 use crate::templates::bound::Bound;
 use crate::templates::readings::{read_datum, read_host_datum};
 use crate::templates::refusals::{refuse_host, refuse_template};
-use rdx_grammar::DefFault;
 use rdx_lang::{HostExpr, Template};
+use rdx_patterns::DefFault;
 use rdx_sexp::Datum;
 use rdx_term::Name;
 use std::alloc::Global;

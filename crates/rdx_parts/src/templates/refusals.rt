@@ -1,7 +1,7 @@
 // Why a template or a host expression is refused.
 ghost use Rattle.std.specs.Prelude.{◌≡◌, IfOk, option_map};
-ghost use Rattle.rdx_grammar.specs.Readable.{IsReadable};
-ghost use Rattle.rdx_grammar.specs.Refusal.{refusal_of};
+ghost use Rattle.rdx_patterns.specs.Readable.{IsReadable};
+ghost use Rattle.rdx_patterns.specs.Refusal.{refusal_of};
 ghost use Rattle.rdx_parts.specs.Inside.PartRefusal as inside;
 ghost use Rattle.rdx_parts.specs.Inside.PartView.{parts_of};
 ghost use Rattle.rdx_parts.specs.Scope.{scope_of};
@@ -14,9 +14,9 @@ use crate::templates::driving::{driving_of, driving_of_host};
 use crate::templates::parts::TemplatePart;
 use crate::templates::places::{in_host, in_template};
 use crate::templates::shapes::{shape_in_host, shape_in_template};
-use rdx_grammar::refusal::{named, unnamed};
-use rdx_grammar::unbuilt::has_word_to_come;
-use rdx_grammar::{DefKind, DefRefusal};
+use rdx_patterns::refusal::{named, unnamed};
+use rdx_patterns::unbuilt::has_word_to_come;
+use rdx_patterns::{DefKind, DefRefusal};
 use rdx_sexp::Datum;
 use rdx_term::NoMemory;
 use std::alloc::Global;

@@ -1,8 +1,8 @@
 // The earliest datum without its shape in templates and host expressions.
 ghost use Rattle.std.specs.Prelude.{◌≡◌, drop, option_map};
 ghost use Rattle.rdx_sexp.specs.Sexp.{sexps};
-ghost use Rattle.rdx_grammar.specs.Occurrences.{keys};
-ghost use Rattle.rdx_grammar.specs.PatternChecks.{keyword_faults};
+ghost use Rattle.rdx_patterns.specs.Occurrences.{keys};
+ghost use Rattle.rdx_patterns.specs.PatternChecks.{keyword_faults};
 ghost use Rattle.rdx_parts.specs.Earliest.{earliest, start};
 ghost use Rattle.rdx_parts.specs.TemplateShapes as model;
 

@@ -14,11 +14,11 @@ use Rattle.rdx_parts.specs.Scope.{Scope}
 use Rattle.rdx_parts.specs.TemplateReading.{host_reading}
 use Rattle.rdx_parts.specs.TemplateRefusal.{host_refusal}
 use Rattle.rdx_defs.specs.declared.judgements.premises.ReadPremise.{ReadPremise}
-use Rattle.rdx_grammar.specs.Parts.{is_symbol}
-use Rattle.rdx_grammar.specs.Readable.{IsReadable}
-use Rattle.rdx_grammar.specs.Refusal.{Refusal}
-use Rattle.rdx_grammar.specs.Unbuilt.{has_word_to_come}
-use Rattle.rdx_grammar.specs.declared.shape.fault.DefFault.{DefFault}
+use Rattle.rdx_patterns.specs.Parts.{is_symbol}
+use Rattle.rdx_patterns.specs.Readable.{IsReadable}
+use Rattle.rdx_patterns.specs.Refusal.{Refusal}
+use Rattle.rdx_patterns.specs.Unbuilt.{has_word_to_come}
+use Rattle.rdx_patterns.specs.declared.shape.fault.DefFault.{DefFault}
 use Rattle.rdx_query.specs.HoldsForms.{HoldsParts, holds_parts, lone_parts, holds_refusal, holds_query, holds_test_query}
 use Rattle.rdx_query.specs.Known.{Known}
 use Rattle.rdx_query.specs.MatchForms.{QueryParts, query_parts, query_refusal, match_query}

@@ -14,14 +14,14 @@ use Rattle.rdx_lang.specs.declared.program.Relation.{Relation}
 use Rattle.rdx_defs.specs.RelationForms.{relation_form}
 use Rattle.rdx_defs.specs.RelationReading.{relation_reading}
 use Rattle.rdx_defs.specs.RelationRefusal.{relation_refusal}
-use Rattle.rdx_grammar.specs.Nonterminals.{names_of}
+use Rattle.rdx_patterns.specs.Nonterminals.{names_of}
 use Rattle.rdx_grammar.specs.Forms.{GrammarForm}
 use Rattle.rdx_grammar.specs.Languages.{language_over}
-use Rattle.rdx_grammar.specs.Parts.{text_of}
-use Rattle.rdx_grammar.specs.Refusal.{Refusal, refusal_of, first_refusal}
+use Rattle.rdx_patterns.specs.Parts.{text_of}
+use Rattle.rdx_patterns.specs.Refusal.{Refusal, refusal_of, first_refusal}
 use Rattle.rdx_grammar.specs.Refused.{recursion_at}
-use Rattle.rdx_grammar.specs.declared.shape.fault.DefFault.{DefFault}
-use Rattle.rdx_grammar.specs.declared.shape.fault.DefFault.TheVariants.{Refused, NoMemory}
+use Rattle.rdx_patterns.specs.declared.shape.fault.DefFault.{DefFault}
+use Rattle.rdx_patterns.specs.declared.shape.fault.DefFault.TheVariants.{Refused, NoMemory}
 use Rattle.rdx_query.specs.Definitions.{language, metafunction, judgement, relation}
 use Rattle.rdx_query.specs.File.{Defines, IsRefusedForm}
 use Rattle.rdx_query.specs.Known.{Known}

@@ -1,11 +1,11 @@
 -- Which of two refusals is reported: the one by the check with the lesser number.
 use Rattle.std.specs.Prelude.{◌≡◌, ℕ, Option, Some, None, Result, Ok, Err, nat_lt, if◌then◌else◌}
-use Rattle.rdx_grammar.specs.Refusal.{Refusal, refusal_of}
-use Rattle.rdx_grammar.specs.declared.shape.fault.DefFault.{DefFault}
-use Rattle.rdx_grammar.specs.declared.shape.fault.DefFault.TheVariants.{Refused, NoMemory}
-use Rattle.rdx_grammar.specs.declared.shape.fault.DefKind.{DefKind}
-use Rattle.rdx_grammar.specs.declared.shape.fault.DefRefusal.{DefRefusal}
-use Rattle.rdx_grammar.specs.declared.shape.fault.DefKind.TheVariants.{Unbuilt, Shape, UnknownLanguage, Duplicate, BadName, BadPattern, EllipsisDepth, LeftRecursive, UnknownName, EllipsisVariable, RacketEscape, Mode}
+use Rattle.rdx_patterns.specs.Refusal.{Refusal, refusal_of}
+use Rattle.rdx_patterns.specs.declared.shape.fault.DefFault.{DefFault}
+use Rattle.rdx_patterns.specs.declared.shape.fault.DefFault.TheVariants.{Refused, NoMemory}
+use Rattle.rdx_patterns.specs.declared.shape.fault.DefKind.{DefKind}
+use Rattle.rdx_patterns.specs.declared.shape.fault.DefRefusal.{DefRefusal}
+use Rattle.rdx_patterns.specs.declared.shape.fault.DefKind.TheVariants.{Unbuilt, Shape, UnknownLanguage, Duplicate, BadName, BadPattern, EllipsisDepth, LeftRecursive, UnknownName, EllipsisVariable, RacketEscape, Mode}
 
 -- the number of a check
 abbrev pub number : DefKind → ℕ

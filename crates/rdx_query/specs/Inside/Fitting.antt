@@ -9,7 +9,7 @@ use Rattle.rdx_lang.specs.Programs.{Program, Relation, language_named}
 use Rattle.rdx_lang.specs.References.{is_among}
 use Rattle.rdx_lang.specs.WellFormed.{defined}
 use Rattle.rdx_lang.specs.declared.pattern.Ref.TheVariants.{Nt, Cross}
-use Rattle.rdx_grammar.specs.Parts.{text_of}
+use Rattle.rdx_patterns.specs.Parts.{text_of}
 use Rattle.rdx_query.specs.Known.{Known}
 
 -- the language has all cross nonterminals to y, if y is a nonterminal of it

@@ -1,6 +1,6 @@
 -- The parts that values of the code stand for.
 use Rattle.std.specs.Prelude.{Bool, true, false, List, [], ◌∷◌, Option, Some, None, option_map, if◌then◌else◌}
-use Rattle.rdx_grammar.specs.Parts.{parts}
+use Rattle.rdx_patterns.specs.Parts.{parts}
 use Rattle.rdx_parts.specs.Headed.{headed}
 use Rattle.rdx_defs.specs.RelationForms.{may_name}
 use Rattle.rdx_sexp.specs.Sexp.{Sexp}

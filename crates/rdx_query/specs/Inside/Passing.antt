@@ -1,8 +1,8 @@
 -- What is answered to a form that is passed over.
 use Rattle.std.specs.Prelude.{List, [], ◌∷◌, Option, option_map}
 use Rattle.rdx_sexp.specs.Sexp.{Sexp}
-use Rattle.rdx_grammar.specs.Refusal.{Refusal, unnamed, first, first_refusal}
-use Rattle.rdx_grammar.specs.declared.shape.fault.DefKind.TheVariants.{Shape, RacketEscape}
+use Rattle.rdx_patterns.specs.Refusal.{Refusal, unnamed, first, first_refusal}
+use Rattle.rdx_patterns.specs.declared.shape.fault.DefKind.TheVariants.{Shape, RacketEscape}
 use Rattle.rdx_query.specs.PassedForms.{unnamed_modules, other_modules}
 
 -- the refusal of wanted modules

@@ -1,7 +1,7 @@
 -- What one form adds to what a file defines and asks.
 use Rattle.std.specs.Prelude.{◌≡◌, List, [], ◌∷◌, ◌++◌, Result, Ok, Err}
 use Rattle.rdx_sexp.specs.Sexp.{Sexp}
-use Rattle.rdx_grammar.specs.declared.shape.fault.DefFault.{DefFault}
+use Rattle.rdx_patterns.specs.declared.shape.fault.DefFault.{DefFault}
 use Rattle.rdx_query.specs.Definitions.{Defined}
 use Rattle.rdx_query.specs.File.{Defines, Asks, IsPassedOver}
 use Rattle.rdx_query.specs.Known.{Known, with_definition}

@@ -4,7 +4,7 @@ use Rattle.std.specs.BTreeMap.{BTreeMap, get_by_text}
 use Rattle.std.specs.declared.string.String.{String}
 use Rattle.rdx_lang.specs.Model.Places.{FindsPlaces}
 use Rattle.rdx_lang.specs.Programs.{Program}
-use Rattle.rdx_grammar.specs.Nonterminals.{names_of}
+use Rattle.rdx_patterns.specs.Nonterminals.{names_of}
 use Rattle.rdx_query.specs.declared.tables.Tables.{Tables}
 
 -- each of these texts is found with its first place, and no other text

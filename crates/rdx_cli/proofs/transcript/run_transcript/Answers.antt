@@ -1,5 +1,5 @@
 use Rattle.std.proofs.Common.{◌∙◌, List, sym, subst}
-use Rattle.rdx_grammar.specs.Refusal.{refusal_of}
+use Rattle.rdx_patterns.specs.Refusal.{refusal_of}
 use Rattle.rdx_answer.specs.Answering.{AreAnswers}
 use Rattle.rdx_query.specs.File.{IsFile, IsFileRefusal}
 use Rattle.rdx_answer.specs.Tests.{no_tests}

@@ -2,8 +2,8 @@ use Rattle.std.proofs.Common.{◌≡◌, ◌++◌, ◌∙◌, ℕ, Bool, false, 
 use Rattle.std.specs.List.{list_all}
 use Rattle.std.specs.Prelude.{option_map}
 use Rattle.rdx_sexp.specs.declared.datum.Datum.{Datum}
-use Rattle.rdx_grammar.specs.Parts.{text_of}
-use Rattle.rdx_grammar.specs.Reading.{name_in}
+use Rattle.rdx_patterns.specs.Parts.{text_of}
+use Rattle.rdx_patterns.specs.Reading.{name_in}
 use Rattle.rdx_defs.specs.MetafunctionForms.{clause_form}
 use Rattle.rdx_defs.specs.Scopes.{is_clause_of, function_of_all}
 use Rattle.rdx_defs.proofs.scopes.add_function.Goals as goal

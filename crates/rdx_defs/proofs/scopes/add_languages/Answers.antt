@@ -3,7 +3,7 @@ use Rattle.std.specs.Bool.{then_some}
 use Rattle.std.specs.Option.{option_to_list}
 use Rattle.std.specs.Prelude.{option_map}
 use Rattle.rdx_term.specs.Spelling.{is_name}
-use Rattle.rdx_grammar.specs.Parts.{text_of}
+use Rattle.rdx_patterns.specs.Parts.{text_of}
 use Rattle.rdx_lang.specs.Programs.{Mode}
 use Rattle.rdx_defs.specs.Inside.FormViews.{judgement_form_of}
 use Rattle.rdx_defs.specs.Inside.ScopeParts.{defining_form}

@@ -2,7 +2,7 @@ use Rattle.std.proofs.Common.{◌≡◌, ◌∙◌, Some, None, sym, ap}
 use Rattle.std.specs.Bool.{then_some}
 use Rattle.std.specs.Prelude.{option_map}
 use Rattle.rdx_term.specs.Spelling.{is_name}
-use Rattle.rdx_grammar.specs.Parts.{text_of}
+use Rattle.rdx_patterns.specs.Parts.{text_of}
 use Rattle.rdx_defs.specs.Inside.FormViews.{judgement_form_of}
 use Rattle.rdx_defs.specs.JudgementForms.{own_mode}
 use Rattle.rdx_defs.proofs.ScopeParts.{with-name, without-name}

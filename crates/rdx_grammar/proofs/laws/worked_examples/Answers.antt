@@ -1,4 +1,4 @@
-use Rattle.rdx_grammar.proofs.Examples.{inherits_in_place, least_check_first, asks_inside, asks_in_language, recursion_first, reads_across, no_such_end, crosses_loop}
+use Rattle.rdx_grammar.proofs.Examples.{inherits_in_place, least_check_first, asks_in_language, recursion_first, crosses_loop}
 use Rattle.rdx_grammar.proofs.laws.worked_examples.Goals as goal
 
 pub returns-clause-extension : goal.returns-clause-extension
@@ -7,20 +7,11 @@ returns-clause-extension c = inherits_in_place
 pub returns-clause-refusal : goal.returns-clause-refusal
 returns-clause-refusal c = least_check_first
 
-pub returns-clause-asks_inside : goal.returns-clause-asks_inside
-returns-clause-asks_inside c = asks_inside
-
 pub returns-clause-asks_in_language : goal.returns-clause-asks_in_language
 returns-clause-asks_in_language c = asks_in_language
 
 pub returns-clause-recursion_first : goal.returns-clause-recursion_first
 returns-clause-recursion_first c = recursion_first
-
-pub returns-clause-reads_across : goal.returns-clause-reads_across
-returns-clause-reads_across c = reads_across
-
-pub returns-clause-no_such_end : goal.returns-clause-no_such_end
-returns-clause-no_such_end c = no_such_end
 
 pub returns-clause-crosses_loop : goal.returns-clause-crosses_loop
 returns-clause-crosses_loop c = crosses_loop

@@ -1,6 +1,6 @@
 use Rattle.std.proofs.Common.{◌≡◌, drop}
 use Rattle.std.specs.List.{list_all}
-use Rattle.rdx_grammar.specs.Parts.{is_symbol}
+use Rattle.rdx_patterns.specs.Parts.{is_symbol}
 use Rattle.rdx_parts.proofs.extras.are_symbols.Given as goal
 
 abbrev pub invariant-loop-d : goal.invariant-loop-d

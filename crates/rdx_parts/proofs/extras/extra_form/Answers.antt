@@ -1,6 +1,6 @@
 use Rattle.std.proofs.Common.{arith}
 use Rattle.std.proofs.lemmas.Grind.{common_steps}
-use Rattle.rdx_grammar.proofs.Sexps.{listed-sexps}
+use Rattle.rdx_patterns.proofs.Sexps.{listed-sexps}
 use Rattle.rdx_parts.proofs.extras.extra_form.Goals as goal
 
 pub returns-in-List : goal.returns-in-List

@@ -4,7 +4,7 @@ use Rattle.std.proofs.lemmas.Map.Text.{btree_map_updates_text}
 use Rattle.std.specs.BTreeMap.{get_by_text}
 use Rattle.std.specs.Prelude.{Some}
 use Rattle.std.specs.String.{string_bytes}
-use Rattle.rdx_grammar.proofs.Rests.{drop-at}
+use Rattle.rdx_patterns.proofs.Rests.{drop-at}
 use Rattle.rdx_lang.specs.Model.Places.{FindsPlaces}
 use Rattle.rdx_lang.proofs.FirstPlaces.{places-next}
 use Rattle.rdx_parts.proofs.scope.judgement_places.Goals as goal

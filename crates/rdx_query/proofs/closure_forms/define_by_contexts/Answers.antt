@@ -3,8 +3,8 @@ use Rattle.std.specs.Prelude.{option_map}
 use Rattle.rdx_lang.specs.Checked.{language_in}
 use Rattle.rdx_lang.specs.ProgramView.{relation_of}
 use Rattle.rdx_lang.specs.Programs.{language_named, relation_named}
-use Rattle.rdx_grammar.specs.Parts.{text_of}
-use Rattle.rdx_grammar.specs.Refusal.{refusal_of}
+use Rattle.rdx_patterns.specs.Parts.{text_of}
+use Rattle.rdx_patterns.specs.Refusal.{refusal_of}
 use Rattle.rdx_query.specs.ClosureForms.{closed_relation}
 use Rattle.rdx_query.specs.Known.{Known}
 use Rattle.rdx_query.specs.Inside.KnownView.{known_of}

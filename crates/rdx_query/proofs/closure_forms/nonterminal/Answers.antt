@@ -1,7 +1,7 @@
 use Rattle.std.proofs.Common.{◌∙◌, Some, sym, ap}
 use Rattle.std.specs.Bool.{then_some}
 use Rattle.std.specs.Prelude.{option_map}
-use Rattle.rdx_grammar.specs.Kinds.{is_among}
+use Rattle.rdx_patterns.specs.Kinds.{is_among}
 use Rattle.rdx_query.proofs.KeptNames.{kept-at}
 use Rattle.rdx_query.proofs.closure_forms.nonterminal.Goals as goal
 

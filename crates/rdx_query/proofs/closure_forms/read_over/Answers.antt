@@ -4,7 +4,7 @@ use Rattle.rdx_lang.specs.Checked.{language_in, pattern_in}
 use Rattle.rdx_lang.specs.Patterns.{Language}
 use Rattle.rdx_lang.specs.Programs.{language_named}
 use Rattle.rdx_lang.specs.WellFormed.{is_well_formed_in}
-use Rattle.rdx_grammar.specs.Ends.{ends_in}
+use Rattle.rdx_patterns.specs.Ends.{ends_in}
 use Rattle.rdx_query.specs.Inside.KnownView.{known_of}
 use Rattle.rdx_query.proofs.GainingNothing.{gained-at, gained-by}
 use Rattle.rdx_query.proofs.KeptNames.{kept-at}

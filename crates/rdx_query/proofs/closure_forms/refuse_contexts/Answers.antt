@@ -1,7 +1,7 @@
 use Rattle.std.proofs.Common.{[], ◌∷◌, Option, ap, sym, ◌∙◌}
 use Rattle.std.specs.Prelude.{option_map}
 use Rattle.std.proofs.lemmas.Result.{IfOk-weaker}
-use Rattle.rdx_grammar.specs.Refusal.{Refusal, refusal_of, or_else, first_refusal}
+use Rattle.rdx_patterns.specs.Refusal.{Refusal, refusal_of, or_else, first_refusal}
 use Rattle.rdx_query.specs.ClosureForms.{unknown_closed_at}
 use Rattle.rdx_query.specs.ClosureForms as forms
 use Rattle.rdx_query.specs.LanguageForms.{name_taken_at}

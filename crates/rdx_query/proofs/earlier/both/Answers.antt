@@ -1,5 +1,5 @@
 use Rattle.std.proofs.Common.{◌≡◌, Option, Some, Err, sym, subst, ◌∙◌, ap}
-use Rattle.rdx_grammar.specs.Refusal.{Refusal, refusal_of}
+use Rattle.rdx_patterns.specs.Refusal.{Refusal, refusal_of}
 use Rattle.rdx_query.specs.Inside.Earlier.{earlier, IsFaultAt, IsRefusedBy}
 use Rattle.rdx_query.proofs.earlier.both.Goals as goal
 

@@ -1,5 +1,5 @@
 use Rattle.std.proofs.lemmas.Result.{err_from_is_err_and}
-use Rattle.rdx_grammar.specs.Readable.{IsReadable}
+use Rattle.rdx_patterns.specs.Readable.{IsReadable}
 use Rattle.rdx_query.specs.Inside.KnownView.{known_of}
 use Rattle.rdx_query.specs.Inside.PartViews.{holds_of}
 use Rattle.rdx_query.proofs.HoldsChecks.{some-mapped, holds-readable, premise-asks, holds-asked}

@@ -1,4 +1,4 @@
-use Rattle.rdx_grammar.specs.Ends.{ends_in}
+use Rattle.rdx_patterns.specs.Ends.{ends_in}
 use Rattle.rdx_query.proofs.GainingNothing.{gained-at}
 use Rattle.rdx_query.proofs.KeptNames.{kept-at}
 use Rattle.rdx_query.proofs.Replaced.{same-known, tables-stay}

@@ -2,7 +2,7 @@ use Rattle.std.proofs.Common.{◌≡◌, Some, None, Err, refl, sym, ◌∙◌, 
 use Rattle.rdx_lang.specs.Checked.{language_in}
 use Rattle.rdx_lang.specs.Programs.{language_named}
 use Rattle.rdx_grammar.specs.Forms.{extension_form}
-use Rattle.rdx_grammar.specs.Parts.{text_of}
+use Rattle.rdx_patterns.specs.Parts.{text_of}
 use Rattle.rdx_query.specs.LanguageForms.{named_base}
 use Rattle.rdx_query.specs.Inside.Defining.{taken_at_item}
 use Rattle.rdx_query.specs.Inside.KnownView.{known_of}

@@ -1,5 +1,5 @@
 use Rattle.rdx_lang.specs.Checked.{language_in}
-use Rattle.rdx_grammar.specs.Ends.{ends_in}
+use Rattle.rdx_patterns.specs.Ends.{ends_in}
 use Rattle.rdx_query.proofs.GainingNothing.{gained-at, gained-by}
 use Rattle.rdx_query.proofs.KeptNames.{kept-at}
 use Rattle.rdx_query.proofs.Replaced.{same-known, tables-stay}

@@ -1,5 +1,5 @@
 use Rattle.std.proofs.Common.{ℕ, List, subst, sym}
-use Rattle.rdx_grammar.specs.Ends.{ends_in}
+use Rattle.rdx_patterns.specs.Ends.{ends_in}
 use Rattle.rdx_defs.specs.Answers.{ReadsMetafunction}
 use Rattle.rdx_parts.specs.Scope.{scope_of}
 use Rattle.rdx_query.proofs.GainingNothing.{gained-at}

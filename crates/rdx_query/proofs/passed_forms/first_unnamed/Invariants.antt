@@ -1,5 +1,5 @@
 use Rattle.std.proofs.Common.{◌≡◌, drop}
-use Rattle.rdx_grammar.specs.Refusal.{first}
+use Rattle.rdx_patterns.specs.Refusal.{first}
 use Rattle.rdx_query.specs.PassedForms.{unnamed_modules}
 use Rattle.rdx_query.proofs.passed_forms.first_unnamed.Given as goal
 

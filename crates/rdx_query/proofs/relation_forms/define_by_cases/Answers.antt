@@ -1,5 +1,5 @@
 use Rattle.std.proofs.Common.{option_map}
-use Rattle.rdx_grammar.specs.Nonterminals.{names_of}
+use Rattle.rdx_patterns.specs.Nonterminals.{names_of}
 use Rattle.rdx_query.specs.LanguageForms.{named_base}
 use Rattle.rdx_query.specs.Inside.KnownView.{known_of}
 use Rattle.rdx_query.proofs.RelationChecks.{relates-over, fits-over}

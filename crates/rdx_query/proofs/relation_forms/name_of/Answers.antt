@@ -1,8 +1,8 @@
 use Rattle.std.proofs.Common.{◌≡◌, true, false, Result, Ok, Err, refl, ◌∙◌, ap, sym, IfOk}
 use Rattle.std.specs.Rc.{rc_str_bytes}
 use Rattle.rdx_term.specs.Spelling.{is_name}
-use Rattle.rdx_grammar.specs.Names.{is_bad_name}
-use Rattle.rdx_grammar.specs.Parts.{text_of}
+use Rattle.rdx_patterns.specs.Names.{is_bad_name}
+use Rattle.rdx_patterns.specs.Parts.{text_of}
 use Rattle.rdx_query.proofs.DefineChecks.{no_name-bad}
 use Rattle.rdx_query.proofs.relation_forms.name_of.Goals as goal
 

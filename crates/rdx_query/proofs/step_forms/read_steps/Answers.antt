@@ -2,8 +2,8 @@ use Rattle.std.proofs.Common.{◌≡◌, Some, None, sym, ◌∙◌, ap}
 use Rattle.std.proofs.lemmas.Result.{err_from_is_err_and}
 use Rattle.rdx_lang.specs.ProgramView.{relation_of}
 use Rattle.rdx_lang.specs.Programs.{relation_named}
-use Rattle.rdx_grammar.specs.Parts.{text_of}
-use Rattle.rdx_grammar.specs.Refusal.{refusal_of}
+use Rattle.rdx_patterns.specs.Parts.{text_of}
+use Rattle.rdx_patterns.specs.Refusal.{refusal_of}
 use Rattle.rdx_query.specs.Inside.KnownView.{known_of}
 use Rattle.rdx_query.specs.Inside.PartViews.{steps_of}
 use Rattle.rdx_query.proofs.StepChecks.{host-readable, host-fault, host-asked, unknown-fault, relation_named-name}

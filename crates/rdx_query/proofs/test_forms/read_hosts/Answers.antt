@@ -1,7 +1,7 @@
 use Rattle.std.proofs.Common.{[], ◌∷◌, Some, Err, ◌++◌, drop, map, option_map, ◌+◌, sym, subst, ap, ◌∙◌}
 use Rattle.std.proofs.lemmas.List.{map-append}
 use Rattle.rdx_lang.specs.TemplateView.{host_of}
-use Rattle.rdx_grammar.specs.Refusal.{refusal_of}
+use Rattle.rdx_patterns.specs.Refusal.{refusal_of}
 use Rattle.rdx_parts.specs.Answers.{ReadsHost}
 use Rattle.rdx_parts.specs.Scope.{scope_of}
 use Rattle.rdx_query.proofs.TestChecks.{hosts-same, hosts-read, hosts-kept}

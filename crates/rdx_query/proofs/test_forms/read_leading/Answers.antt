@@ -2,7 +2,7 @@ use Rattle.std.proofs.Common.{◌≡◌, [], Some, None, sym, subst, ◌∙◌, 
 use Rattle.std.proofs.lemmas.Result.{err_from_is_err_and}
 use Rattle.rdx_lang.specs.ProgramView.{relation_of}
 use Rattle.rdx_lang.specs.Programs.{relation_named}
-use Rattle.rdx_grammar.specs.Parts.{text_of}
+use Rattle.rdx_patterns.specs.Parts.{text_of}
 use Rattle.rdx_parts.specs.Answers.{ReadsHost}
 use Rattle.rdx_query.specs.Inside.Asking.{ReadsHosts}
 use Rattle.rdx_query.specs.Inside.KnownView.{known_of}

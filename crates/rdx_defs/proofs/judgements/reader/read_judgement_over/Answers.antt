@@ -7,9 +7,9 @@ use Rattle.rdx_lang.specs.Patterns.{Language}
 use Rattle.rdx_lang.specs.ProgramView.{judgement_of}
 use Rattle.rdx_lang.specs.Programs.{Judgement}
 use Rattle.rdx_lang.specs.Valid.{is_valid_judgement}
-use Rattle.rdx_grammar.specs.Nonterminals.{names_of}
-use Rattle.rdx_grammar.specs.Refusal.{refusal_of}
-use Rattle.rdx_grammar.specs.Readable.{IsReadable}
+use Rattle.rdx_patterns.specs.Nonterminals.{names_of}
+use Rattle.rdx_patterns.specs.Refusal.{refusal_of}
+use Rattle.rdx_patterns.specs.Readable.{IsReadable}
 use Rattle.rdx_defs.specs.Inside.FormOutlines.{judgement_outline}
 use Rattle.rdx_defs.specs.Inside.Contracts.{IsJudgementContract}
 use Rattle.rdx_defs.specs.Inside.FormViews.{judgement_form_of}

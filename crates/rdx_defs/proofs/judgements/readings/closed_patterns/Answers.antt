@@ -2,8 +2,8 @@ use Rattle.std.proofs.Common.{◌≡◌, ◌∙◌, map, ap, arith}
 use Rattle.std.proofs.lemmas.Grind.{common_steps}
 use Rattle.rdx_lang.specs.PatternView.{slot_of, just, items_of}
 use Rattle.rdx_lang.specs.Patterns.{closed}
-use Rattle.rdx_grammar.specs.Reading.{reading}
-use Rattle.rdx_grammar.specs.declared.patterns.position.Position.TheVariants.{Query}
+use Rattle.rdx_patterns.specs.Reading.{reading}
+use Rattle.rdx_patterns.specs.declared.patterns.position.Position.TheVariants.{Query}
 use Rattle.rdx_defs.proofs.ClosedPatterns.{patterns-closed}
 use Rattle.rdx_defs.proofs.judgements.readings.closed_patterns.Goals as goal
 

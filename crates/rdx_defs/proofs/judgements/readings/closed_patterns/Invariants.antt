@@ -1,8 +1,8 @@
 use Rattle.std.proofs.Common.{◌≡◌, ◌++◌, drop, map}
 use Rattle.rdx_lang.specs.PatternView.{slot_of, just}
 use Rattle.rdx_lang.specs.Patterns.{closed}
-use Rattle.rdx_grammar.specs.Reading.{reading}
-use Rattle.rdx_grammar.specs.declared.patterns.position.Position.TheVariants.{Query}
+use Rattle.rdx_patterns.specs.Reading.{reading}
+use Rattle.rdx_patterns.specs.declared.patterns.position.Position.TheVariants.{Query}
 use Rattle.rdx_defs.proofs.judgements.readings.closed_patterns.Given as goal
 
 abbrev pub invariant-loop-d : goal.invariant-loop-d

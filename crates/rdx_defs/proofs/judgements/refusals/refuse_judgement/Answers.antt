@@ -1,7 +1,7 @@
 use Rattle.std.proofs.Common.{◌≡◌, ◌∙◌, ap, sym, subst}
 use Rattle.std.specs.Prelude.{IfOk, Option, option_map}
-use Rattle.rdx_grammar.specs.Refusal.{Refusal, refusal_of}
-use Rattle.rdx_grammar.specs.Readable.{IsReadable}
+use Rattle.rdx_patterns.specs.Refusal.{Refusal, refusal_of}
+use Rattle.rdx_patterns.specs.Readable.{IsReadable}
 use Rattle.rdx_defs.specs.Inside.BareForms as bare_stands
 use Rattle.rdx_defs.specs.Inside.FormOutlines.{judgement_outline}
 use Rattle.rdx_parts.specs.Outlines.{Outline}

@@ -1,4 +1,4 @@
-use Rattle.rdx_grammar.specs.Readable.{IsReadable}
+use Rattle.rdx_patterns.specs.Readable.{IsReadable}
 use Rattle.rdx_parts.specs.PartsHave.{IsReadableTaken}
 use Rattle.rdx_parts.specs.Scope.{scope_of}
 use Rattle.rdx_defs.proofs.InheritedParts.{premise-has}

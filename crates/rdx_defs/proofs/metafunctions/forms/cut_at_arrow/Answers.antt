@@ -2,7 +2,7 @@ use Rattle.std.proofs.Common.{◌≡◌, ◌∙◌, ◌+◌, List, Some, take, r
 use Rattle.std.proofs.lemmas.List.{take_rest}
 use Rattle.std.specs.Prelude.{codes}
 use Rattle.rdx_sexp.specs.Sexp.{Sexp}
-use Rattle.rdx_grammar.specs.Parts.{is_word}
+use Rattle.rdx_patterns.specs.Parts.{is_word}
 use Rattle.rdx_defs.specs.MetafunctionForms.{cut_at_arrow}
 use Rattle.rdx_defs.proofs.Cuts.{behind-none, cut-here, cut-later, cut-none}
 use Rattle.rdx_defs.proofs.metafunctions.forms.cut_at_arrow.Goals as goal

@@ -1,7 +1,7 @@
 use Rattle.std.proofs.Common.{◌≡◌, ◌++◌, drop, map}
 use Rattle.rdx_sexp.specs.Sexp.{sexps}
-use Rattle.rdx_grammar.specs.HeadView.{roles_view}
-use Rattle.rdx_grammar.specs.Heads.{patterns}
+use Rattle.rdx_patterns.specs.HeadView.{roles_view}
+use Rattle.rdx_patterns.specs.Heads.{patterns}
 use Rattle.rdx_defs.specs.Inside.FormOutlines.{patterns_among}
 use Rattle.rdx_defs.proofs.metafunctions.stands.item_patterns.Given as goal
 

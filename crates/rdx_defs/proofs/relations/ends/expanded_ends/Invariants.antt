@@ -1,6 +1,6 @@
 use Rattle.std.proofs.Common.{◌≡◌, ◌++◌, drop}
 use Rattle.std.specs.Prelude.{flat_map}
-use Rattle.rdx_grammar.specs.Ends.{ends_in}
+use Rattle.rdx_patterns.specs.Ends.{ends_in}
 use Rattle.rdx_defs.specs.Inside.FormViews.{relation_form_of}
 use Rattle.rdx_defs.specs.RelationEnds as model
 use Rattle.rdx_defs.proofs.relations.ends.expanded_ends.Given as goal

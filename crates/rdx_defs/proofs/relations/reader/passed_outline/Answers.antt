@@ -1,7 +1,7 @@
 use Rattle.std.proofs.Common.{◌≡◌, ◌∙◌, sym, ap, subst}
 use Rattle.std.specs.Prelude.{option_map}
-use Rattle.rdx_grammar.specs.Readable.{IsReadable}
-use Rattle.rdx_grammar.specs.Refusal.{refusal_of}
+use Rattle.rdx_patterns.specs.Readable.{IsReadable}
+use Rattle.rdx_patterns.specs.Refusal.{refusal_of}
 use Rattle.rdx_defs.specs.Inside.BareForms.{relation_stands}
 use Rattle.rdx_defs.specs.Inside.FormOutlines.{domain_patterns, relation_outline}
 use Rattle.rdx_parts.specs.Outlines.{Outline}

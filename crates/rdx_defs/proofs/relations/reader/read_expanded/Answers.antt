@@ -4,9 +4,9 @@ use Rattle.rdx_lang.specs.Patterns.{Language}
 use Rattle.rdx_lang.specs.ProgramView.{relation_of}
 use Rattle.rdx_lang.specs.Programs.{Relation}
 use Rattle.rdx_lang.specs.Valid.{is_valid_over}
-use Rattle.rdx_grammar.specs.Ends.{crossed_for}
-use Rattle.rdx_grammar.specs.Nonterminals.{names_of}
-use Rattle.rdx_grammar.specs.Readable.{IsReadable}
+use Rattle.rdx_patterns.specs.Ends.{crossed_for}
+use Rattle.rdx_patterns.specs.Nonterminals.{names_of}
+use Rattle.rdx_patterns.specs.Readable.{IsReadable}
 use Rattle.rdx_defs.specs.Inside.FormOutlines.{domain_patterns, relation_outline}
 use Rattle.rdx_parts.specs.Outlines.{Outline}
 use Rattle.rdx_defs.specs.Inside.ExpandedAnswers.{expanded_refusal}

@@ -1,12 +1,12 @@
 use Rattle.std.proofs.Common.{◌≡◌, ◌∙◌, ℕ, List, Some, None, map, sym, ap, subst, if◌then◌else◌}
 use Rattle.std.specs.Prelude.{option_map}
 use Rattle.rdx_lang.specs.Checked.{language_in}
-use Rattle.rdx_grammar.specs.Ends.{Gained}
-use Rattle.rdx_grammar.specs.Nonterminals.{names_of}
-use Rattle.rdx_grammar.specs.Readable.{IsReadable}
-use Rattle.rdx_grammar.specs.Refusal.{unnamed}
-use Rattle.rdx_grammar.specs.Unbuilt.{unbuilt_at}
-use Rattle.rdx_grammar.specs.declared.shape.fault.DefKind.TheVariants.{Unbuilt}
+use Rattle.rdx_patterns.specs.Ends.{Gained}
+use Rattle.rdx_patterns.specs.Nonterminals.{names_of}
+use Rattle.rdx_patterns.specs.Readable.{IsReadable}
+use Rattle.rdx_patterns.specs.Refusal.{unnamed}
+use Rattle.rdx_patterns.specs.Unbuilt.{unbuilt_at}
+use Rattle.rdx_patterns.specs.declared.shape.fault.DefKind.TheVariants.{Unbuilt}
 use Rattle.rdx_defs.specs.Expansion.{used_shortcuts, expanded_by, expanded_cases, expanded_form}
 use Rattle.rdx_defs.specs.Inside.FormOutlines.{domain_patterns}
 use Rattle.rdx_defs.specs.Inside.FormViews.{relation_form_of}

@@ -1,6 +1,6 @@
 use Rattle.std.proofs.Common.{◌∙◌, sym, ap, subst}
 use Rattle.std.specs.Prelude.{option_map}
-use Rattle.rdx_grammar.specs.Readable.{IsReadable}
+use Rattle.rdx_patterns.specs.Readable.{IsReadable}
 use Rattle.rdx_parts.specs.Outlines.{Branch}
 use Rattle.rdx_defs.specs.Inside.FormViews.{case_form_of}
 use Rattle.rdx_parts.specs.PartsHave.{BranchHas, readable, IsReadableTaken}

@@ -1,9 +1,9 @@
 use Rattle.std.proofs.Common.{◌≡◌, ◌∙◌, ◌∷◌, Some, sym, ap, subst}
 use Rattle.std.specs.List.{list_any}
 use Rattle.std.specs.Prelude.{Option, bytes_eq, option_map}
-use Rattle.rdx_grammar.specs.Inside.Repeats.{texts_in, HaveSame}
-use Rattle.rdx_grammar.specs.Parts.{text_of}
-use Rattle.rdx_grammar.proofs.Seen.{texts-inserted}
+use Rattle.rdx_patterns.specs.Inside.Repeats.{texts_in, HaveSame}
+use Rattle.rdx_patterns.specs.Parts.{text_of}
+use Rattle.rdx_patterns.proofs.Seen.{texts-inserted}
 use Rattle.rdx_defs.specs.Inside.ShortcutViews.{shortcut_of}
 use Rattle.rdx_defs.specs.RelationStands.{arrows_with}
 use Rattle.rdx_defs.specs.Shorthand.{Shortcut, shortcut_form}

@@ -1,5 +1,5 @@
 use Rattle.std.proofs.Common.{◌++◌, ◌∙◌, ◌+◌, drop, List, sym, ap, append_assoc}
-use Rattle.rdx_grammar.specs.Inside.Repeats.{texts_in}
+use Rattle.rdx_patterns.specs.Inside.Repeats.{texts_in}
 use Rattle.rdx_parts.specs.PartViews.{stands_of}
 use Rattle.rdx_defs.specs.RelationStands.{shortcut_stands, shortcuts_stand}
 use Rattle.rdx_defs.specs.Shorthand.{shortcut_form}

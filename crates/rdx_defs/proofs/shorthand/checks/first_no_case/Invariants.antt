@@ -1,5 +1,5 @@
 use Rattle.std.proofs.Common.{◌≡◌, drop}
-use Rattle.rdx_grammar.specs.Refusal.{first}
+use Rattle.rdx_patterns.specs.Refusal.{first}
 use Rattle.rdx_defs.specs.Expansion.{no_cases}
 use Rattle.rdx_defs.proofs.shorthand.checks.first_no_case.Given as goal
 

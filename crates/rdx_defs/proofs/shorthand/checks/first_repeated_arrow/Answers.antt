@@ -1,6 +1,6 @@
 use Rattle.std.proofs.Common.{◌∙◌, sym, ap}
 use Rattle.std.specs.Prelude.{option_map}
-use Rattle.rdx_grammar.specs.Inside.Repeats.{texts_in}
+use Rattle.rdx_patterns.specs.Inside.Repeats.{texts_in}
 use Rattle.rdx_defs.proofs.ShorthandRefused.{repeated-here, repeated-later}
 use Rattle.rdx_defs.proofs.shorthand.checks.first_repeated_arrow.Goals as goal
 

@@ -1,6 +1,6 @@
 use Rattle.std.proofs.Common.{◌≡◌, drop, []}
-use Rattle.rdx_grammar.specs.Inside.Repeats.{texts_in}
-use Rattle.rdx_grammar.specs.Refusal.{first}
+use Rattle.rdx_patterns.specs.Inside.Repeats.{texts_in}
+use Rattle.rdx_patterns.specs.Refusal.{first}
 use Rattle.rdx_defs.specs.Expansion.{repeated_arrows}
 use Rattle.rdx_defs.specs.Inside.ShortcutViews.{shortcuts_in}
 use Rattle.rdx_defs.proofs.shorthand.checks.first_repeated_arrow.Given as goal

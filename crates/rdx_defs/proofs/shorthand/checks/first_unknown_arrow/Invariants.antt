@@ -1,5 +1,5 @@
 use Rattle.std.proofs.Common.{◌≡◌, drop}
-use Rattle.rdx_grammar.specs.Refusal.{first}
+use Rattle.rdx_patterns.specs.Refusal.{first}
 use Rattle.rdx_defs.specs.Expansion.{new_arrows, unknown_arrows}
 use Rattle.rdx_defs.specs.Inside.ShortcutViews.{shortcuts_in}
 use Rattle.rdx_defs.proofs.shorthand.checks.first_unknown_arrow.Given as goal

@@ -1,10 +1,10 @@
 use Rattle.std.proofs.Common.{◌∙◌, ◌∷◌, sym, ap}
 use Rattle.std.specs.List.{list_any}
 use Rattle.std.specs.Prelude.{bytes_eq}
-use Rattle.rdx_grammar.specs.Inside.Repeats.{texts_in, HaveSame}
-use Rattle.rdx_grammar.specs.Parts.{text_of}
-use Rattle.rdx_grammar.specs.Refusal.{first}
-use Rattle.rdx_grammar.proofs.Seen.{texts-inserted}
+use Rattle.rdx_patterns.specs.Inside.Repeats.{texts_in, HaveSame}
+use Rattle.rdx_patterns.specs.Parts.{text_of}
+use Rattle.rdx_patterns.specs.Refusal.{first}
+use Rattle.rdx_patterns.proofs.Seen.{texts-inserted}
 use Rattle.rdx_defs.proofs.ShorthandRefused.{olds-here, olds-later}
 use Rattle.rdx_defs.proofs.shorthand.checks.first_unknown_old.Goals as goal
 

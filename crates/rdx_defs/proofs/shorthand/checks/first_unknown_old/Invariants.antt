@@ -1,6 +1,6 @@
 use Rattle.std.proofs.Common.{◌≡◌, drop, []}
-use Rattle.rdx_grammar.specs.Inside.Repeats.{texts_in}
-use Rattle.rdx_grammar.specs.Refusal.{first}
+use Rattle.rdx_patterns.specs.Inside.Repeats.{texts_in}
+use Rattle.rdx_patterns.specs.Refusal.{first}
 use Rattle.rdx_defs.specs.Expansion.{unknown_olds}
 use Rattle.rdx_defs.specs.Inside.ShortcutViews.{shortcuts_in}
 use Rattle.rdx_defs.proofs.shorthand.checks.first_unknown_old.Given as goal

@@ -1,11 +1,11 @@
 use Rattle.std.proofs.Common.{◌≡◌, ◌∙◌, ◌∷◌, [], not, ap, if◌then◌else◌}
 use Rattle.std.specs.List.{list_any}
 use Rattle.std.specs.Prelude.{bytes_eq}
-use Rattle.rdx_grammar.specs.Inside.Repeats.{texts_in}
-use Rattle.rdx_grammar.specs.Kinds.{is_among}
-use Rattle.rdx_grammar.specs.Parts.{text_of}
-use Rattle.rdx_grammar.specs.Refusal.{first}
-use Rattle.rdx_grammar.proofs.Seen.{contains-texts, texts-inserted, not_either}
+use Rattle.rdx_patterns.specs.Inside.Repeats.{texts_in}
+use Rattle.rdx_patterns.specs.Kinds.{is_among}
+use Rattle.rdx_patterns.specs.Parts.{text_of}
+use Rattle.rdx_patterns.specs.Refusal.{first}
+use Rattle.rdx_patterns.proofs.Seen.{contains-texts, texts-inserted, not_either}
 use Rattle.rdx_defs.proofs.ArrowPlaces.{among-turned}
 use Rattle.rdx_defs.proofs.shorthand.checks.repeated_arrow.Goals as goal
 

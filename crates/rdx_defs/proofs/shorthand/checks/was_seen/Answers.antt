@@ -1,9 +1,9 @@
 use Rattle.std.proofs.Common.{◌∙◌, ap}
 use Rattle.std.specs.List.{list_any}
 use Rattle.std.specs.Prelude.{bytes_eq}
-use Rattle.rdx_grammar.specs.Inside.Repeats.{texts_in}
-use Rattle.rdx_grammar.specs.Parts.{text_of}
-use Rattle.rdx_grammar.proofs.Seen.{contains-texts}
+use Rattle.rdx_patterns.specs.Inside.Repeats.{texts_in}
+use Rattle.rdx_patterns.specs.Parts.{text_of}
+use Rattle.rdx_patterns.proofs.Seen.{contains-texts}
 use Rattle.rdx_defs.proofs.ArrowPlaces.{among-turned}
 use Rattle.rdx_defs.proofs.shorthand.checks.was_seen.Goals as goal
 

@@ -1,7 +1,7 @@
 use Rattle.std.proofs.Common.{◌≡◌, ◌∙◌, ◌<◌, ◌≤◌, ◌∷◌, [], List, Some, None, length, reverse, take, sym, ap, arith}
 use Rattle.std.proofs.lemmas.Grind.{common_steps}
 use Rattle.std.proofs.lemmas.List.{length-map, reverse-append, take_all}
-use Rattle.rdx_grammar.specs.Parts.{text_of}
+use Rattle.rdx_patterns.specs.Parts.{text_of}
 use Rattle.rdx_defs.specs.Expansion.{expanded_case}
 use Rattle.rdx_defs.specs.Inside.Arrows.{below, place_from}
 use Rattle.rdx_defs.specs.Inside.Filling.{by_shortcuts}

@@ -1,7 +1,7 @@
 use Rattle.std.proofs.Common.{◌≡◌, ◌∙◌, ◌+◌, true, false, refl, sym}
 use Rattle.std.proofs.lemmas.List.{take_rest}
 use Rattle.std.specs.Prelude.{codes}
-use Rattle.rdx_grammar.specs.Parts.{is_word}
+use Rattle.rdx_patterns.specs.Parts.{is_word}
 use Rattle.rdx_defs.proofs.ShorthandCuts.{before-here, behind-here, before-later, behind-later, before-none, behind-none}
 use Rattle.rdx_defs.proofs.shorthand.forms.cut_at_with.Goals as goal
 

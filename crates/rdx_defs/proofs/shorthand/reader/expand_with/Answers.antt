@@ -1,6 +1,6 @@
 use Rattle.std.proofs.Common.{◌≡◌, ◌∙◌, Some, map, sym, ap}
 use Rattle.std.specs.Prelude.{option_map}
-use Rattle.rdx_grammar.specs.Refusal.{refusal_of}
+use Rattle.rdx_patterns.specs.Refusal.{refusal_of}
 use Rattle.rdx_defs.specs.Expansion.{expanded_by, used_shortcuts, shorthand_refusal, expansion_refusal_by, expansion_refusal}
 use Rattle.rdx_defs.specs.Inside.FormViews.{relation_form_of}
 use Rattle.rdx_defs.specs.Inside.ShortcutViews.{shortcuts_in}

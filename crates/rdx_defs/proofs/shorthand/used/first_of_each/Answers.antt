@@ -1,7 +1,7 @@
 use Rattle.std.proofs.Common.{◌≡◌, ◌++◌, ◌∙◌, ◌+◌, drop, List, [], ◌∷◌, sym, ap, if◌then◌else◌}
 use Rattle.std.specs.Prelude.{is_none}
-use Rattle.rdx_grammar.specs.Inside.Repeats.{texts_in}
-use Rattle.rdx_grammar.specs.Refusal.{first}
+use Rattle.rdx_patterns.specs.Inside.Repeats.{texts_in}
+use Rattle.rdx_patterns.specs.Refusal.{first}
 use Rattle.rdx_defs.specs.Inside.Arrows.{again}
 use Rattle.rdx_defs.specs.Inside.ShortcutViews.{shortcut_of, shortcuts_in}
 use Rattle.rdx_defs.specs.Shorthand as model

@@ -1,5 +1,5 @@
 use Rattle.std.proofs.Common.{◌≡◌, ◌++◌, [], drop}
-use Rattle.rdx_grammar.specs.Inside.Repeats.{texts_in}
+use Rattle.rdx_patterns.specs.Inside.Repeats.{texts_in}
 use Rattle.rdx_defs.specs.Inside.ShortcutViews.{shortcuts_in}
 use Rattle.rdx_defs.specs.Shorthand as model
 use Rattle.rdx_defs.proofs.shorthand.used.first_of_each.Given as goal

@@ -1,6 +1,6 @@
 use Rattle.std.proofs.Common.{◌≡◌, drop}
 use Rattle.rdx_grammar.specs.Checks.{bad_names}
-use Rattle.rdx_grammar.specs.Refusal.{first}
+use Rattle.rdx_patterns.specs.Refusal.{first}
 use Rattle.rdx_grammar.specs.Inside.StandView.{stands_of}
 use Rattle.rdx_grammar.proofs.languages.checks.first_bad_name.Given as goal
 

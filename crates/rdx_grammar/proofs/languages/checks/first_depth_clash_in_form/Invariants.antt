@@ -1,6 +1,6 @@
 use Rattle.std.proofs.Common.{◌≡◌, drop}
 use Rattle.rdx_grammar.specs.Checks.{all_depth_clashes}
-use Rattle.rdx_grammar.specs.Refusal.{first}
+use Rattle.rdx_patterns.specs.Refusal.{first}
 use Rattle.rdx_grammar.specs.Inside.StandView.{stands_of}
 use Rattle.rdx_grammar.proofs.languages.checks.first_depth_clash_in_form.Given as goal
 

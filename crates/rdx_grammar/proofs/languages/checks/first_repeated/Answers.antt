@@ -1,6 +1,6 @@
 use Rattle.std.proofs.Common.{sym, ap, ◌∙◌}
 use Rattle.std.specs.Prelude.{option_map}
-use Rattle.rdx_grammar.specs.Inside.Repeats.{texts_in}
+use Rattle.rdx_patterns.specs.Inside.Repeats.{texts_in}
 use Rattle.rdx_grammar.specs.Inside.StandView.{stand_of}
 use Rattle.rdx_grammar.proofs.Seen.{repeats-later}
 use Rattle.rdx_grammar.proofs.languages.checks.first_repeated.Goals as goal

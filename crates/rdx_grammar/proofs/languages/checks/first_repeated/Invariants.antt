@@ -1,7 +1,7 @@
 use Rattle.std.proofs.Common.{◌≡◌, drop, []}
 use Rattle.rdx_grammar.specs.Checks.{repeats}
-use Rattle.rdx_grammar.specs.Refusal.{first}
-use Rattle.rdx_grammar.specs.Inside.Repeats.{texts_in}
+use Rattle.rdx_patterns.specs.Refusal.{first}
+use Rattle.rdx_patterns.specs.Inside.Repeats.{texts_in}
 use Rattle.rdx_grammar.specs.Inside.StandView.{stands_of}
 use Rattle.rdx_grammar.proofs.languages.checks.first_repeated.Given as goal
 

@@ -2,11 +2,11 @@ use Rattle.std.proofs.Common.{◌≡◌, not, ◌∷◌, sym, ap, ◌∙◌}
 use Rattle.std.specs.List.{list_any}
 use Rattle.std.specs.Prelude.{bytes_eq}
 use Rattle.rdx_grammar.specs.Checks.{is_seen, repeated, seen_with}
-use Rattle.rdx_grammar.specs.Inside.Repeats.{texts_in}
+use Rattle.rdx_patterns.specs.Inside.Repeats.{texts_in}
 use Rattle.rdx_grammar.specs.Inside.StandView.{stand_of}
-use Rattle.rdx_grammar.specs.PatternChecks.{when}
-use Rattle.rdx_grammar.specs.Refusal.{first}
-use Rattle.rdx_grammar.proofs.Seen.{contains-texts, texts-inserted, not_either}
+use Rattle.rdx_patterns.specs.PatternChecks.{when}
+use Rattle.rdx_patterns.specs.Refusal.{first}
+use Rattle.rdx_patterns.proofs.Seen.{contains-texts, texts-inserted, not_either}
 use Rattle.rdx_grammar.proofs.languages.checks.repeated.Goals as goal
 
 pub returns-in_ok-is_new-in-Nonterminal-clause-repeated : goal.returns-in_ok-is_new-in-Nonterminal-clause-repeated

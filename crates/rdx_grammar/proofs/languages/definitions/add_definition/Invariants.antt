@@ -3,8 +3,8 @@ use Rattle.rdx_lang.specs.PatternView.{definition_of}
 use Rattle.rdx_lang.specs.declared.pattern.Ref.TheVariants.{Nt}
 use Rattle.rdx_grammar.specs.Inside.BaseView.{base_in}
 use Rattle.rdx_grammar.specs.Languages as languages
-use Rattle.rdx_grammar.specs.Parts.{text_of}
-use Rattle.rdx_grammar.specs.Inside.AreNames.{AreNames}
+use Rattle.rdx_patterns.specs.Parts.{text_of}
+use Rattle.rdx_patterns.specs.AreNames.{AreNames}
 use Rattle.rdx_grammar.proofs.languages.definitions.add_definition.Given as goal
 
 abbrev pub invariant-loop-symbol : goal.invariant-loop-symbol

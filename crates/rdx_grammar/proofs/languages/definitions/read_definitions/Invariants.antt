@@ -2,7 +2,7 @@ use Rattle.std.proofs.Common.{◌≡◌, ◌++◌, option_map, drop, map}
 use Rattle.rdx_lang.specs.PatternView.{definition_of}
 use Rattle.rdx_grammar.specs.Inside.BaseView.{base_in}
 use Rattle.rdx_grammar.specs.Languages as languages
-use Rattle.rdx_grammar.specs.Inside.AreNames.{AreNames}
+use Rattle.rdx_patterns.specs.AreNames.{AreNames}
 use Rattle.rdx_grammar.specs.Nonterminals.{names_in}
 use Rattle.rdx_grammar.proofs.languages.definitions.read_definitions.Given as goal
 

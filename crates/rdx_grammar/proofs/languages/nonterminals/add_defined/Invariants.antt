@@ -1,6 +1,6 @@
 use Rattle.std.proofs.Common.{◌≡◌, ◌++◌, drop}
 use Rattle.rdx_grammar.specs.Nonterminals.{names_in}
-use Rattle.rdx_grammar.specs.Inside.AreNames.{AreNames}
+use Rattle.rdx_patterns.specs.AreNames.{AreNames}
 use Rattle.rdx_grammar.proofs.languages.nonterminals.add_defined.Given as goal
 
 abbrev pub invariant-loop-d : goal.invariant-loop-d

@@ -10,11 +10,11 @@ use Rattle.rdx_grammar.specs.Inside.CheckedForms.{AreNamedIn, AreSpelledIn, AreS
 use Rattle.rdx_grammar.specs.Inside.PartViews.{parts_of}
 use Rattle.rdx_grammar.specs.Inside.StandView.{stands_of}
 use Rattle.rdx_grammar.specs.Languages.{language_over}
-use Rattle.rdx_grammar.specs.Refusal.{refusal_of}
+use Rattle.rdx_patterns.specs.Refusal.{refusal_of}
 use Rattle.rdx_grammar.specs.Refused.{refusal_over, escape_at}
 use Rattle.rdx_grammar.specs.Stands.{form_stands}
-use Rattle.rdx_grammar.specs.declared.shape.fault.DefFault.{DefFault}
-use Rattle.rdx_grammar.specs.declared.shape.fault.DefRefusal.{DefRefusal}
+use Rattle.rdx_patterns.specs.declared.shape.fault.DefFault.{DefFault}
+use Rattle.rdx_patterns.specs.declared.shape.fault.DefRefusal.{DefRefusal}
 use Rattle.rdx_grammar.proofs.PassedForms.{IsWellFormed-base, AreNamedIn-refusal, has_parts, ReadsForm-escape, ReadsForm-recursion, ReadsForm-handed_on}
 use Rattle.rdx_grammar.proofs.WellFormedForms.{IsWellFormed-language_over}
 use Rattle.rdx_grammar.proofs.languages.reader.read_form.Goals as goal

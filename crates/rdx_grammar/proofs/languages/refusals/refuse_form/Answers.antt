@@ -5,12 +5,12 @@ use Rattle.rdx_grammar.specs.Inside.BaseView.{base_in}
 use Rattle.rdx_grammar.specs.Inside.BoundView.{BindNames}
 use Rattle.rdx_grammar.specs.Inside.PartViews.{parts_of}
 use Rattle.rdx_grammar.specs.Inside.StandView.{stands_of}
-use Rattle.rdx_grammar.specs.Refusal.{Refusal, refusal_of, unnamed, named, first_refusal}
+use Rattle.rdx_patterns.specs.Refusal.{Refusal, refusal_of, unnamed, named, first_refusal}
 use Rattle.rdx_grammar.specs.Refused.{shape_at, duplicate_at, bad_name_at, bad_pattern_at, depth_clash_at, names_over}
 use Rattle.rdx_grammar.specs.Stands.{Stand, form_stands}
-use Rattle.rdx_grammar.specs.Unbuilt.{unbuilt_at}
-use Rattle.rdx_grammar.specs.declared.shape.fault.DefKind.TheVariants.{BadName, Unbuilt}
-use Rattle.rdx_grammar.proofs.Firsts.{nothing, none_or, early_of, late_of}
+use Rattle.rdx_patterns.specs.Unbuilt.{unbuilt_at}
+use Rattle.rdx_patterns.specs.declared.shape.fault.DefKind.TheVariants.{BadName, Unbuilt}
+use Rattle.rdx_patterns.proofs.Firsts.{nothing, none_or, early_of, late_of}
 use Rattle.rdx_grammar.proofs.FormsRead.{form-names}
 use Rattle.rdx_grammar.proofs.NamedForms.{AreNamedIn-passed}
 use Rattle.rdx_grammar.proofs.languages.refusals.refuse_form.Goals as goal

@@ -2,12 +2,12 @@ use Rattle.std.proofs.Common.{◌≡◌, ◌++◌, ◌∙◌, ◌+◌, drop, Lis
 use Rattle.std.specs.List.{list_any}
 use Rattle.std.specs.Prelude.{bytes_eq, option_map}
 use Rattle.rdx_lang.proofs.Rest.{rest_at, rest_none}
-use Rattle.rdx_grammar.specs.Inside.Repeats.{texts_in, HaveSame}
-use Rattle.rdx_grammar.specs.OccurrenceView.{occurrence_of, occurrences_of, bounds_of}
-use Rattle.rdx_grammar.specs.Parts.{text_of}
-use Rattle.rdx_grammar.specs.PatternChecks.{Bound, all_bound}
-use Rattle.rdx_grammar.specs.declared.patterns.position.Position.TheVariants.{Query}
-use Rattle.rdx_grammar.proofs.Seen.{texts-inserted}
+use Rattle.rdx_patterns.specs.Inside.Repeats.{texts_in, HaveSame}
+use Rattle.rdx_patterns.specs.OccurrenceView.{occurrence_of, occurrences_of, bounds_of}
+use Rattle.rdx_patterns.specs.Parts.{text_of}
+use Rattle.rdx_patterns.specs.PatternChecks.{Bound, all_bound}
+use Rattle.rdx_patterns.specs.declared.patterns.position.Position.TheVariants.{Query}
+use Rattle.rdx_patterns.proofs.Seen.{texts-inserted}
 use Rattle.rdx_parts.specs.NamesAgain.{texts_bound}
 use Rattle.rdx_parts.proofs.RepeatedNames.{moved-in}
 use Rattle.rdx_parts.proofs.stands.checks.add_texts.Goals as goal

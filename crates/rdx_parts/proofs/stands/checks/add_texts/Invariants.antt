@@ -1,8 +1,8 @@
 use Rattle.std.proofs.Common.{◌++◌, drop}
-use Rattle.rdx_grammar.specs.Inside.Repeats.{texts_in, HaveSame}
-use Rattle.rdx_grammar.specs.OccurrenceView.{occurrences_of}
-use Rattle.rdx_grammar.specs.PatternChecks.{all_bound}
-use Rattle.rdx_grammar.specs.declared.patterns.position.Position.TheVariants.{Query}
+use Rattle.rdx_patterns.specs.Inside.Repeats.{texts_in, HaveSame}
+use Rattle.rdx_patterns.specs.OccurrenceView.{occurrences_of}
+use Rattle.rdx_patterns.specs.PatternChecks.{all_bound}
+use Rattle.rdx_patterns.specs.declared.patterns.position.Position.TheVariants.{Query}
 use Rattle.rdx_parts.specs.NamesAgain.{texts_bound}
 use Rattle.rdx_parts.proofs.stands.checks.add_texts.Given as goal
 

@@ -1,7 +1,7 @@
 use Rattle.std.proofs.Common.{◌∙◌, ◌+◌, drop, List, sym, ap}
 use Rattle.std.specs.Prelude.{Option, option_map}
 use Rattle.rdx_sexp.specs.Sexp.{Sexp}
-use Rattle.rdx_grammar.specs.Inside.Repeats.{texts_in}
+use Rattle.rdx_patterns.specs.Inside.Repeats.{texts_in}
 use Rattle.rdx_parts.specs.Earliest.{start, lesser, earliest}
 use Rattle.rdx_parts.specs.PartViews.{stand_of, stands_of}
 use Rattle.rdx_parts.specs.NamesAgain.{name_again, names_again}

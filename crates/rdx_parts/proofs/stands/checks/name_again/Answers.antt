@@ -1,10 +1,10 @@
 use Rattle.std.proofs.Common.{◌≡◌, ◌++◌, ◌∙◌, not, [], ◌∷◌, sym, ap}
 use Rattle.std.specs.List.{list_any}
 use Rattle.std.specs.Prelude.{bytes_eq}
-use Rattle.rdx_grammar.specs.Inside.Repeats.{texts_in}
-use Rattle.rdx_grammar.specs.Parts.{text_of}
-use Rattle.rdx_grammar.specs.PatternChecks.{when}
-use Rattle.rdx_grammar.proofs.Seen.{contains-texts, texts-inserted, not_either}
+use Rattle.rdx_patterns.specs.Inside.Repeats.{texts_in}
+use Rattle.rdx_patterns.specs.Parts.{text_of}
+use Rattle.rdx_patterns.specs.PatternChecks.{when}
+use Rattle.rdx_patterns.proofs.Seen.{contains-texts, texts-inserted, not_either}
 use Rattle.rdx_parts.specs.Earliest.{start, earliest}
 use Rattle.rdx_parts.specs.PartViews.{stand_of}
 use Rattle.rdx_parts.specs.NamesAgain.{name_again, bound_with}

@@ -1,9 +1,9 @@
 use Rattle.std.proofs.Common.{◌≡◌, ◌++◌, ◌∙◌, ◌+◌, drop, Bool, List, [], ◌∷◌, sym, ap, subst}
 use Rattle.std.specs.Prelude.{option_map}
 use Rattle.rdx_lang.proofs.Rest.{rest_at}
-use Rattle.rdx_grammar.specs.OccurrenceView.{bounds_of, occurrence_of, occurrences_of}
-use Rattle.rdx_grammar.specs.PatternChecks.{Bound, when}
-use Rattle.rdx_grammar.specs.Refusal.{first}
+use Rattle.rdx_patterns.specs.OccurrenceView.{bounds_of, occurrence_of, occurrences_of}
+use Rattle.rdx_patterns.specs.PatternChecks.{Bound, when}
+use Rattle.rdx_patterns.specs.Refusal.{first}
 use Rattle.rdx_parts.specs.Bound.{depth_of}
 use Rattle.rdx_parts.specs.Earliest.{start, lesser, earliest}
 use Rattle.rdx_parts.specs.PartsHave.{BindNames}

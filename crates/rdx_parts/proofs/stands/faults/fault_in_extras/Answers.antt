@@ -1,7 +1,7 @@
 use Rattle.std.proofs.Common.{◌≡◌, ◌++◌, ◌∙◌, ◌+◌, drop, List, sym, ap, subst}
 use Rattle.std.specs.Prelude.{option_map}
 use Rattle.rdx_sexp.specs.Sexp.{Sexp}
-use Rattle.rdx_grammar.proofs.Rests.{drop-at}
+use Rattle.rdx_patterns.proofs.Rests.{drop-at}
 use Rattle.rdx_parts.specs.Earliest.{start, lesser, earliest}
 use Rattle.rdx_parts.specs.ExtraForms.{ExtraForm, form_at}
 use Rattle.rdx_parts.specs.ByNames.{extra_names, extra_faults, extras_faults}

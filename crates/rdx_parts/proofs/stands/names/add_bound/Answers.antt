@@ -1,6 +1,6 @@
 use Rattle.std.proofs.Common.{sym, ap, subst}
 use Rattle.std.specs.Prelude.{option_map}
-use Rattle.rdx_grammar.specs.OccurrenceView.{occurrence_of}
+use Rattle.rdx_patterns.specs.OccurrenceView.{occurrence_of}
 use Rattle.rdx_parts.specs.PartsHave.{BindNames}
 use Rattle.rdx_parts.proofs.PartsAt.{binds-at, binds-some}
 use Rattle.rdx_parts.proofs.stands.names.add_bound.Goals as goal

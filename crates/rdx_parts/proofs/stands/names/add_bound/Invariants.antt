@@ -1,7 +1,7 @@
 use Rattle.std.proofs.Common.{◌≡◌, ◌++◌, drop}
-use Rattle.rdx_grammar.specs.OccurrenceView.{occurrences_of}
-use Rattle.rdx_grammar.specs.PatternChecks.{all_bound}
-use Rattle.rdx_grammar.specs.declared.patterns.position.Position.TheVariants.{Query}
+use Rattle.rdx_patterns.specs.OccurrenceView.{occurrences_of}
+use Rattle.rdx_patterns.specs.PatternChecks.{all_bound}
+use Rattle.rdx_patterns.specs.declared.patterns.position.Position.TheVariants.{Query}
 use Rattle.rdx_parts.specs.Stands.{names_bound}
 use Rattle.rdx_parts.proofs.stands.names.add_bound.Given as goal
 

@@ -5,8 +5,8 @@ use Rattle.std.specs.Prelude.{option_map}
 use Rattle.std.specs.Slice.Iter.{iter_rest}
 use Rattle.rdx_sexp.specs.Sexp.{Sexp}
 use Rattle.rdx_lang.specs.PatternView.{Slot, just, slot_of, items_of}
-use Rattle.rdx_grammar.specs.Reading.{reading}
-use Rattle.rdx_grammar.specs.declared.patterns.position.Position.TheVariants.{Query}
+use Rattle.rdx_patterns.specs.Reading.{reading}
+use Rattle.rdx_patterns.specs.declared.patterns.position.Position.TheVariants.{Query}
 use Rattle.rdx_parts.specs.Arguments.{data_at, data_by, patterns_in}
 use Rattle.rdx_parts.specs.PartViews.{arguments_of, flag_at}
 use Rattle.rdx_parts.proofs.ArgumentLists.{data-end}

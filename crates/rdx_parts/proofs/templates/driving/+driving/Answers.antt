@@ -1,10 +1,10 @@
 use Rattle.std.proofs.Common.{◌≡◌, length, true, false, arith}
 use Rattle.std.proofs.lemmas.Grind.{common_steps}
 use Rattle.rdx_sexp.specs.Sexp.{sexps}
-use Rattle.rdx_grammar.specs.Heads.{every, pattern, next}
-use Rattle.rdx_grammar.specs.HeadView.{roles_view}
-use Rattle.rdx_grammar.specs.Reading.{is_pattern}
-use Rattle.rdx_grammar.proofs.ShallowData.{depth-at}
+use Rattle.rdx_patterns.specs.Heads.{every, pattern, next}
+use Rattle.rdx_patterns.specs.HeadView.{roles_view}
+use Rattle.rdx_patterns.specs.Reading.{is_pattern}
+use Rattle.rdx_patterns.proofs.ShallowData.{depth-at}
 use Rattle.rdx_parts.specs.HostHeads.{quoting, host_head}
 use Rattle.rdx_parts.specs.Scope.{scope_of}
 use Rattle.rdx_parts.specs.TemplateHeads.{evaluating, template_head}

@@ -2,7 +2,7 @@ use Rattle.std.proofs.Common.{◌≡◌, ◌+◌, ◌*◌, drop, max}
 use Rattle.std.specs.Prelude.{option_map}
 use Rattle.rdx_sexp.specs.Sexp.{sexps}
 use Rattle.rdx_sexp.specs.Size.{sexp_depth, sexps_depth}
-use Rattle.rdx_grammar.specs.HeadView.{roles_view}
+use Rattle.rdx_patterns.specs.HeadView.{roles_view}
 use Rattle.rdx_parts.specs.Earliest.{earliest, lesser, start}
 use Rattle.rdx_parts.specs.Inside.Reach.{reach_among, reach_in_all}
 use Rattle.rdx_parts.specs.Scope.{scope_of}

@@ -2,9 +2,9 @@ use Rattle.std.proofs.Common.{◌≡◌, suc, length, arith}
 use Rattle.std.proofs.lemmas.Grind.{common_steps}
 use Rattle.rdx_sexp.specs.Sexp.{sexps}
 use Rattle.rdx_sexp.specs.Size.{sexp_depth, sexps_depth}
-use Rattle.rdx_grammar.specs.Heads.{every, pattern}
-use Rattle.rdx_grammar.proofs.RoleItems.{deeper-most}
-use Rattle.rdx_grammar.proofs.ShallowData.{depth-at}
+use Rattle.rdx_patterns.specs.Heads.{every, pattern}
+use Rattle.rdx_patterns.proofs.RoleItems.{deeper-most}
+use Rattle.rdx_patterns.proofs.ShallowData.{depth-at}
 use Rattle.rdx_parts.specs.Scope.{scope_of}
 use Rattle.rdx_parts.proofs.HeadTests.{is_triple-three, is_triple-other}
 use Rattle.rdx_parts.proofs.ItemTests.{parts-behind}

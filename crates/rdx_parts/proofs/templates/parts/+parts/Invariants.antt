@@ -1,7 +1,7 @@
 use Rattle.std.proofs.Common.{◌≡◌, ◌++◌, ◌+◌, ◌*◌, drop}
 use Rattle.rdx_sexp.specs.Sexp.{sexps}
 use Rattle.rdx_sexp.specs.Size.{sexp_depth, sexps_depth}
-use Rattle.rdx_grammar.specs.HeadView.{roles_view}
+use Rattle.rdx_patterns.specs.HeadView.{roles_view}
 use Rattle.rdx_parts.specs.Inside.PartView.{parts_of, unrepeated}
 use Rattle.rdx_parts.specs.Scope.{scope_of}
 use Rattle.rdx_parts.specs.TemplateOccurrences.{parts_among, host_parts_among, host_parts_behind}

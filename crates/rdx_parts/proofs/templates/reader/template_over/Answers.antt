@@ -2,7 +2,7 @@ use Rattle.std.proofs.Common.{◌≡◌, ◌∙◌, None, true, ap, sym, subst}
 use Rattle.std.specs.Prelude.{option_map}
 use Rattle.rdx_lang.specs.Fitting.{fits}
 use Rattle.rdx_lang.specs.Templates.{Template}
-use Rattle.rdx_grammar.specs.Refusal.{refusal_of}
+use Rattle.rdx_patterns.specs.Refusal.{refusal_of}
 use Rattle.rdx_parts.specs.Bound.{is_bound}
 use Rattle.rdx_parts.specs.Scope.{has_metafunction, scope_of}
 use Rattle.rdx_parts.specs.TemplateRefusal.{template_refusal}

@@ -1,7 +1,7 @@
 use Rattle.std.proofs.Common.{arith}
 use Rattle.std.proofs.lemmas.Grind.{common_steps}
-use Rattle.rdx_grammar.specs.HeadView.{roles_view}
-use Rattle.rdx_grammar.proofs.ShallowData.{depth-at}
+use Rattle.rdx_patterns.specs.HeadView.{roles_view}
+use Rattle.rdx_patterns.proofs.ShallowData.{depth-at}
 use Rattle.rdx_parts.specs.Scope.{scope_of}
 use Rattle.rdx_parts.proofs.ItemLists.{before-push, before-nil, hosts_before-push, hosts_before-none}
 use Rattle.rdx_parts.proofs.ItemTests.{templates-at, hosts-at}

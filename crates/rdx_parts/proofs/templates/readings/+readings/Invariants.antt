@@ -2,7 +2,7 @@ use Rattle.std.proofs.Common.{◌≡◌, ◌+◌, ◌*◌, drop, map}
 use Rattle.rdx_lang.specs.TemplateView.{part_of, host_of}
 use Rattle.rdx_sexp.specs.Sexp.{sexps}
 use Rattle.rdx_sexp.specs.Size.{sexp_depth, sexps_depth}
-use Rattle.rdx_grammar.specs.HeadView.{roles_view}
+use Rattle.rdx_patterns.specs.HeadView.{roles_view}
 use Rattle.rdx_parts.specs.Scope.{scope_of}
 use Rattle.rdx_parts.specs.TemplateReading.{templates_among, hosts_among, hosts_behind}
 use Rattle.rdx_parts.proofs.ItemLists.{before, hosts_before}

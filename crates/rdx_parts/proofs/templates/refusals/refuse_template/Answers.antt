@@ -1,8 +1,8 @@
 use Rattle.std.proofs.Common.{◌≡◌, ◌∙◌, Option, None, IfOk, sym, ap, subst, arith}
 use Rattle.std.proofs.lemmas.Grind.{common_steps}
 use Rattle.std.specs.Prelude.{option_map}
-use Rattle.rdx_grammar.specs.Refusal.{Refusal, refusal_of}
-use Rattle.rdx_grammar.specs.Unbuilt.{unbuilt_at}
+use Rattle.rdx_patterns.specs.Refusal.{Refusal, refusal_of}
+use Rattle.rdx_patterns.specs.Unbuilt.{unbuilt_at}
 use Rattle.rdx_parts.specs.Earliest.{earliest, start}
 use Rattle.rdx_parts.specs.Inside.PartRefusal.{late_refusal}
 use Rattle.rdx_parts.specs.Inside.PartView.{parts_of, unrepeated}

@@ -1,8 +1,8 @@
 use Rattle.std.proofs.Common.{◌≡◌, drop}
 use Rattle.std.specs.Prelude.{option_map}
 use Rattle.rdx_sexp.specs.Sexp.{sexps}
-use Rattle.rdx_grammar.specs.Occurrences.{keys_in}
-use Rattle.rdx_grammar.specs.PatternChecks.{keyword_faults}
+use Rattle.rdx_patterns.specs.Occurrences.{keys_in}
+use Rattle.rdx_patterns.specs.PatternChecks.{keyword_faults}
 use Rattle.rdx_parts.specs.Earliest.{earliest, lesser, start}
 use Rattle.rdx_parts.proofs.templates.shapes.+key_in.Given as goal
 

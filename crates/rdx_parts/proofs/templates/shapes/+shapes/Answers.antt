@@ -1,5 +1,5 @@
 use Rattle.std.proofs.Common.{arith}
-use Rattle.rdx_grammar.proofs.ShallowData.{depth-at}
+use Rattle.rdx_patterns.proofs.ShallowData.{depth-at}
 use Rattle.rdx_parts.proofs.templates.shapes.+shapes.Goals as goal
 
 pub shape_in_hosts-shape_in_host-requires : goal.shape_in_hosts-shape_in_host-requires

@@ -5,7 +5,7 @@ use Rattle.std.specs.Prelude.{Some}
 use Rattle.rdx_lang.specs.Model.Places.{place_in}
 use Rattle.rdx_lang.proofs.FirstPlaces.{places-next}
 use Rattle.rdx_lang.proofs.Rest.{rest_at}
-use Rattle.rdx_grammar.specs.Parts.{text_of}
+use Rattle.rdx_patterns.specs.Parts.{text_of}
 use Rattle.rdx_defs.specs.Inside.Arrows.{FindsPlaces}
 use Rattle.rdx_defs.specs.Inside.ShortcutViews.{shortcut_of, shortcuts_in}
 use Rattle.rdx_defs.specs.Shorthand.{Shortcut}

@@ -2,7 +2,7 @@ use Rattle.std.proofs.Common.{map, ap, ◌∙◌}
 use Rattle.rdx_lang.specs.Checked.{language_in}
 use Rattle.rdx_lang.specs.PatternView.{definition_of}
 use Rattle.rdx_lang.specs.declared.checked.CheckedLang.{CheckedLang}
-use Rattle.rdx_grammar.proofs.DefinitionKeys.{nothing-of}
+use Rattle.rdx_patterns.proofs.DefinitionKeys.{nothing-of}
 use Rattle.rdx_grammar.proofs.languages.bases.Base.alternatives.Goals as goal
 
 pub returns-in-None : goal.returns-in-None

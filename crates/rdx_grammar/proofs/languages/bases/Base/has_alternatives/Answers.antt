@@ -4,7 +4,7 @@ use Rattle.rdx_lang.specs.PatternView.{definition_of}
 use Rattle.rdx_lang.specs.declared.checked.CheckedLang.{CheckedLang}
 use Rattle.rdx_lang.specs.declared.pattern.Ref.TheVariants.{Nt}
 use Rattle.rdx_grammar.specs.Checks.{is_some_pattern}
-use Rattle.rdx_grammar.proofs.DefinitionKeys.{nothing-of}
+use Rattle.rdx_patterns.proofs.DefinitionKeys.{nothing-of}
 use Rattle.rdx_grammar.proofs.languages.bases.Base.has_alternatives.Goals as goal
 
 pub returns-in-None : goal.returns-in-None

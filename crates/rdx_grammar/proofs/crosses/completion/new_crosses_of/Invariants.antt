@@ -1,9 +1,0 @@
-use Rattle.std.proofs.Common.{drop, map}
-use Rattle.rdx_lang.specs.PatternView.{definition_of, language_of}
-use Rattle.rdx_grammar.specs.Inside.Repeats.{texts_in}
-use Rattle.rdx_grammar.proofs.SeveralWays.{HasPassed}
-use Rattle.rdx_grammar.proofs.crosses.completion.new_crosses_of.Given as goal
-
-abbrev pub invariant-loop-from : goal.invariant-loop-from
-invariant-loop-from l =
-    HasPassed (language_of l.language) (map definition_of l.added.items) (texts_in l.seen) (drop l.from-index l.ways) l.ways

@@ -1,8 +1,0 @@
-use Rattle.std.proofs.Common.{◌≡◌, drop}
-use Rattle.rdx_grammar.specs.OccurrenceView.{occurrences_of}
-use Rattle.rdx_grammar.specs.PatternChecks.{escapes}
-use Rattle.rdx_grammar.specs.Refusal.{first}
-use Rattle.rdx_grammar.proofs.patterns.checks.first_escape.Given as goal
-
-abbrev pub invariant-loop-o : goal.invariant-loop-o
-invariant-loop-o l = first (escapes (occurrences_of l.found)) ≡ first (escapes (occurrences_of (drop l.o-index l.found)))

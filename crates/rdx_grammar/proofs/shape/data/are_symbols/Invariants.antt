@@ -1,6 +1,0 @@
-use Rattle.std.proofs.Common.{◌≡◌, drop}
-use Rattle.rdx_grammar.specs.Parts.{are_symbols}
-use Rattle.rdx_grammar.proofs.shape.data.are_symbols.Given as goal
-
-abbrev pub invariant-loop-d : goal.invariant-loop-d
-invariant-loop-d l = are_symbols (drop l.d-index l.items) ≡ are_symbols l.items

@@ -1,7 +1,0 @@
-use Rattle.std.proofs.Common.{arith}
-use Rattle.std.proofs.lemmas.Grind.{common_steps}
-use Rattle.rdx_grammar.proofs.Sexps.{listed-sexps}
-use Rattle.rdx_grammar.proofs.shape.data.items.Goals as goal
-
-pub returns-in-List : goal.returns-in-List
-returns-in-List c = grind (arith, common_steps, listed-sexps)

@@ -1,0 +1,5 @@
+pub mod Repeats
+pub mod Adding
+pub mod Among
+pub mod Slots
+pub mod CrossesTo

@@ -1,0 +1,67 @@
+//! The names that patterns and languages are built from.
+ghost use Rattle.std.specs.List.{starts_with};
+ghost use Rattle.std.specs.Prelude.{◌≡◌, nat_eq};
+ghost use Rattle.rdx_patterns.specs.Names as words;
+
+/// Whether a suffix begins somewhere.
+pub fn has_suffix(text: &str) -> bool
+    ensures { result ≡ words.has_suffix text.now }
+{
+    text.as_bytes().iter().any(|byte| *byte == b'_')
+}
+
+/// The text before the first `_`, which is all of it where there is none.
+pub(crate) fn front(text: &str) -> &str
+    ensures { result.now ≡ words.front text.now }
+{
+    match text.split_once('_') {
+        Some((front, _)) => front,
+        None => text,
+    }
+}
+
+// Whether this stands first in the text.
+fn begins_with(text: &str, word: &str) -> bool
+    ensures { result ≡ starts_with nat_eq text.now word.now }
+{
+    text.starts_with(word)
+}
+
+/// Whether an ellipsis stands first.
+pub fn begins_with_dots(text: &str) -> bool
+    ensures { result ≡ words.begins_with_dots text.now }
+{
+    begins_with(text, "...")
+}
+
+/// Whether it is an ellipsis: `...` alone, or with a name for the number of turns behind `..._`.
+pub(crate) fn is_ellipsis(text: &str) -> bool
+    ensures { result ≡ words.is_ellipsis text.now }
+{
+    text == "..." || (begins_with(text, "..._") && !begins_with(text, "..._!_"))
+}
+
+/// Whether the word means something else in patterns or definitions.
+pub fn is_kept(text: &str) -> bool
+    ensures { result ≡ words.is_one_of words.kept_words text.now }
+{
+    matches!(
+        text,
+        "hole"
+            | "name"
+            | "in-hole"
+            | "hide-hole"
+            | "cross"
+            | "variable-except"
+            | "variable-prefix"
+            | "side-condition"
+            | "::="
+    )
+}
+
+/// Whether a language or a bound name may not have this name.
+pub fn is_bad_name(text: &str) -> bool
+    ensures { result ≡ words.is_bad_name text.now }
+{
+    text == "hole" || text == "_" || begins_with_dots(text)
+}
