@@ -14,10 +14,10 @@ use Rattle.rdx_patterns.specs.PatternChecks.{when, differ, clashes}
 use Rattle.rdx_patterns.proofs.Among.{bytes_eq-sym}
 use Rattle.rdx_patterns.proofs.Booleans.{or_false, or_neither}
 use Rattle.rdx_patterns.proofs.Firsts.{none_first}
-use Rattle.rdx_parts.specs.Bound.{Bound, depth_of}
+use Rattle.rdx_templates.specs.Bound.{Bound, depth_of}
+use Rattle.rdx_templates.proofs.Depths.{depth_before, depth_behind}
 use Rattle.rdx_parts.specs.StandChecks.{is_bound_as, is_other, other_depths}
 use Rattle.rdx_parts.specs.Stands.{names_bound, bound_freshly}
-use Rattle.rdx_parts.proofs.Depths.{depth_before, depth_behind}
 use Rattle.rdx_parts.proofs.NamesBound.{named_at}
 use Rattle.rdx_parts.proofs.RepeatedNames.{not_false}
 

@@ -23,7 +23,7 @@ use Rattle.rdx_defs.specs.MetafunctionForms.{ClauseForm, clause_form, ContractFo
 use Rattle.rdx_defs.specs.MetafunctionStands.{clause_stands, clauses_stand, contract_stands, function_stands}
 use Rattle.rdx_defs.specs.RelationForms.{CaseForm, case_form, RelationForm, is_keyword}
 use Rattle.rdx_defs.specs.RelationStands.{case_stands, cases_stand, domain_stands, expanded_stands, arrows_stand, shortcut_stands, arrows_with, shortcuts_stand}
-use Rattle.rdx_parts.specs.Scope.{Scope}
+use Rattle.rdx_templates.specs.Scope.{Scope}
 use Rattle.rdx_defs.specs.Shorthand.{Shortcut, shortcut_form, is_known_arrow}
 use Rattle.rdx_parts.specs.Stands.{Stand, misshaped, function, judgement, arrow, pattern, template, repeated, names_bound, arguments_stand, misfits, held_stands, bound_by_premise}
 use Rattle.rdx_defs.proofs.LoneStands.{contract-lone}

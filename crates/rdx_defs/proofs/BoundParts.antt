@@ -28,7 +28,7 @@ use Rattle.rdx_defs.specs.JudgementStands.{rule_arguments, name_stands, missing_
 use Rattle.rdx_defs.specs.MetafunctionForms.{ClauseForm, clause_form, ContractForm, MetafunctionForm}
 use Rattle.rdx_defs.specs.RelationForms.{CaseForm, case_form, RelationForm, is_keyword}
 use Rattle.rdx_defs.specs.RelationStands.{domain_stands, shortcuts_stand}
-use Rattle.rdx_parts.specs.Scope.{Scope, mode_of}
+use Rattle.rdx_templates.specs.Scope.{Scope, mode_of}
 use Rattle.rdx_parts.specs.StandChecks.{bad_name, bad_names}
 use Rattle.rdx_parts.specs.Stands.{Stand, misshaped, function, template, premise_arguments, misfits, is_named}
 use Rattle.rdx_defs.proofs.PartsOfForms.{wanted, bound}

@@ -7,7 +7,7 @@ use Rattle.rdx_defs.specs.Inside.FormOutlines.{case_branch, in_case, case_branch
 use Rattle.rdx_defs.specs.Inside.BranchReadings.{branch_rule, branch_rules}
 use Rattle.rdx_defs.specs.RelationForms.{CaseForm, case_form}
 use Rattle.rdx_defs.specs.RelationReading.{with_rule, rules_reading}
-use Rattle.rdx_parts.specs.Scope.{Scope}
+use Rattle.rdx_templates.specs.Scope.{Scope}
 
 module _ (S : Scope) (ns : List (List ℕ)) where
   pub rules-branches : (ds : List Sexp) → rules_reading S ns ds ≡ branch_rules S ns (case_branches ds)

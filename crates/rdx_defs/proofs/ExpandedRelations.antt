@@ -15,7 +15,7 @@ use Rattle.rdx_defs.specs.RelationForms.{RelationForm, relation_form}
 use Rattle.rdx_defs.specs.RelationReading.{expanded_reading}
 use Rattle.rdx_defs.specs.RelationRefusal.{relation_refusal}
 use Rattle.rdx_defs.specs.RelationStands.{relation_stands}
-use Rattle.rdx_parts.specs.Scope.{Scope}
+use Rattle.rdx_templates.specs.Scope.{Scope}
 use Rattle.rdx_defs.specs.Shorthand.{before_with, behind_with}
 use Rattle.rdx_parts.specs.StandRefusal.{stands_refusal}
 use Rattle.rdx_parts.specs.PartsHave.{AreReadable}

@@ -7,8 +7,8 @@ use Rattle.rdx_lang.specs.Programs.{Mode}
 use Rattle.rdx_patterns.specs.Kinds.{is_among}
 use Rattle.rdx_patterns.specs.Parts.{text_of}
 use Rattle.rdx_patterns.specs.PatternChecks as patterns
+use Rattle.rdx_templates.specs.Bound.{Bound}
 use Rattle.rdx_parts.specs.Arguments.{is_misfit, patterns_in}
-use Rattle.rdx_parts.specs.Bound.{Bound}
 use Rattle.rdx_parts.specs.ExtraForms.{of_rule}
 use Rattle.rdx_parts.specs.Headed.{Headed, headed}
 use Rattle.rdx_defs.specs.Inside.FormOutlines.{case_branch, in_case, case_branches, domain_patterns, relation_outline, clause_branch, own_clause, in_clause, clause_branches, contract_patterns, metafunction_outline, rule_branch, in_rule, rule_branches, given_patterns, option_patterns, options_patterns, judgement_outline, question_outline}
@@ -22,7 +22,7 @@ use Rattle.rdx_defs.specs.MetafunctionForms.{ClauseForm, clause_form, ContractFo
 use Rattle.rdx_defs.specs.MetafunctionStands.{clause_stands, clauses_stand, contract_stands, function_stands}
 use Rattle.rdx_defs.specs.RelationForms.{CaseForm, case_form, RelationForm, is_keyword}
 use Rattle.rdx_defs.specs.RelationStands.{case_stands, cases_stand, domain_stands, expanded_stands, shortcut_stands, arrows_with, shortcuts_stand}
-use Rattle.rdx_parts.specs.Scope.{Scope}
+use Rattle.rdx_templates.specs.Scope.{Scope}
 use Rattle.rdx_defs.specs.Shorthand.{Shortcut, shortcut_form, is_known_arrow}
 use Rattle.rdx_parts.specs.Stands.{Stand, misshaped, function, judgement, arrow, template, misfit, repeated, names_bound, arguments_stand, misfits, held_stands, bound_by_premise, bound_by_extras}
 use Rattle.rdx_parts.specs.declared.stands.faults.Check.{Check}

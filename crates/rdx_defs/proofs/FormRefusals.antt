@@ -6,7 +6,7 @@ use Rattle.rdx_patterns.specs.Refusal.{Refusal, unnamed, named, or_else, first_r
 use Rattle.rdx_patterns.specs.Unbuilt.{unbuilt_at}
 use Rattle.rdx_patterns.specs.declared.shape.fault.DefKind.TheVariants.{Shape, BadName, BadPattern, EllipsisDepth, UnknownName, EllipsisVariable, RacketEscape}
 use Rattle.rdx_patterns.proofs.Firsts.{none_of}
-use Rattle.rdx_parts.specs.Earliest.{start, earliest}
+use Rattle.rdx_templates.specs.Earliest.{start, earliest}
 use Rattle.rdx_defs.specs.Inside.BareForms as bare_stands
 use Rattle.rdx_defs.specs.Inside.FormOutlines.{relation_outline, metafunction_outline, judgement_outline, question_outline}
 use Rattle.rdx_parts.specs.Outlines.{Outline}
@@ -23,15 +23,15 @@ use Rattle.rdx_defs.specs.MetafunctionStands.{clause_stands, clauses_stand, func
 use Rattle.rdx_defs.specs.RelationForms.{RelationForm, relation_form}
 use Rattle.rdx_defs.specs.RelationRefusal.{relation_refusal}
 use Rattle.rdx_defs.specs.RelationStands.{expanded_stands, shortcuts_stand, relation_stands}
-use Rattle.rdx_parts.specs.Scope.{Scope}
+use Rattle.rdx_templates.specs.Scope.{Scope}
 use Rattle.rdx_parts.specs.StandChecks.{shape_faults, shape_at, repeated_names, repeated_at, repeated_name_at, bad_names, bad_name_at, bad_places, bad_place_at, depth_faults, depth_fault_at, unknown_names, unknown_name_at, undriven_places, undriven_at, escape_at, mode_faults, misfit_start, misfit_at, mode_fault_at}
 use Rattle.rdx_parts.specs.StandRefusal.{stands_refusal}
 use Rattle.rdx_parts.specs.Stands.{Stand}
 use Rattle.rdx_parts.specs.declared.stands.faults.Check.{Check}
 use Rattle.rdx_parts.specs.declared.stands.faults.Check.TheVariants.{Places, Depths, Driving, Escapes}
 use Rattle.rdx_defs.proofs.BareForms.{bare-relation, bare-function, bare-judgement, bare-question}
+use Rattle.rdx_templates.proofs.EarliestPlaces.{earliest-none}
 use Rattle.rdx_parts.proofs.BareChecks.{bare, shapes-bare, bad_names-bare, unknown_names-bare, mode_faults-bare}
-use Rattle.rdx_parts.proofs.EarliestPlaces.{earliest-none}
 use Rattle.rdx_parts.proofs.RepeatedNames.{again-bare, bound_places, places-none}
 use Rattle.rdx_defs.proofs.TrackedNames.{relation-again, function-again, judgement-again, question-again}
 use Rattle.rdx_defs.proofs.FormFaults.{relation-faults, function-faults, judgement-faults, question-faults}

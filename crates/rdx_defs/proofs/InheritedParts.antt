@@ -24,7 +24,7 @@ use Rattle.rdx_parts.specs.PartsHave.{AreReadable, AreReadableSymbols, AreReadab
 use Rattle.rdx_defs.specs.JudgementForms.{RuleForm, is_line, cut_at_line, is_label, concluded, rule_behind, cut_name, rule_ahead, rule_cut, rule_among, rule_form, OptionForm, JudgementForm, is_any_keyword, with_option, cut_options, judgement_among, judgement_form, given_by, headed_by, mode_form, contract_form, judgement_in, own_mode, is_named_so, key_text, is_fit_option, own_rule}
 use Rattle.rdx_defs.specs.MetafunctionForms.{ClauseForm, clause_behind, clause_among, clause_form, ContractForm, cut_at_arrow, MetafunctionForm, with_clauses, contracted, metafunction_over, metafunction_among, metafunction_form, function_or, clauses_function, function_by, function_in}
 use Rattle.rdx_defs.specs.RelationForms.{CaseForm, case_among, case_form, RelationForm, is_keyword, relation_over, may_name, relation_among, relation_form}
-use Rattle.rdx_parts.specs.Scope.{Scope}
+use Rattle.rdx_templates.specs.Scope.{Scope}
 use Rattle.rdx_parts.specs.StandChecks.{is_bad_function}
 use Rattle.rdx_parts.specs.Stands.{premise_arguments}
 use Rattle.rdx_base.specs.declared.place.Span.{Span}

@@ -17,7 +17,7 @@ use Rattle.rdx_defs.specs.RelationLaws.{OneRelation, OneRelationRefusal, NeverBo
 use Rattle.rdx_defs.specs.RelationReading.{relation_reading}
 use Rattle.rdx_defs.specs.RelationRefusal.{relation_refusal}
 use Rattle.rdx_defs.proofs.FormRefusals.{no-relation, no-metafunction, no-judgement}
-use Rattle.rdx_parts.proofs.OneReading.{same_some, not_some}
+use Rattle.rdx_templates.proofs.OneReading.{same_some, not_some}
 
 -- what is not refused is there, where whatever is not there is refused
 there_or_refused : {A : Type 0} (o : Option A) (r u : Option Refusal) (q : Refusal) → (o ≡ None → r ≡ or_else u (Some q)) → ((r ≡ None) × IsSome o) ⊎ IsSome r

@@ -29,7 +29,7 @@ use Rattle.rdx_defs.specs.RelationEnds.{expanded_ends}
 use Rattle.rdx_defs.specs.RelationForms.{RelationForm}
 use Rattle.rdx_defs.specs.RelationReading.{expanded_reading}
 use Rattle.rdx_defs.specs.RelationStands.{expanded_stands, shortcuts_stand}
-use Rattle.rdx_parts.specs.Scope.{Scope, callable}
+use Rattle.rdx_templates.specs.Scope.{Scope, callable}
 use Rattle.rdx_parts.specs.StandChecks.{is_bad_function, bad_names}
 use Rattle.rdx_parts.specs.Stands.{Stand}
 use Rattle.rdx_defs.proofs.BareForms.{bare-relation, bare-function, bare-judgement, bare-question}

@@ -20,18 +20,18 @@ use Rattle.rdx_patterns.specs.declared.patterns.position.Position.TheVariants.{Q
 use Rattle.rdx_patterns.proofs.Booleans.{and_true, and_both, or_true}
 use Rattle.rdx_patterns.proofs.DepthsRead.{bound_use}
 use Rattle.rdx_patterns.proofs.Firsts.{none_both, none_first}
+use Rattle.rdx_templates.specs.Bound.{Bound, is_bound}
+use Rattle.rdx_templates.specs.Scope.{Scope, has_metafunction, mode_of}
+use Rattle.rdx_templates.specs.TemplateChecks.{bad_parts, shallow_parts, undriven_parts}
+use Rattle.rdx_templates.specs.TemplateOccurrences.{TemplatePart, template_parts, host_parts}
+use Rattle.rdx_templates.specs.TemplateReading.{template_reading, host_reading}
+use Rattle.rdx_templates.specs.TemplateShapes.{template_shapes}
+use Rattle.rdx_templates.proofs.Depths.{depth-bound}
+use Rattle.rdx_templates.proofs.Fitting.{template_fits, host_fits}
 use Rattle.rdx_parts.specs.Arguments.{Arguments, fitting, is_misfit, data_at, data_by, patterns_in, templates_in}
-use Rattle.rdx_parts.specs.Bound.{Bound, is_bound}
 use Rattle.rdx_parts.specs.ExtraReading.{templates_reading}
-use Rattle.rdx_parts.specs.Scope.{Scope, has_metafunction, mode_of}
 use Rattle.rdx_parts.specs.StandChecks.{is_bound_as, shape_fault, shape_faults, bad_name, bad_names, bad_place, bad_places, other_depths, depth_fault, depth_faults, unknown_name, unknown_names, undriven_place, undriven_places, mode_fault, mode_faults}
 use Rattle.rdx_parts.specs.Stands.{Stand, asked, arrow, pattern, template, condition, fresh, bound_among, names_bound, bound_in, flagged_stand, arguments_by, arguments_stand, misfits}
-use Rattle.rdx_parts.specs.TemplateChecks.{bad_parts, shallow_parts, undriven_parts}
-use Rattle.rdx_parts.specs.TemplateOccurrences.{TemplatePart, template_parts, host_parts}
-use Rattle.rdx_parts.specs.TemplateReading.{template_reading, host_reading}
-use Rattle.rdx_parts.specs.TemplateShapes.{template_shapes}
-use Rattle.rdx_parts.proofs.Depths.{depth-bound}
-use Rattle.rdx_parts.proofs.Fitting.{template_fits, host_fits}
 use Rattle.rdx_defs.proofs.FormRefusals.{ArePassed}
 use Rattle.rdx_parts.proofs.NamesBound.{named_at}
 use Rattle.rdx_parts.proofs.OtherDepths.{other-both}

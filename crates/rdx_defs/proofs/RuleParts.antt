@@ -7,7 +7,7 @@ use Rattle.rdx_defs.specs.Inside.FormOutlines.{in_rule, rule_branch, rule_branch
 use Rattle.rdx_parts.specs.Outlines.{RuleBranch}
 use Rattle.rdx_parts.specs.PartsHave.{Wanted, RuleHas, RulesHave}
 use Rattle.rdx_defs.specs.JudgementForms.{RuleForm, rule_form, own_rule}
-use Rattle.rdx_parts.specs.Scope.{Scope}
+use Rattle.rdx_templates.specs.Scope.{Scope}
 
 module _ (S : Scope) (W : Wanted) where
   -- two lists of rules

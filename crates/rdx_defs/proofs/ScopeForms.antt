@@ -19,7 +19,7 @@ use Rattle.rdx_defs.specs.JudgementReading.{mode_or_none}
 use Rattle.rdx_defs.specs.JudgementRefusal.{judgement_refusal}
 use Rattle.rdx_defs.specs.JudgementStands.{bound_by_inputs, conclusion_stands, premises_stand, name_stands, rule_stands, rules_stand, option_stands, options_stand, missing_mode, judgement_stands}
 use Rattle.rdx_defs.specs.MetafunctionReading.{text_in}
-use Rattle.rdx_parts.specs.Scope.{Scope}
+use Rattle.rdx_templates.specs.Scope.{Scope}
 use Rattle.rdx_defs.specs.Scopes.{are_conditions, is_rule_of, with_mode, judgement_by, judgement_moded, begins_with, defined_judgements}
 use Rattle.rdx_parts.specs.Stands.{Stand, misshaped, bound_by_extra, held_stands, extra_stands, is_named, extras_stand}
 use Rattle.rdx_defs.proofs.FormRefusals.{ArePassed, judgement-passed}

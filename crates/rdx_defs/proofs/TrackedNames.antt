@@ -9,8 +9,8 @@ use Rattle.rdx_patterns.specs.Kinds.{is_among}
 use Rattle.rdx_patterns.specs.Parts.{parts, text_of, is_symbol, is_word}
 use Rattle.rdx_patterns.specs.PatternChecks as patterns
 use Rattle.rdx_patterns.specs.PatternChecks.{when}
+use Rattle.rdx_templates.specs.Bound.{Bound}
 use Rattle.rdx_parts.specs.Arguments.{Arguments, is_misfit, data_at, patterns_in}
-use Rattle.rdx_parts.specs.Bound.{Bound}
 use Rattle.rdx_parts.specs.ExtraForms.{ExtraForm, such_that, provided, confirmed, holding, freshly, name, no_extra, ExtraPlace, of_case, of_clause, of_rule, condition_behind, extra_among, is_extra_head, extra_behind, premise_among, form_at}
 use Rattle.rdx_parts.specs.Headed.{Headed, headed}
 use Rattle.rdx_parts.specs.BareStands.{lone_pattern}
@@ -24,7 +24,7 @@ use Rattle.rdx_defs.specs.MetafunctionForms.{ClauseForm, clause_form, Metafuncti
 use Rattle.rdx_defs.specs.MetafunctionStands.{clause_stands, clauses_stand, contract_stands, function_stands}
 use Rattle.rdx_defs.specs.RelationForms.{CaseForm, case_form, RelationForm, is_keyword}
 use Rattle.rdx_defs.specs.RelationStands.{case_stands, cases_stand, domain_stands, expanded_stands, arrows_stand, shortcut_stands, arrows_with, shortcuts_stand}
-use Rattle.rdx_parts.specs.Scope.{Scope, mode_of}
+use Rattle.rdx_templates.specs.Scope.{Scope, mode_of}
 use Rattle.rdx_defs.specs.Shorthand.{Shortcut, shortcut_form, is_known_arrow}
 use Rattle.rdx_parts.specs.StandChecks.{is_bound_as, repeated_name, names_with, repeated_names}
 use Rattle.rdx_parts.specs.Stands.{Stand, misshaped, function, judgement, asked, arrow, pattern, template, condition, plain, misfit, fresh, named, repeated, bound_in, names_bound, bound_by_patterns, flagged_stand, plain_argument, arguments_by, arguments_stand, misfits, premise_arguments, held_stands, bound_by_premise, bound_freshly, fresh_stands, bound_by_extra, extra_stands, is_named, extras_stand}

@@ -29,6 +29,8 @@ use Rattle.rdx_patterns.proofs.DepthsRead.{bound_use, reading-makes, items-make}
 use Rattle.rdx_patterns.proofs.FittingNames.{fitting-reading, fitting-items}
 use Rattle.rdx_patterns.proofs.PassedPatterns.{are-passed}
 use Rattle.rdx_patterns.proofs.KnownReadings.{pattern_known, items_known_to}
+use Rattle.rdx_templates.specs.Scope.{Scope, mode_of, callable, has_metafunction}
+use Rattle.rdx_templates.specs.TemplateReading.{template_reading, host_reading}
 use Rattle.rdx_parts.specs.Arguments.{is_misfit, data_at, data_by, patterns_in, templates_in}
 use Rattle.rdx_parts.specs.ExtraForms.{ExtraForm, such_that, provided, confirmed, holding, freshly, name, no_extra, ExtraPlace, form_at}
 use Rattle.rdx_parts.specs.ExtraReading.{items_reading, list_reading, premise_reading, held_reading, extra_reading, extras_reading}
@@ -37,10 +39,8 @@ use Rattle.rdx_parts.specs.BareStands.{lone_pattern}
 use Rattle.rdx_parts.specs.Outlines.{Takes, one, several, each, taken_occurrences, bound_by_taken, taken_reading}
 use Rattle.rdx_parts.specs.PartsHave.{PremiseHas, ExtraHas, ExtrasHave, AloneHave, IsPattern, can_read}
 use Rattle.rdx_parts.specs.ExtraReading.{argument_items}
-use Rattle.rdx_parts.specs.Scope.{Scope, mode_of, callable, has_metafunction}
 use Rattle.rdx_parts.specs.StandChecks.{is_bound_as}
 use Rattle.rdx_parts.specs.Stands.{template, names_bound, premise_arguments, arguments_stand, misfits, premise_stands, held_stands, bound_by_premise, bound_freshly, fresh_stands, bound_by_extra, bound_by_extras, extra_stands, is_named, extras_stand}
-use Rattle.rdx_parts.specs.TemplateReading.{template_reading, host_reading}
 use Rattle.rdx_defs.proofs.AlikeSymbols.{AreAlike, alike-none, alike-behind, alike-made, clash-none}
 use Rattle.rdx_defs.proofs.AskingParts.{BindsWithin}
 use Rattle.rdx_defs.proofs.BoundParts.{taken-written}

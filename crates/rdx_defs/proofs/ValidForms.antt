@@ -35,10 +35,10 @@ use Rattle.rdx_defs.specs.MetafunctionStands.{clause_stands, clauses_stand, cont
 use Rattle.rdx_defs.specs.RelationForms.{CaseForm, case_form, RelationForm}
 use Rattle.rdx_defs.specs.RelationReading.{rules_reading, expanded_reading}
 use Rattle.rdx_defs.specs.RelationStands.{case_stands, cases_stand, domain_stands, expanded_stands, shortcuts_stand}
-use Rattle.rdx_parts.specs.Scope.{Scope, callable, has_metafunction}
+use Rattle.rdx_templates.specs.Scope.{Scope, callable, has_metafunction}
+use Rattle.rdx_templates.specs.TemplateReading.{template_reading}
 use Rattle.rdx_parts.specs.StandChecks.{bad_name, bad_names}
 use Rattle.rdx_parts.specs.Stands.{misshaped, function, template, names_bound, bound_by_extras, extras_stand}
-use Rattle.rdx_parts.specs.TemplateReading.{template_reading}
 use Rattle.rdx_defs.proofs.AlikeSymbols.{alike-none}
 use Rattle.rdx_defs.proofs.AskingParts.{BindsWithin}
 use Rattle.rdx_defs.proofs.BranchRules.{rules-branches}

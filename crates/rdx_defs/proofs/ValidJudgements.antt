@@ -41,10 +41,10 @@ use Rattle.rdx_defs.specs.JudgementRefusal.{result_stands, lone_premise_stands}
 use Rattle.rdx_defs.specs.JudgementStands.{rule_arguments, bound_by_inputs, bound_by_rule, conclusion_stands, premises_stand, name_stands, rule_stands, rules_stand, flags_stand, mode_stands, contract_stands, given_stands, option_stands, options_stand, missing_mode, judgement_stands}
 use Rattle.rdx_defs.specs.MetafunctionReading.{closed_items, text_in}
 use Rattle.rdx_defs.specs.RelationForms.{is_keyword}
-use Rattle.rdx_parts.specs.Scope.{Scope, callable, has_metafunction}
+use Rattle.rdx_templates.specs.Scope.{Scope, callable, has_metafunction}
+use Rattle.rdx_templates.specs.TemplateReading.{template_reading}
 use Rattle.rdx_parts.specs.StandChecks.{bad_names}
 use Rattle.rdx_parts.specs.Stands.{Stand, misshaped, judgement, template, names_bound, bound_by_premise, bound_by_extras, arguments_stand, misfits, held_stands}
-use Rattle.rdx_parts.specs.TemplateReading.{template_reading}
 use Rattle.rdx_defs.proofs.AlikeSymbols.{AreAlike, alike-none}
 use Rattle.rdx_defs.proofs.AskingParts.{BindsWithin}
 use Rattle.rdx_defs.proofs.BoundParts.{symbol-name}

@@ -20,9 +20,9 @@ use Rattle.rdx_defs.specs.MetafunctionRefusal.{metafunction_refusal}
 use Rattle.rdx_defs.specs.RelationForms.{RelationForm, relation_form}
 use Rattle.rdx_defs.specs.RelationReading.{relation_reading}
 use Rattle.rdx_defs.specs.RelationRefusal.{relation_refusal}
-use Rattle.rdx_parts.specs.Scope.{Scope}
+use Rattle.rdx_templates.specs.Scope.{Scope}
+use Rattle.rdx_templates.specs.TemplateReading.{template_reading}
 use Rattle.rdx_parts.specs.Stands.{names_bound, bound_by_premise}
-use Rattle.rdx_parts.specs.TemplateReading.{template_reading}
 use Rattle.rdx_defs.specs.declared.judgements.premises.ReadPremise.{ReadPremise}
 
 -- ---- metafunctions

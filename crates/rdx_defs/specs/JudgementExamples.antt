@@ -15,7 +15,7 @@ use Rattle.rdx_defs.specs.JudgementForms.{JudgementForm, judgement_form}
 use Rattle.rdx_defs.specs.JudgementReading.{judgement_reading}
 use Rattle.rdx_defs.specs.JudgementRefusal.{judgement_refusal}
 use Rattle.rdx_defs.specs.RelationExamples.{no_scope, number}
-use Rattle.rdx_parts.specs.Scope.{Scope}
+use Rattle.rdx_templates.specs.Scope.{Scope}
 
 -- in a file that has the judgements J and K, both of an input and an output
 abbrev two_judgements : Scope

@@ -11,7 +11,7 @@ use Rattle.rdx_parts.specs.Headed.{Headed}
 use Rattle.rdx_defs.specs.JudgementForms.{RuleForm, rule_form, own_rule, JudgementForm, judgement_in, contract_form, own_mode}
 use Rattle.rdx_defs.specs.JudgementStands.{rule_arguments, bound_by_inputs, bound_by_rule}
 use Rattle.rdx_defs.specs.MetafunctionReading.{closed_items, text_in}
-use Rattle.rdx_parts.specs.Scope.{Scope}
+use Rattle.rdx_templates.specs.Scope.{Scope}
 use Rattle.rdx_parts.specs.StandChecks.{label}
 use Rattle.rdx_parts.specs.Stands.{names_bound}
 

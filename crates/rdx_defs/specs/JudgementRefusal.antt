@@ -7,7 +7,7 @@ use Rattle.rdx_patterns.specs.Unbuilt.{unbuilt_at}
 use Rattle.rdx_parts.specs.Headed.{headed}
 use Rattle.rdx_defs.specs.JudgementForms.{judgement_form}
 use Rattle.rdx_defs.specs.JudgementStands.{judgement_stands}
-use Rattle.rdx_parts.specs.Scope.{Scope}
+use Rattle.rdx_templates.specs.Scope.{Scope}
 use Rattle.rdx_parts.specs.StandRefusal.{stands_refusal}
 use Rattle.rdx_parts.specs.Stands.{Stand, template, names_bound, bound_by_premise, held_stands}
 

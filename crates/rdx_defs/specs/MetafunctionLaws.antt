@@ -9,7 +9,7 @@ use Rattle.rdx_patterns.specs.declared.shape.fault.DefRefusal.{DefRefusal}
 use Rattle.rdx_defs.specs.Answers.{ReadsMetafunction}
 use Rattle.rdx_defs.specs.MetafunctionForms.{metafunction_form}
 use Rattle.rdx_defs.specs.MetafunctionRefusal.{metafunction_refusal}
-use Rattle.rdx_parts.specs.Scope.{Scope}
+use Rattle.rdx_templates.specs.Scope.{Scope}
 
 -- ---- in a given scope, over given nonterminals
 

@@ -11,9 +11,9 @@ use Rattle.rdx_parts.specs.ExtraForms.{of_clause}
 use Rattle.rdx_parts.specs.ExtraReading.{argument_items, extras_reading}
 use Rattle.rdx_defs.specs.MetafunctionForms.{ClauseForm, clause_form, ContractForm, MetafunctionForm, function_in}
 use Rattle.rdx_defs.specs.MetafunctionStands.{bound_by_arguments, bound_by_clause}
-use Rattle.rdx_parts.specs.Scope.{Scope}
+use Rattle.rdx_templates.specs.Scope.{Scope}
+use Rattle.rdx_templates.specs.TemplateReading.{template_reading}
 use Rattle.rdx_parts.specs.Stands.{names_bound}
-use Rattle.rdx_parts.specs.TemplateReading.{template_reading}
 
 -- ---- clauses
 

@@ -5,7 +5,7 @@ use Rattle.rdx_patterns.specs.Refusal.{Refusal, first_refusal}
 use Rattle.rdx_patterns.specs.Unbuilt.{unbuilt_at}
 use Rattle.rdx_defs.specs.MetafunctionForms.{metafunction_form}
 use Rattle.rdx_defs.specs.MetafunctionStands.{metafunction_stands}
-use Rattle.rdx_parts.specs.Scope.{Scope}
+use Rattle.rdx_templates.specs.Scope.{Scope}
 use Rattle.rdx_parts.specs.StandRefusal.{stands_refusal}
 
 -- the refusal of a datum as a metafunction in this scope, over the nonterminals ns; S0 comes first

@@ -8,7 +8,7 @@ use Rattle.rdx_patterns.specs.PatternChecks as patterns
 use Rattle.rdx_patterns.specs.Reading.{is_pattern}
 use Rattle.rdx_parts.specs.ExtraForms.{of_clause}
 use Rattle.rdx_defs.specs.MetafunctionForms.{ClauseForm, clause_form, ContractForm, MetafunctionForm, function_in}
-use Rattle.rdx_parts.specs.Scope.{Scope}
+use Rattle.rdx_templates.specs.Scope.{Scope}
 use Rattle.rdx_parts.specs.Stands.{Stand, misshaped, function, pattern, template, argument_occurrences, bound_among, names_bound, bound_by_extras, extras_stand}
 
 -- ---- clauses

@@ -12,7 +12,7 @@ use Rattle.rdx_patterns.specs.declared.shape.fault.DefKind.TheVariants.{Shape, D
 use Rattle.rdx_defs.specs.RelationForms.{RelationForm, relation_form}
 use Rattle.rdx_defs.specs.RelationReading.{relation_reading}
 use Rattle.rdx_defs.specs.RelationRefusal.{relation_refusal}
-use Rattle.rdx_parts.specs.Scope.{Scope}
+use Rattle.rdx_templates.specs.Scope.{Scope}
 
 -- without a metafunction
 abbrev pub no_scope : Scope

@@ -9,7 +9,7 @@ use Rattle.rdx_patterns.specs.declared.shape.fault.DefRefusal.{DefRefusal}
 use Rattle.rdx_defs.specs.Answers.{ReadsRelation}
 use Rattle.rdx_defs.specs.RelationForms.{relation_form}
 use Rattle.rdx_defs.specs.RelationRefusal.{relation_refusal}
-use Rattle.rdx_parts.specs.Scope.{Scope}
+use Rattle.rdx_templates.specs.Scope.{Scope}
 
 -- ---- with a given name, in a given scope, over given nonterminals
 

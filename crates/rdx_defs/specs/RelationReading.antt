@@ -10,10 +10,10 @@ use Rattle.rdx_parts.specs.ExtraForms.{ExtraForm, such_that, provided, confirmed
 use Rattle.rdx_parts.specs.ExtraReading.{extras_reading}
 use Rattle.rdx_defs.specs.RelationForms.{CaseForm, case_form, RelationForm}
 use Rattle.rdx_defs.specs.RelationStands.{bound_by_case}
-use Rattle.rdx_parts.specs.Scope.{Scope}
+use Rattle.rdx_templates.specs.Scope.{Scope}
+use Rattle.rdx_templates.specs.TemplateReading.{template_reading}
 use Rattle.rdx_parts.specs.StandChecks.{label}
 use Rattle.rdx_parts.specs.Stands.{bound_in, names_bound}
-use Rattle.rdx_parts.specs.TemplateReading.{template_reading}
 
 -- the name that such an extra is, before the one that comes later
 abbrev pub name_before : Sexp → ExtraForm → Option (List ℕ) → Option (List ℕ)

@@ -8,7 +8,7 @@ use Rattle.rdx_patterns.specs.PatternChecks as patterns
 use Rattle.rdx_defs.specs.Expansion.{expanded_form}
 use Rattle.rdx_parts.specs.ExtraForms.{of_case}
 use Rattle.rdx_defs.specs.RelationForms.{CaseForm, case_form, RelationForm}
-use Rattle.rdx_parts.specs.Scope.{Scope}
+use Rattle.rdx_templates.specs.Scope.{Scope}
 use Rattle.rdx_defs.specs.Shorthand.{behind_with, Shortcut, shortcut_form, is_known_arrow}
 use Rattle.rdx_parts.specs.Stands.{Stand, misshaped, arrow, pattern, template, repeated, bound_in, names_bound, bound_by_extras, extras_stand}
 

@@ -9,7 +9,7 @@ use Rattle.rdx_patterns.specs.Reading.{name_in}
 use Rattle.rdx_parts.specs.ExtraForms.{of_clause, of_rule, form_at, ExtraPlace, is_condition}
 use Rattle.rdx_defs.specs.JudgementForms.{RuleForm, rule_form, JudgementForm, judgement_form, judgement_in, own_mode, are_fit_options}
 use Rattle.rdx_defs.specs.MetafunctionForms.{ClauseForm, clause_form, MetafunctionForm, metafunction_form, function_in}
-use Rattle.rdx_parts.specs.Scope.{Scope}
+use Rattle.rdx_templates.specs.Scope.{Scope}
 
 -- all these are what they are to be at such a place, other than names
 abbrev pub are_conditions : ExtraPlace → List Sexp → Bool

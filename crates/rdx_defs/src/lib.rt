@@ -7,7 +7,8 @@
 //! file. Metafunctions and judgements are known in the whole file, so each of these is given a `Scope`,
 //! which [`scope_of`] finds before any form is read. [`expand_with`] gives the cases of a relation
 //! without the shorthand that shortcuts behind `with` define. What forms mean follows the Redex
-//! reference manual ("Other Relations", "Reduction Relations"); what they are made of is in `rdx_parts`.
+//! reference manual ("Other Relations", "Reduction Relations"); what they are made of is in `rdx_parts`
+//! and `rdx_templates`.
 #![tactic(auto)]
 
 mod crosses;

@@ -12,18 +12,18 @@ ghost use Rattle.rdx_parts.specs.PartViews.{extra_form_of, place_of};
 ghost use Rattle.rdx_defs.specs.Inside.ScopeParts.{defining_form};
 ghost use Rattle.rdx_defs.specs.JudgementForms as rules;
 ghost use Rattle.rdx_defs.specs.MetafunctionForms as forms;
-ghost use Rattle.rdx_parts.specs.Scope as scope;
+ghost use Rattle.rdx_templates.specs.Scope as scope;
 ghost use Rattle.rdx_defs.specs.Scopes as model;
 
 use crate::judgements::forms::{
     JudgementForm, is_fit_option, judgement_form, judgement_in, next_option, own_mode, rule_form,
 };
 use crate::metafunctions::forms::{clause_form, function_in, metafunction_form};
-use rdx_parts::Scope;
 use rdx_parts::arguments::headed_list;
 use rdx_parts::extras::{ExtraForm, ExtraPlace, form_at};
 use rdx_patterns::shape::{is_word, items, symbol, text};
 use rdx_sexp::Datum;
+use rdx_templates::Scope;
 use rdx_term::{Name, NoMemory};
 use std::alloc::Global;
 

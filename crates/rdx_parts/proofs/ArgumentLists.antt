@@ -7,18 +7,18 @@ use Rattle.rdx_lang.specs.Programs.{Mode}
 use Rattle.rdx_patterns.specs.Occurrences.{occurrences}
 use Rattle.rdx_patterns.specs.PatternChecks.{bound_by}
 use Rattle.rdx_patterns.specs.declared.patterns.position.Position.TheVariants.{Query}
+use Rattle.rdx_templates.specs.Bound.{Bound}
+use Rattle.rdx_templates.specs.Earliest.{start, lesser, earliest}
+use Rattle.rdx_templates.specs.Scope.{Scope}
+use Rattle.rdx_templates.proofs.EarliestPlaces.{lesser_assoc, earliest_append}
 use Rattle.rdx_parts.specs.Arguments.{data_at}
-use Rattle.rdx_parts.specs.Bound.{Bound}
-use Rattle.rdx_parts.specs.Earliest.{start, lesser, earliest}
 use Rattle.rdx_parts.specs.BareStands.{flagged_stand}
 use Rattle.rdx_parts.specs.Outlines.{one, each}
 use Rattle.rdx_parts.specs.ByNames.{taken_names, patterns_names, pattern_faults, template_faults, flagged_faults}
 use Rattle.rdx_parts.specs.PartViews.{flag_at}
 use Rattle.rdx_parts.specs.PartsHave.{CanBind, BindNames}
-use Rattle.rdx_parts.specs.Scope.{Scope}
 use Rattle.rdx_parts.specs.Stands.{bound_among}
 use Rattle.rdx_parts.specs.declared.stands.faults.Check.{Check}
-use Rattle.rdx_parts.proofs.EarliestPlaces.{lesser_assoc, earliest_append}
 use Rattle.rdx_parts.proofs.PartsAt.{BindNames-both}
 
 -- ---- flags

@@ -5,13 +5,13 @@ use Rattle.std.specs.Prelude.{Option, Some, None, flat_map, if◌then◌else◌}
 use Rattle.rdx_sexp.specs.Sexp.{Sexp}
 use Rattle.rdx_patterns.specs.Parts.{text_of}
 use Rattle.rdx_patterns.specs.PatternChecks as patterns
+use Rattle.rdx_templates.specs.Bound.{Bound}
+use Rattle.rdx_templates.specs.Scope.{Scope, mode_of}
 use Rattle.rdx_parts.specs.Arguments.{Arguments, is_misfit}
-use Rattle.rdx_parts.specs.Bound.{Bound}
 use Rattle.rdx_parts.specs.ExtraForms.{ExtraForm, such_that, provided, confirmed, holding, freshly, name, no_extra, ExtraPlace, form_at}
 use Rattle.rdx_parts.specs.Headed.{Headed, headed}
 use Rattle.rdx_parts.specs.BareStands as bare_stands
 use Rattle.rdx_parts.specs.BareStands.{lone_pattern}
-use Rattle.rdx_parts.specs.Scope.{Scope, mode_of}
 use Rattle.rdx_parts.specs.StandChecks.{shape_fault, shape_faults, bad_name, bad_names, unknown_name, unknown_names, mode_fault, mode_faults}
 use Rattle.rdx_parts.specs.Stands.{Stand, misshaped, function, judgement, asked, arrow, pattern, template, condition, plain, misfit, fresh, named, repeated, names_bound, bound_in, flagged_stand, plain_argument, arguments_by, arguments_stand, misfits, premise_arguments, held_stands, bound_freshly, fresh_stands, bound_by_extra, extra_stands, is_named, extras_stand}
 

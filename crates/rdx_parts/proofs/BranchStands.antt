@@ -1,7 +1,7 @@
 -- What stands in a branch, with what is bound before it.
 use Rattle.std.proofs.Common.{ℕ, Bool, [], List, ◌∷◌}
+use Rattle.rdx_templates.specs.Scope.{Scope}
 use Rattle.rdx_parts.specs.Outlines.{Branch, taken_occurrences, bound_by_taken, bound_by_branch}
-use Rattle.rdx_parts.specs.Scope.{Scope}
 use Rattle.rdx_parts.specs.Stands.{Stand, pattern, template, names_bound, extras_stand}
 
 -- what stands in a branch

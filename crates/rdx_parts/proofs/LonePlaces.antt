@@ -7,8 +7,8 @@ use Rattle.rdx_patterns.specs.Occurrences.{Occurrence, key, binder, single, repe
 use Rattle.rdx_patterns.specs.Parts.{text_of}
 use Rattle.rdx_patterns.specs.PatternChecks.{bad_binder, bad_occurrence, is_bad_symbol, is_bad_excepted, crossed_name}
 use Rattle.rdx_patterns.specs.Refusal.{first}
-use Rattle.rdx_parts.specs.Earliest.{earliest, start}
-use Rattle.rdx_parts.proofs.EarliestPlaces.{earliest-when}
+use Rattle.rdx_templates.specs.Earliest.{earliest, start}
+use Rattle.rdx_templates.proofs.EarliestPlaces.{earliest-when}
 
 -- a name that is bound and may not be
 pub bad_binder_alone : (o : Occurrence) → earliest start (bad_binder o) ≡ first (bad_binder o)

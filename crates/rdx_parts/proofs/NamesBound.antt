@@ -9,8 +9,9 @@ use Rattle.rdx_lang.specs.Programs.{Extra}
 use Rattle.rdx_patterns.specs.Occurrences.{Occurrence, occurrences}
 use Rattle.rdx_patterns.specs.Parts.{text_of}
 use Rattle.rdx_patterns.specs.PatternChecks as patterns
+use Rattle.rdx_templates.specs.Bound.{Bound}
+use Rattle.rdx_templates.specs.Scope.{Scope, mode_of}
 use Rattle.rdx_parts.specs.Arguments.{Arguments, is_misfit, patterns_in}
-use Rattle.rdx_parts.specs.Bound.{Bound}
 use Rattle.rdx_parts.specs.ExtraForms.{ExtraForm, such_that, provided, confirmed, holding, freshly, name, no_extra, ExtraPlace, form_at}
 use Rattle.rdx_parts.specs.ExtraReading.{extra_reading, extras_reading}
 use Rattle.rdx_parts.specs.Headed.{Headed, headed}
@@ -18,7 +19,6 @@ use Rattle.rdx_parts.specs.BareStands.{lone_pattern}
 use Rattle.rdx_parts.specs.Outlines.{Branch, taken_occurrences, bound_by_taken, bound_by_branch, RuleBranch}
 use Rattle.rdx_parts.specs.ByNames as by_names
 use Rattle.rdx_parts.specs.ByNames.{patterns_names, premise_names, fresh_names, extra_names, extras_names, branch_names, pattern_faults, template_faults, host_faults, flagged_faults, faults_by, arguments_faults, premise_faults, extra_faults, extras_faults, branch_faults, branches_faults, lone_faults, alone_faults, rules_faults}
-use Rattle.rdx_parts.specs.Scope.{Scope, mode_of}
 use Rattle.rdx_parts.specs.StandChecks.{bad_place, depth_fault, undriven_place, escape_place}
 use Rattle.rdx_parts.specs.Stands.{Stand, misshaped, asked, pattern, template, condition, misfit, fresh, named, bound_in, names_bound, bound_by_patterns, flagged_stand, plain_argument, arguments_by, arguments_stand, misfits, premise_arguments, held_stands, bound_by_premise, bound_freshly, fresh_stands, bound_by_extra, bound_by_extras, extra_stands, is_named, extras_stand}
 use Rattle.rdx_parts.specs.declared.stands.faults.Check.{Check}

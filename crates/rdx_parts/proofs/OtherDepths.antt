@@ -5,12 +5,12 @@ use Rattle.rdx_sexp.specs.Sexp.{Sexp}
 use Rattle.rdx_patterns.specs.Parts.{text_of}
 use Rattle.rdx_patterns.specs.PatternChecks.{Bound, when}
 use Rattle.rdx_patterns.specs.Refusal.{first}
-use Rattle.rdx_parts.specs.Bound as names
-use Rattle.rdx_parts.specs.Bound.{depth_of}
-use Rattle.rdx_parts.specs.Earliest.{start, lesser, earliest}
+use Rattle.rdx_templates.specs.Bound as names
+use Rattle.rdx_templates.specs.Bound.{depth_of}
+use Rattle.rdx_templates.specs.Earliest.{start, lesser, earliest}
+use Rattle.rdx_templates.proofs.EarliestPlaces.{lesser_assoc, earliest_append, earliest-when}
 use Rattle.rdx_parts.specs.StandChecks.{is_other, other_depths}
 use Rattle.rdx_parts.specs.Stands.{names_bound}
-use Rattle.rdx_parts.proofs.EarliestPlaces.{lesser_assoc, earliest_append, earliest-when}
 use Rattle.rdx_parts.proofs.NamesBound.{named_at}
 
 -- the earliest so far with that of the next symbol and those behind it

@@ -9,12 +9,12 @@ use Rattle.rdx_patterns.specs.Parts.{text_of}
 use Rattle.rdx_patterns.specs.PatternChecks.{Bound, bound_by, all_bound}
 use Rattle.rdx_patterns.specs.Readable.{IsReadable}
 use Rattle.rdx_patterns.specs.declared.patterns.position.Position.TheVariants.{Query}
+use Rattle.rdx_templates.specs.Scope.{Scope}
 use Rattle.rdx_parts.specs.Arguments.{Arguments, patterns_in}
 use Rattle.rdx_parts.specs.ExtraForms.{ExtraForm, such_that, provided, confirmed, holding, freshly, name, no_extra, ExtraPlace, of_rule, form_at}
 use Rattle.rdx_parts.specs.Headed.{Headed, headed}
 use Rattle.rdx_parts.specs.Outlines.{Takes, one, each, Branch, RuleBranch, Question}
 use Rattle.rdx_parts.specs.PartsHave.{AreReadable, Wanted, ArgumentsHave, PremiseHas, ExtraHas, ExtrasHave, BranchHas, BranchesHave, RuleHas, RulesHave, QuestionHas, QuestionsHave, AloneHave, BindNames, AreNames}
-use Rattle.rdx_parts.specs.Scope.{Scope}
 use Rattle.rdx_parts.specs.Stands.{premise_arguments}
 
 -- ---- of several, the one at a place

@@ -3,11 +3,11 @@ use Rattle.std.specs.Prelude.{Bool, true, false, [], List, ◌∷◌, ◌++◌, 
 use Rattle.rdx_sexp.specs.Sexp.{Sexp}
 use Rattle.rdx_patterns.specs.Occurrences.{occurrences}
 use Rattle.rdx_patterns.specs.Parts.{text_of}
+use Rattle.rdx_templates.specs.Scope.{Scope, mode_of}
 use Rattle.rdx_parts.specs.Arguments.{Arguments, is_misfit}
 use Rattle.rdx_parts.specs.ExtraForms.{ExtraForm, such_that, provided, confirmed, holding, freshly, name, no_extra, ExtraPlace, form_at}
 use Rattle.rdx_parts.specs.Headed.{Headed, headed}
 use Rattle.rdx_parts.specs.Outlines.{Branch, taken_occurrences}
-use Rattle.rdx_parts.specs.Scope.{Scope, mode_of}
 use Rattle.rdx_parts.specs.Stands.{Stand, misshaped, asked, pattern, template, condition, fresh, named, plain_argument, premise_arguments, misfits, is_named}
 
 -- a pattern that stands by itself

@@ -10,18 +10,18 @@ use Rattle.rdx_patterns.specs.PatternChecks as patterns
 use Rattle.rdx_patterns.specs.PatternChecks.{bad_occurrences}
 use Rattle.rdx_patterns.specs.Reading.{reading}
 use Rattle.rdx_patterns.specs.declared.patterns.position.Position.TheVariants.{Query}
+use Rattle.rdx_templates.specs.Bound.{Bound}
+use Rattle.rdx_templates.specs.Scope.{Scope}
+use Rattle.rdx_templates.specs.TemplateChecks.{bad_parts, shallow_parts, undriven_parts, escapes}
+use Rattle.rdx_templates.specs.TemplateOccurrences.{TemplatePart, template_parts, host_parts}
+use Rattle.rdx_templates.specs.TemplateReading.{template_reading, host_reading}
 use Rattle.rdx_parts.specs.Arguments.{Arguments, patterns_in}
-use Rattle.rdx_parts.specs.Bound.{Bound}
 use Rattle.rdx_parts.specs.ExtraForms.{ExtraForm, such_that, provided, confirmed, holding, freshly, name, no_extra, ExtraPlace, of_rule, form_at}
 use Rattle.rdx_parts.specs.ExtraReading.{held_reading}
 use Rattle.rdx_parts.specs.Headed.{Headed, headed}
 use Rattle.rdx_parts.specs.Outlines.{Takes, one, Branch, RuleBranch, Question, Outline, taken_occurrences, bound_by_taken}
-use Rattle.rdx_parts.specs.Scope.{Scope}
 use Rattle.rdx_parts.specs.StandChecks.{other_depths}
 use Rattle.rdx_parts.specs.Stands.{bound_among, names_bound, premise_arguments}
-use Rattle.rdx_parts.specs.TemplateChecks.{bad_parts, shallow_parts, undriven_parts, escapes}
-use Rattle.rdx_parts.specs.TemplateOccurrences.{TemplatePart, template_parts, host_parts}
-use Rattle.rdx_parts.specs.TemplateReading.{template_reading, host_reading}
 use Rattle.rdx_parts.specs.declared.stands.faults.Check.{Check}
 use Rattle.rdx_parts.specs.declared.stands.faults.Check.TheVariants.{Places, Depths, Driving, Escapes}
 

@@ -11,13 +11,13 @@ use Rattle.rdx_patterns.specs.Parts.{text_of}
 use Rattle.rdx_patterns.specs.PatternChecks as patterns
 use Rattle.rdx_patterns.specs.Reading.{reading, items_among}
 use Rattle.rdx_patterns.specs.declared.patterns.position.Position.TheVariants.{Query}
+use Rattle.rdx_templates.specs.Bound.{Bound}
+use Rattle.rdx_templates.specs.Scope.{Scope}
+use Rattle.rdx_templates.specs.TemplateReading.{template_reading, host_reading}
 use Rattle.rdx_parts.specs.Arguments.{Arguments, patterns_in, templates_in}
-use Rattle.rdx_parts.specs.Bound.{Bound}
 use Rattle.rdx_parts.specs.ExtraForms.{ExtraForm, such_that, provided, confirmed, holding, freshly, name, no_extra, ExtraPlace, form_at}
 use Rattle.rdx_parts.specs.Headed.{Headed, headed}
-use Rattle.rdx_parts.specs.Scope.{Scope}
 use Rattle.rdx_parts.specs.Stands.{names_bound, bound_by_extra, premise_arguments}
-use Rattle.rdx_parts.specs.TemplateReading.{template_reading, host_reading}
 
 -- ---- premises
 

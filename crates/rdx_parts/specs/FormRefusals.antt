@@ -2,11 +2,11 @@
 use Rattle.std.specs.Prelude.{ℕ, List, [], ◌∷◌, Option, option_map}
 use Rattle.rdx_patterns.specs.Refusal.{Refusal, unnamed, named, or_else, first_refusal}
 use Rattle.rdx_patterns.specs.declared.shape.fault.DefKind.TheVariants.{BadPattern, EllipsisDepth, EllipsisVariable, RacketEscape}
-use Rattle.rdx_parts.specs.Earliest.{start, earliest}
+use Rattle.rdx_templates.specs.Earliest.{start, earliest}
+use Rattle.rdx_templates.specs.Scope.{Scope}
 use Rattle.rdx_parts.specs.Outlines.{Outline}
 use Rattle.rdx_parts.specs.ByNames.{outline_faults}
 use Rattle.rdx_parts.specs.NamesAgain.{names_again}
-use Rattle.rdx_parts.specs.Scope.{Scope}
 use Rattle.rdx_parts.specs.StandChecks.{shape_at, repeated_at, bad_name_at, unknown_name_at, mode_fault_at}
 use Rattle.rdx_parts.specs.Stands.{Stand}
 use Rattle.rdx_parts.specs.declared.stands.faults.Check.TheVariants.{Places, Depths, Driving, Escapes}

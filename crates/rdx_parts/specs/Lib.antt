@@ -1,13 +1,3 @@
-pub mod Earliest
-pub mod Bound
-pub mod Scope
-pub mod HostHeads
-pub mod TemplateHeads
-pub mod TemplateShapes
-pub mod TemplateOccurrences
-pub mod TemplateReading
-pub mod TemplateChecks
-pub mod TemplateRefusal
 pub mod Headed
 pub mod Arguments
 pub mod ExtraForms
@@ -22,8 +12,3 @@ pub mod PartsHave
 pub mod ByNames
 pub mod NamesAgain
 pub mod FormRefusals
-pub mod Answers
-pub mod Laws
-pub mod Examples
-pub mod Model
-pub mod Inside

@@ -7,10 +7,10 @@ use Rattle.rdx_patterns.specs.Occurrences.{Occurrence, occurrences}
 use Rattle.rdx_patterns.specs.PatternChecks as patterns
 use Rattle.rdx_patterns.specs.Reading.{reading}
 use Rattle.rdx_patterns.specs.declared.patterns.position.Position.TheVariants.{Query}
+use Rattle.rdx_templates.specs.Scope.{Scope}
 use Rattle.rdx_parts.specs.Arguments.{Arguments}
 use Rattle.rdx_parts.specs.ExtraForms.{ExtraPlace}
 use Rattle.rdx_parts.specs.ExtraReading.{argument_items, list_reading}
-use Rattle.rdx_parts.specs.Scope.{Scope}
 use Rattle.rdx_parts.specs.Stands.{argument_occurrences, bound_among, bound_by_extras}
 
 -- what a case, a clause, a conclusion or a premise takes

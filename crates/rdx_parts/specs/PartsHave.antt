@@ -8,11 +8,11 @@ use Rattle.rdx_lang.specs.WellFormed.{is_well_formed_in}
 use Rattle.rdx_patterns.specs.Parts.{text_of, is_symbol}
 use Rattle.rdx_patterns.specs.PatternChecks as patterns
 use Rattle.rdx_patterns.specs.Readable.{IsReadable}
+use Rattle.rdx_templates.specs.Scope.{Scope}
 use Rattle.rdx_parts.specs.Arguments.{Arguments, patterns_in}
 use Rattle.rdx_parts.specs.ExtraForms.{ExtraForm, such_that, provided, confirmed, holding, freshly, name, no_extra, ExtraPlace, of_rule, form_at}
 use Rattle.rdx_parts.specs.Headed.{Headed, headed}
 use Rattle.rdx_parts.specs.Outlines.{Takes, one, several, each, Branch, RuleBranch, Question, Outline, bound_by_taken, taken_reading}
-use Rattle.rdx_parts.specs.Scope.{Scope}
 use Rattle.rdx_parts.specs.Stands.{premise_arguments}
 
 -- ---- readable data

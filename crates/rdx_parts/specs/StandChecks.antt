@@ -12,13 +12,13 @@ use Rattle.rdx_patterns.specs.PatternChecks.{when, keyword_faults, bad_binders, 
 use Rattle.rdx_patterns.specs.Refusal.{Refusal, unnamed, named_at}
 use Rattle.rdx_patterns.specs.Refusal as refusal
 use Rattle.rdx_patterns.specs.declared.shape.fault.DefKind.TheVariants.{Shape, Duplicate, BadName, BadPattern, EllipsisDepth, UnknownName, EllipsisVariable, RacketEscape, Mode}
-use Rattle.rdx_parts.specs.Bound.{Bound, depth_of}
-use Rattle.rdx_parts.specs.Earliest.{start, earliest}
-use Rattle.rdx_parts.specs.Scope.{Scope, mode_of}
+use Rattle.rdx_templates.specs.Bound.{Bound, depth_of}
+use Rattle.rdx_templates.specs.Earliest.{start, earliest}
+use Rattle.rdx_templates.specs.Scope.{Scope, mode_of}
+use Rattle.rdx_templates.specs.TemplateChecks.{bad_parts, shallow_parts, undriven_parts, escapes}
+use Rattle.rdx_templates.specs.TemplateOccurrences.{template_parts, host_parts}
+use Rattle.rdx_templates.specs.TemplateShapes.{template_shapes, host_shapes}
 use Rattle.rdx_parts.specs.Stands.{Stand, misshaped, function, judgement, asked, arrow, pattern, template, condition, plain, misfit, fresh, named, repeated, bound_among, names_bound}
-use Rattle.rdx_parts.specs.TemplateChecks.{bad_parts, shallow_parts, undriven_parts, escapes}
-use Rattle.rdx_parts.specs.TemplateOccurrences.{template_parts, host_parts}
-use Rattle.rdx_parts.specs.TemplateShapes.{template_shapes, host_shapes}
 
 -- ---- S1, Shape: something has not its shape, a keyword stands in a pattern or a template, an operation has a wrong number of arguments, or a name
 -- stands where none may come

@@ -10,11 +10,11 @@ use Rattle.rdx_patterns.specs.Parts.{text_of}
 use Rattle.rdx_patterns.specs.PatternChecks as patterns
 use Rattle.rdx_patterns.specs.PatternChecks.{all_bound}
 use Rattle.rdx_patterns.specs.declared.patterns.position.Position.TheVariants.{Query}
+use Rattle.rdx_templates.specs.Bound.{Bound}
+use Rattle.rdx_templates.specs.Scope.{Scope, mode_of}
 use Rattle.rdx_parts.specs.Arguments.{Arguments, in_premise, is_misfit, patterns_in}
-use Rattle.rdx_parts.specs.Bound.{Bound}
 use Rattle.rdx_parts.specs.ExtraForms.{ExtraForm, such_that, provided, confirmed, holding, freshly, name, no_extra, ExtraPlace, form_at}
 use Rattle.rdx_parts.specs.Headed.{Headed, headed}
-use Rattle.rdx_parts.specs.Scope.{Scope, mode_of}
 
 -- one thing that stands in such a form
 pub data Stand : Type 0 where

@@ -1,14 +1,14 @@
 // Lists headed by a symbol, and the arguments of conclusions and premises.
 ghost use Rattle.std.specs.Prelude.{◌≡◌, option_map};
+ghost use Rattle.rdx_templates.specs.Scope as scopes;
 ghost use Rattle.rdx_parts.specs.Arguments as model;
 ghost use Rattle.rdx_parts.specs.Headed as headed;
 ghost use Rattle.rdx_parts.specs.PartViews.{arguments_of, headed_of};
-ghost use Rattle.rdx_parts.specs.Scope as scopes;
 ghost use Rattle.rdx_parts.specs.Stands as stands;
 
-use crate::Scope;
 use rdx_patterns::shape::{is_symbol, items, text};
 use rdx_sexp::Datum;
+use rdx_templates::Scope;
 
 /// A list headed by a symbol.
 #[derive(Clone, Copy)]

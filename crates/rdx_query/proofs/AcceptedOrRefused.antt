@@ -17,7 +17,7 @@ use Rattle.rdx_patterns.specs.Unbuilt.{unbuilt_at}
 use Rattle.rdx_grammar.specs.Refused.{recursion_at}
 use Rattle.rdx_patterns.specs.declared.shape.fault.DefKind.TheVariants.{Shape, RacketEscape}
 use Rattle.rdx_patterns.specs.declared.patterns.position.Position.TheVariants as position
-use Rattle.rdx_parts.specs.Earliest.{start}
+use Rattle.rdx_templates.specs.Earliest.{start}
 use Rattle.rdx_parts.specs.Headed.{Headed, headed}
 use Rattle.rdx_defs.specs.JudgementForms.{JudgementForm, judgement_form}
 use Rattle.rdx_defs.specs.JudgementReading.{judgement_reading}
@@ -50,7 +50,7 @@ use Rattle.rdx_query.specs.RelationForms.{relation_names, cases_refusal_over, ba
 use Rattle.rdx_query.specs.StepForms.{StepParts, step_parts, steps_refusal}
 use Rattle.rdx_query.specs.TestForms.{EqualParts, LeadingParts, equal_parts, leading_parts, equal_refusal, leading_refusal}
 use Rattle.rdx_patterns.proofs.Firsts.{none_or}
-use Rattle.rdx_parts.proofs.EarliestPlaces.{earliest-none}
+use Rattle.rdx_templates.proofs.EarliestPlaces.{earliest-none}
 use Rattle.rdx_query.proofs.CheckNumbers.{none-at}
 use Rattle.rdx_query.proofs.FoundByName.{HasValue, mapped, relation-found}
 use Rattle.rdx_query.proofs.OneReading.{accepts-scope, accepts-languages, accepts-ends}

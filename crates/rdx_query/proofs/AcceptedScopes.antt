@@ -21,7 +21,7 @@ use Rattle.rdx_defs.specs.MetafunctionForms.{ClauseForm, clause_form, Metafuncti
 use Rattle.rdx_defs.specs.MetafunctionReading.{text_in}
 use Rattle.rdx_defs.specs.MetafunctionRefusal.{metafunction_refusal}
 use Rattle.rdx_defs.specs.MetafunctionStands.{bound_by_arguments, bound_by_clause, clause_stands, clauses_stand, contract_stands, function_stands}
-use Rattle.rdx_parts.specs.Scope.{Scope, has_metafunction, mode_among, mode_of, callable}
+use Rattle.rdx_templates.specs.Scope.{Scope, has_metafunction, mode_among, mode_of, callable}
 use Rattle.rdx_defs.specs.Scopes.{are_conditions, is_clause_of, function_of_all, metafunction_name, judgement_moded, begins_with, defined_functions, defined_judgements, language_text, defined_languages, languages_in, scope_in}
 use Rattle.rdx_parts.specs.StandChecks.{bad_name, bad_names}
 use Rattle.rdx_parts.specs.Stands.{Stand, misshaped, function, pattern, template, argument_occurrences, names_bound, extras_stand}

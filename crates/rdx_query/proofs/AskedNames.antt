@@ -9,7 +9,7 @@ use Rattle.rdx_lang.proofs.MemberLaws.{in-append}
 use Rattle.rdx_lang.specs.Edges.{IsFree}
 use Rattle.rdx_lang.specs.Programs.{Judgement, Mode, Program, judgement_among, judgement_named}
 use Rattle.rdx_patterns.specs.Nonterminals.{names_of}
-use Rattle.rdx_parts.specs.Scope.{mode_among, mode_of}
+use Rattle.rdx_templates.specs.Scope.{mode_among, mode_of}
 use Rattle.rdx_defs.specs.Scopes.{defined_judgements}
 use Rattle.rdx_eval.specs.Laws.{AreFree}
 use Rattle.rdx_query.specs.Definitions.{Defined, language, metafunction, judgement, relation}

@@ -28,7 +28,7 @@ use Rattle.rdx_parts.specs.PartsHave.{PremiseHas, ExtraHas, ExtrasHave, BranchHa
 use Rattle.rdx_defs.specs.RelationForms.{CaseForm, case_form, RelationForm}
 use Rattle.rdx_defs.specs.RelationReading.{rule_reading, with_rule, rules_reading}
 use Rattle.rdx_defs.specs.RelationStands.{case_stands, cases_stand, domain_stands, expanded_stands, shortcuts_stand}
-use Rattle.rdx_parts.specs.Scope.{Scope}
+use Rattle.rdx_templates.specs.Scope.{Scope}
 use Rattle.rdx_parts.specs.Stands.{template, names_bound, premise_arguments, bound_by_premise, bound_freshly, bound_by_extra, bound_by_extras, extras_stand, bound_in}
 use Rattle.rdx_defs.specs.RelationStands.{bound_by_case}
 use Rattle.rdx_defs.proofs.AlikeSymbols.{alike-none}

@@ -9,20 +9,20 @@ use Rattle.rdx_patterns.specs.PatternChecks as patterns
 use Rattle.rdx_patterns.specs.Reading.{is_pattern}
 use Rattle.rdx_patterns.specs.Refusal.{Refusal, unnamed, or_else}
 use Rattle.rdx_patterns.specs.declared.shape.fault.DefKind.TheVariants.{Shape}
+use Rattle.rdx_templates.specs.Bound.{Bound}
+use Rattle.rdx_templates.specs.Earliest.{start, earliest}
 use Rattle.rdx_parts.specs.Arguments.{is_misfit}
-use Rattle.rdx_parts.specs.Bound.{Bound}
-use Rattle.rdx_parts.specs.Earliest.{start, earliest}
 use Rattle.rdx_parts.specs.ExtraForms as forms
 use Rattle.rdx_parts.specs.ExtraForms.{ExtraForm, such_that, provided, confirmed, holding, freshly, name, no_extra, form_at}
 use Rattle.rdx_parts.specs.Headed.{Headed, headed}
 use Rattle.rdx_defs.specs.JudgementRefusal.{result_stands, lone_premise_stands}
 use Rattle.rdx_defs.specs.MetafunctionForms.{ClauseForm, clause_form, ContractForm, MetafunctionForm}
 use Rattle.rdx_defs.specs.MetafunctionStands.{clause_stands, clauses_stand, contract_stands, patterns_stand, function_stands}
-use Rattle.rdx_parts.specs.Scope.{Scope, mode_of}
+use Rattle.rdx_templates.specs.Scope.{Scope, mode_of}
+use Rattle.rdx_templates.specs.TemplateShapes.{template_shapes, host_shapes}
+use Rattle.rdx_templates.proofs.EarliestPlaces.{earliest-none}
 use Rattle.rdx_parts.specs.StandChecks.{shape_faults, shape_at, repeated_names, repeated_at, repeated_name_at}
 use Rattle.rdx_parts.specs.Stands.{Stand, misshaped, function, judgement, asked, arrow, pattern, template, condition, plain, misfit, fresh, named, repeated, bound_in, plain_argument, flagged_stand, arguments_by, arguments_stand, misfits, names_bound, premise_arguments, held_stands, bound_by_premise, bound_by_extra, extra_stands, is_named, extras_stand}
-use Rattle.rdx_parts.specs.TemplateShapes.{template_shapes, host_shapes}
-use Rattle.rdx_parts.proofs.EarliestPlaces.{earliest-none}
 use Rattle.rdx_defs.proofs.TrackedNames.{MakesNone, clause-none}
 
 -- ---- what stands there

@@ -11,7 +11,7 @@ use Rattle.rdx_patterns.specs.Parts.{parts, text_of}
 use Rattle.rdx_defs.specs.JudgementForms.{JudgementForm, rule_form, judgement_form, judgement_in, own_mode, are_fit_options}
 use Rattle.rdx_defs.specs.JudgementReading.{judgement_reading}
 use Rattle.rdx_defs.specs.MetafunctionReading.{text_in}
-use Rattle.rdx_parts.specs.Scope.{mode_among}
+use Rattle.rdx_templates.specs.Scope.{mode_among}
 use Rattle.rdx_defs.specs.Scopes.{is_rule_of, with_mode, judgement_by as judgement_in_scope, judgement_moded, begins_with, defined_judgements}
 use Rattle.rdx_query.specs.DefineForms.{defined_relation}
 use Rattle.rdx_query.specs.Definitions.{Defined, language, metafunction, judgement, relation}

@@ -32,7 +32,7 @@ use Rattle.rdx_eval.specs.Instantiation.{MakeList}
 use Rattle.rdx_eval.specs.Judgements.{RuleOutputs}
 use Rattle.rdx_eval.specs.Metafunctions.{one_of}
 use Rattle.rdx_eval.specs.Making.{listed, filled, filled_no_context}
-use Rattle.rdx_parts.specs.Scope.{Scope}
+use Rattle.rdx_templates.specs.Scope.{Scope}
 use Rattle.rdx_reduce.specs.Relations.{AreSteps}
 use Rattle.rdx_reduce.specs.Steps.{Step, RuleSteps}
 use Rattle.rdx_answer.proofs.PrintedExamples.{digit_0, digit_1, digit_2, digit_3}

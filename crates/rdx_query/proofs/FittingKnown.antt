@@ -12,7 +12,7 @@ use Rattle.rdx_lang.specs.Programs.{Program, Metafunction, Judgement, Relation, 
 use Rattle.rdx_lang.specs.References.{is_among}
 use Rattle.rdx_lang.specs.WellFormed.{defined}
 use Rattle.rdx_lang.specs.declared.pattern.Ref.TheVariants.{Nt}
-use Rattle.rdx_parts.specs.Scope.{Scope}
+use Rattle.rdx_templates.specs.Scope.{Scope}
 use Rattle.rdx_patterns.specs.Kinds as kinds
 use Rattle.rdx_patterns.specs.Nonterminals.{names_of}
 use Rattle.rdx_patterns.proofs.Among.{is_among-names}

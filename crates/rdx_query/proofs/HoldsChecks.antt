@@ -18,9 +18,9 @@ use Rattle.rdx_defs.specs.Answers.{ReadsPremise}
 use Rattle.rdx_parts.specs.ExtraReading.{premise_reading}
 use Rattle.rdx_parts.specs.Headed.{Headed, headed}
 use Rattle.rdx_defs.specs.JudgementRefusal.{lone_premise_stands, premise_refusal}
-use Rattle.rdx_parts.specs.Scope.{Scope}
+use Rattle.rdx_templates.specs.Scope.{Scope}
+use Rattle.rdx_templates.specs.TemplateReading.{template_reading}
 use Rattle.rdx_parts.specs.Stands.{Stand, names_bound, bound_by_premise}
-use Rattle.rdx_parts.specs.TemplateReading.{template_reading}
 use Rattle.rdx_defs.specs.declared.judgements.premises.ReadPremise.{ReadPremise}
 use Rattle.rdx_patterns.specs.Ends.{ends_in}
 use Rattle.rdx_patterns.specs.Inside.Among.{AreAmong}

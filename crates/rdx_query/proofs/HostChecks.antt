@@ -8,13 +8,13 @@ use Rattle.rdx_patterns.specs.Unbuilt.{has_word_to_come}
 use Rattle.rdx_patterns.specs.declared.shape.fault.DefFault.{DefFault}
 use Rattle.rdx_patterns.specs.declared.shape.fault.DefFault.TheVariants.{Refused, NoMemory}
 use Rattle.rdx_patterns.specs.declared.shape.fault.DefKind.TheVariants.{Shape, BadPattern, EllipsisDepth, EllipsisVariable, RacketEscape}
-use Rattle.rdx_parts.specs.Answers.{ReadsHost}
-use Rattle.rdx_parts.specs.Earliest.{start, earliest}
-use Rattle.rdx_parts.specs.Scope.{Scope}
-use Rattle.rdx_parts.specs.TemplateChecks.{bad_parts, shallow_parts, undriven_parts, escapes}
-use Rattle.rdx_parts.specs.TemplateOccurrences.{TemplatePart, single, repeated, malformed, escape, host_parts}
-use Rattle.rdx_parts.specs.TemplateRefusal.{host_refusal}
-use Rattle.rdx_parts.specs.TemplateShapes.{host_shapes}
+use Rattle.rdx_templates.specs.Answers.{ReadsHost}
+use Rattle.rdx_templates.specs.Earliest.{start, earliest}
+use Rattle.rdx_templates.specs.Scope.{Scope}
+use Rattle.rdx_templates.specs.TemplateChecks.{bad_parts, shallow_parts, undriven_parts, escapes}
+use Rattle.rdx_templates.specs.TemplateOccurrences.{TemplatePart, single, repeated, malformed, escape, host_parts}
+use Rattle.rdx_templates.specs.TemplateRefusal.{host_refusal}
+use Rattle.rdx_templates.specs.TemplateShapes.{host_shapes}
 use Rattle.rdx_query.specs.Inside.Earlier.{IsRefusedBy}
 use Rattle.rdx_query.proofs.CheckNumbers.{or_none, Checks, AreChecks, refused, unnamed-number}
 use Rattle.rdx_query.proofs.FormParts.{unbuilt_at-built}

@@ -20,8 +20,8 @@ use Rattle.rdx_patterns.specs.PatternChecks.{when}
 use Rattle.rdx_patterns.specs.Refusal.{Refusal, named, or_else, first_refusal}
 use Rattle.rdx_patterns.specs.Unbuilt.{unbuilt_at}
 use Rattle.rdx_patterns.specs.declared.shape.fault.DefKind.TheVariants.{UnknownName}
+use Rattle.rdx_templates.specs.Earliest.{start}
 use Rattle.rdx_parts.specs.Arguments.{is_misfit}
-use Rattle.rdx_parts.specs.Earliest.{start}
 use Rattle.rdx_parts.specs.Headed.{Headed, headed}
 use Rattle.rdx_defs.specs.JudgementForms.{JudgementForm, judgement_form}
 use Rattle.rdx_defs.specs.JudgementReading.{judgement_reading}
@@ -30,7 +30,7 @@ use Rattle.rdx_defs.specs.JudgementStands.{judgement_stands}
 use Rattle.rdx_defs.specs.RelationForms.{RelationForm, relation_form}
 use Rattle.rdx_defs.specs.RelationReading.{relation_reading}
 use Rattle.rdx_defs.specs.RelationStands.{relation_stands}
-use Rattle.rdx_parts.specs.Scope.{Scope, mode_of}
+use Rattle.rdx_templates.specs.Scope.{Scope, mode_of}
 use Rattle.rdx_parts.specs.StandChecks.{shape_at, repeated_name_at, bad_name_at, bad_place_at, depth_fault_at, unknown_names, unknown_name_at, undriven_at, escape_at, mode_fault_at}
 use Rattle.rdx_parts.specs.Stands.{Stand, asked, misfits, arguments_stand, names_bound, premise_arguments, held_stands, bound_by_premise}
 use Rattle.rdx_query.specs.ClosureForms.{closed_relation, closure_names, closure_language_at, unknown_closed_at, closure_shape_at, no_nonterminal_at, context_refusal_by, context_relation_by, compatible_refusal_by, compatible_relation_by}
@@ -56,7 +56,7 @@ use Rattle.rdx_query.proofs.ClosureChecks.{language-known, same-language}
 use Rattle.rdx_query.proofs.DefinedJudgements.{judgements_in, mapped-some}
 use Rattle.rdx_query.proofs.FoundByName.{judgement-among}
 use Rattle.rdx_patterns.proofs.Firsts.{none_or}
-use Rattle.rdx_parts.proofs.EarliestPlaces.{earliest-none}
+use Rattle.rdx_templates.proofs.EarliestPlaces.{earliest-none}
 
 -- ---- names stay known
 

@@ -23,8 +23,8 @@ use Rattle.rdx_patterns.specs.declared.shape.fault.DefFault.TheVariants.{Refused
 use Rattle.rdx_patterns.specs.declared.shape.fault.DefKind.TheVariants.{Shape, UnknownLanguage, BadName, BadPattern, EllipsisDepth, RacketEscape}
 use Rattle.rdx_patterns.specs.declared.shape.fault.DefRefusal.{DefRefusal}
 use Rattle.rdx_patterns.specs.declared.patterns.position.Position.TheVariants as position
-use Rattle.rdx_parts.specs.Answers.{ReadsHost}
-use Rattle.rdx_parts.specs.TemplateRefusal.{host_refusal}
+use Rattle.rdx_templates.specs.Answers.{ReadsHost}
+use Rattle.rdx_templates.specs.TemplateRefusal.{host_refusal}
 use Rattle.rdx_query.specs.HostForms.{parts_of_host, host_shape_at, bad_host_at, undriven_host_at, host_escape_at}
 use Rattle.rdx_query.specs.Known.{Known, or_empty}
 use Rattle.rdx_query.specs.LanguageForms.{named_base, unknown_at, unknown_by}

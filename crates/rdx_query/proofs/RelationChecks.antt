@@ -29,7 +29,7 @@ use Rattle.rdx_defs.specs.RelationForms.{RelationForm, is_keyword, may_name, rel
 use Rattle.rdx_defs.specs.RelationReading.{relation_reading}
 use Rattle.rdx_defs.specs.RelationRefusal.{relation_refusal}
 use Rattle.rdx_defs.specs.RelationStands.{relation_stands}
-use Rattle.rdx_parts.specs.Scope.{Scope}
+use Rattle.rdx_templates.specs.Scope.{Scope}
 use Rattle.rdx_parts.specs.StandRefusal.{stands_refusal}
 use Rattle.rdx_parts.specs.Stands.{Stand}
 use Rattle.rdx_query.specs.DefineForms.{define_refusal, define_refusal_by, defined_relation, relation_by}

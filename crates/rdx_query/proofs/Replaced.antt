@@ -5,7 +5,7 @@ use Rattle.rdx_lang.specs.Patterns.{Language}
 use Rattle.rdx_lang.specs.ProgramView.{program_of}
 use Rattle.rdx_lang.specs.Programs.{Program}
 use Rattle.rdx_lang.specs.declared.checked.CheckedLang.{CheckedLang}
-use Rattle.rdx_parts.specs.Scope.{scope_of}
+use Rattle.rdx_templates.specs.Scope.{scope_of}
 use Rattle.rdx_query.specs.Inside.KnownView.{known_of}
 use Rattle.rdx_query.specs.Inside.Tabled.{AreTabled}
 use Rattle.rdx_query.specs.Known as model

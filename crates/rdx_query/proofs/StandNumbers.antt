@@ -4,7 +4,7 @@ use Rattle.std.specs.Prelude.{option_map}
 use Rattle.rdx_sexp.specs.Sexp.{Sexp}
 use Rattle.rdx_patterns.specs.Refusal.{Refusal}
 use Rattle.rdx_patterns.specs.declared.shape.fault.DefKind.TheVariants.{Shape, BadName, BadPattern, EllipsisDepth, UnknownName, EllipsisVariable, RacketEscape}
-use Rattle.rdx_parts.specs.Scope.{Scope}
+use Rattle.rdx_templates.specs.Scope.{Scope}
 use Rattle.rdx_parts.specs.StandChecks.{shape_at, repeated_at, repeated_name_at, bad_name_at, bad_place_at, depth_fault_at, unknown_name_at, undriven_at, escape_at, misfit_at, mode_fault_at}
 use Rattle.rdx_parts.specs.StandRefusal.{stands_refusal}
 use Rattle.rdx_parts.specs.Stands.{Stand}

@@ -13,8 +13,8 @@ use Rattle.rdx_patterns.specs.Unbuilt.{has_word_to_come}
 use Rattle.rdx_patterns.specs.declared.shape.fault.DefFault.{DefFault}
 use Rattle.rdx_patterns.specs.declared.shape.fault.DefFault.TheVariants.{Refused, NoMemory}
 use Rattle.rdx_patterns.specs.declared.shape.fault.DefKind.TheVariants.{UnknownName}
-use Rattle.rdx_parts.specs.Answers.{ReadsHost}
-use Rattle.rdx_parts.specs.TemplateRefusal.{host_refusal}
+use Rattle.rdx_templates.specs.Answers.{ReadsHost}
+use Rattle.rdx_templates.specs.TemplateRefusal.{host_refusal}
 use Rattle.rdx_query.specs.HostForms.{parts_of_host, host_of_datum, bad_host_at, undriven_host_at, host_escape_at}
 use Rattle.rdx_query.specs.Known.{Known}
 use Rattle.rdx_query.specs.StepForms.{StepParts, step_parts, steps_shape_at, unknown_relation_by, unknown_relation_at, steps_refusal}

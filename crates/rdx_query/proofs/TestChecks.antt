@@ -14,13 +14,13 @@ use Rattle.rdx_patterns.specs.Unbuilt.{has_word_to_come}
 use Rattle.rdx_patterns.specs.declared.shape.fault.DefFault.{DefFault}
 use Rattle.rdx_patterns.specs.declared.shape.fault.DefKind.TheVariants.{Shape, BadPattern, UnknownName, EllipsisVariable, RacketEscape}
 use Rattle.rdx_patterns.specs.declared.shape.fault.DefRefusal.{DefRefusal}
-use Rattle.rdx_parts.specs.Answers.{ReadsHost}
-use Rattle.rdx_parts.specs.Earliest.{start, earliest}
-use Rattle.rdx_parts.specs.Scope.{Scope}
-use Rattle.rdx_parts.specs.TemplateChecks.{bad_parts, undriven_parts, escapes}
-use Rattle.rdx_parts.specs.TemplateReading.{host_reading}
-use Rattle.rdx_parts.specs.TemplateRefusal.{host_refusal}
-use Rattle.rdx_parts.specs.TemplateShapes.{host_shapes}
+use Rattle.rdx_templates.specs.Answers.{ReadsHost}
+use Rattle.rdx_templates.specs.Earliest.{start, earliest}
+use Rattle.rdx_templates.specs.Scope.{Scope}
+use Rattle.rdx_templates.specs.TemplateChecks.{bad_parts, undriven_parts, escapes}
+use Rattle.rdx_templates.specs.TemplateReading.{host_reading}
+use Rattle.rdx_templates.specs.TemplateRefusal.{host_refusal}
+use Rattle.rdx_templates.specs.TemplateShapes.{host_shapes}
 use Rattle.rdx_query.specs.HostForms.{parts_of_host, host_of_datum, host_shape_at, bad_host_at, undriven_host_at, host_escape_at}
 use Rattle.rdx_query.specs.Known.{Known}
 use Rattle.rdx_answer.specs.Queries.{test_equal}

@@ -26,20 +26,20 @@ use Rattle.rdx_patterns.specs.Refusal.{unnamed, named, or_else}
 use Rattle.rdx_patterns.specs.Unbuilt.{unbuilt_at}
 use Rattle.rdx_patterns.specs.declared.patterns.position.Position.TheVariants as position
 use Rattle.rdx_patterns.specs.declared.shape.fault.DefKind.TheVariants.{Shape, BadPattern, EllipsisDepth, EllipsisVariable}
-use Rattle.rdx_parts.specs.Earliest.{start, earliest}
+use Rattle.rdx_templates.specs.Earliest.{start, earliest}
 use Rattle.rdx_parts.specs.ExtraReading.{premise_reading}
 use Rattle.rdx_parts.specs.Headed.{Headed, headed}
 use Rattle.rdx_parts.specs.PartsHave.{IsReadableIn}
 use Rattle.rdx_defs.specs.JudgementRefusal.{lone_premise_stands, premise_refusal}
-use Rattle.rdx_parts.specs.Scope.{mode_of, callable, has_metafunction}
+use Rattle.rdx_templates.specs.Scope.{mode_of, callable, has_metafunction}
+use Rattle.rdx_templates.specs.TemplateChecks.{bad_parts, shallow_parts, undriven_parts}
+use Rattle.rdx_templates.specs.TemplateOccurrences.{host_parts}
+use Rattle.rdx_templates.specs.TemplateReading.{template_reading}
+use Rattle.rdx_templates.specs.TemplateShapes.{host_shapes}
+use Rattle.rdx_templates.proofs.EarliestPlaces.{earliest-none}
 use Rattle.rdx_parts.specs.StandChecks.{shape_at}
 use Rattle.rdx_parts.specs.StandRefusal.{stands_refusal}
 use Rattle.rdx_parts.specs.Stands.{names_bound, bound_by_premise}
-use Rattle.rdx_parts.specs.TemplateChecks.{bad_parts, shallow_parts, undriven_parts}
-use Rattle.rdx_parts.specs.TemplateOccurrences.{host_parts}
-use Rattle.rdx_parts.specs.TemplateReading.{template_reading}
-use Rattle.rdx_parts.specs.TemplateShapes.{host_shapes}
-use Rattle.rdx_parts.proofs.EarliestPlaces.{earliest-none}
 use Rattle.rdx_defs.proofs.PassedForms.{question-valid}
 use Rattle.rdx_defs.proofs.PassedStands.{host-uses}
 use Rattle.rdx_query.specs.File.{Asks}

@@ -47,7 +47,7 @@ use Rattle.rdx_defs.specs.RelationEnds.{expanded_ends, ends_by}
 use Rattle.rdx_defs.specs.RelationForms.{RelationForm}
 use Rattle.rdx_defs.specs.RelationReading.{rules_reading}
 use Rattle.rdx_defs.specs.RelationStands.{relation_stands}
-use Rattle.rdx_parts.specs.Scope.{Scope, callable}
+use Rattle.rdx_templates.specs.Scope.{Scope, callable}
 use Rattle.rdx_defs.specs.Shorthand.{behind_with}
 use Rattle.rdx_parts.specs.StandRefusal.{stands_refusal}
 use Rattle.rdx_defs.proofs.AskingParts.{AsksWithin, TakenWithin, within-inherited, BindsWithin, binds-within}

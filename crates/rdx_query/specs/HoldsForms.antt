@@ -13,9 +13,9 @@ use Rattle.rdx_patterns.specs.declared.shape.fault.DefKind.TheVariants.{Shape, U
 use Rattle.rdx_parts.specs.ExtraReading.{premise_reading}
 use Rattle.rdx_parts.specs.Headed.{Headed, headed}
 use Rattle.rdx_defs.specs.JudgementRefusal.{lone_premise_stands}
+use Rattle.rdx_templates.specs.TemplateReading.{template_reading}
 use Rattle.rdx_parts.specs.StandChecks.{shape_at, bad_name_at, bad_place_at, depth_fault_at, unknown_name_at, undriven_at, escape_at, mode_fault_at}
 use Rattle.rdx_parts.specs.Stands.{Stand, names_bound, bound_by_premise}
-use Rattle.rdx_parts.specs.TemplateReading.{template_reading}
 use Rattle.rdx_query.specs.Known.{Known, judgement_language, or_empty}
 use Rattle.rdx_answer.specs.Queries.{Query, holds, test_holds}
 

@@ -4,12 +4,12 @@ use Rattle.rdx_sexp.specs.Sexp.{Sexp}
 use Rattle.rdx_lang.specs.Templates.{Host}
 use Rattle.rdx_patterns.specs.Refusal.{Refusal, unnamed}
 use Rattle.rdx_patterns.specs.declared.shape.fault.DefKind.TheVariants.{Shape, BadPattern, EllipsisVariable, RacketEscape}
-use Rattle.rdx_parts.specs.Earliest.{start, earliest}
-use Rattle.rdx_parts.specs.TemplateChecks.{bad_parts, undriven_parts, escapes}
-use Rattle.rdx_parts.specs.TemplateOccurrences.{TemplatePart, host_parts}
-use Rattle.rdx_parts.specs.TemplateReading.{host_reading}
-use Rattle.rdx_parts.specs.TemplateRefusal.{host_refusal}
-use Rattle.rdx_parts.specs.TemplateShapes.{host_shapes}
+use Rattle.rdx_templates.specs.Earliest.{start, earliest}
+use Rattle.rdx_templates.specs.TemplateChecks.{bad_parts, undriven_parts, escapes}
+use Rattle.rdx_templates.specs.TemplateOccurrences.{TemplatePart, host_parts}
+use Rattle.rdx_templates.specs.TemplateReading.{host_reading}
+use Rattle.rdx_templates.specs.TemplateRefusal.{host_refusal}
+use Rattle.rdx_templates.specs.TemplateShapes.{host_shapes}
 use Rattle.rdx_query.specs.Known.{Known}
 use Rattle.rdx_answer.specs.Queries.{Query, value}
 

@@ -4,7 +4,7 @@ use Rattle.rdx_lang.specs.Patterns.{Language}
 use Rattle.rdx_lang.specs.Programs.{Program, language_named, metafunction_named, judgement_named, relation_named}
 use Rattle.rdx_patterns.specs.Ends.{crossed_for}
 use Rattle.rdx_grammar.specs.Languages.{empty_language}
-use Rattle.rdx_parts.specs.Scope.{Scope}
+use Rattle.rdx_templates.specs.Scope.{Scope}
 use Rattle.rdx_query.specs.Definitions.{Defined, language, metafunction, judgement, relation}
 
 -- the scope of the file, the names of its judgements with those of their languages, the nonterminals to which it asks for cross nonterminals,

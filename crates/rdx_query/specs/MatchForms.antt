@@ -12,7 +12,7 @@ use Rattle.rdx_patterns.specs.Unbuilt.{unbuilt_at}
 use Rattle.rdx_patterns.specs.Occurrences.{Occurrence, occurrences}
 use Rattle.rdx_patterns.specs.declared.shape.fault.DefKind.TheVariants.{Shape}
 use Rattle.rdx_patterns.specs.declared.patterns.position.Position.TheVariants as position
-use Rattle.rdx_parts.specs.TemplateOccurrences.{TemplatePart}
+use Rattle.rdx_templates.specs.TemplateOccurrences.{TemplatePart}
 use Rattle.rdx_query.specs.HostForms.{parts_of_host, host_of_datum, host_shape_at, bad_host_at, undriven_host_at, host_escape_at}
 use Rattle.rdx_query.specs.Known.{Known}
 use Rattle.rdx_query.specs.LanguageForms.{named_base, unknown_at}

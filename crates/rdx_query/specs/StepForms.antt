@@ -7,7 +7,7 @@ use Rattle.rdx_patterns.specs.Parts.{parts, is_symbol, text_of}
 use Rattle.rdx_patterns.specs.Refusal.{Refusal, unnamed, named, first_refusal}
 use Rattle.rdx_patterns.specs.Unbuilt.{unbuilt_at}
 use Rattle.rdx_patterns.specs.declared.shape.fault.DefKind.TheVariants.{Shape, UnknownName}
-use Rattle.rdx_parts.specs.TemplateOccurrences.{TemplatePart}
+use Rattle.rdx_templates.specs.TemplateOccurrences.{TemplatePart}
 use Rattle.rdx_query.specs.HostForms.{parts_of_host, host_of_datum, host_shape_at, bad_host_at, undriven_host_at, host_escape_at}
 use Rattle.rdx_query.specs.Known.{Known}
 use Rattle.rdx_answer.specs.Queries.{Query}

@@ -3,8 +3,8 @@ ghost use Rattle.std.specs.Prelude.{◌≡◌, ◌<◌, [], length, get_or, opti
 ghost use Rattle.rdx_lang.specs.Checked.{language_in};
 ghost use Rattle.rdx_lang.specs.declared.checked.CheckedLang.{CheckedLang};
 ghost use Rattle.rdx_defs.specs.Answers.{ReadsPremise};
+ghost use Rattle.rdx_templates.specs.Scope.{scope_of};
 ghost use Rattle.rdx_parts.specs.Headed.{headed};
-ghost use Rattle.rdx_parts.specs.Scope.{scope_of};
 ghost use Rattle.rdx_patterns.specs.Nonterminals.{names_of};
 ghost use Rattle.rdx_patterns.specs.Readable.{IsReadable};
 ghost use Rattle.rdx_patterns.specs.Refusal.{refusal_of};

@@ -1,13 +1,13 @@
 // Host expressions in queries, and forms that are one.
 ghost use Rattle.std.specs.Prelude.{[]};
 ghost use Rattle.rdx_patterns.specs.Readable.{IsReadable};
-ghost use Rattle.rdx_parts.specs.Answers.{ReadsHost};
-ghost use Rattle.rdx_parts.specs.Scope.{scope_of};
+ghost use Rattle.rdx_templates.specs.Answers.{ReadsHost};
+ghost use Rattle.rdx_templates.specs.Scope.{scope_of};
 
 use rdx_lang::HostExpr;
-use rdx_parts::{Scope, read_host};
 use rdx_patterns::DefFault;
 use rdx_sexp::Datum;
+use rdx_templates::{Scope, read_host};
 use std::alloc::Global;
 
 /// The host expression of a datum in a file of this scope, where no name is bound.

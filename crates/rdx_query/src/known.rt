@@ -5,7 +5,7 @@ ghost use Rattle.rdx_query.specs.Inside.Tabled.{AreTabled, FindsFirsts};
 
 use crate::tables::Tables;
 use rdx_lang::Program;
-use rdx_parts::Scope;
+use rdx_templates::Scope;
 use rdx_term::Name;
 
 /// What the whole file defines, and what the forms before a form define, with tables by which it is

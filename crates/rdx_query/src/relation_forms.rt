@@ -5,7 +5,7 @@ ghost use Rattle.rdx_lang.specs.Patterns.{Language};
 ghost use Rattle.rdx_lang.specs.ProgramView.{relation_of};
 ghost use Rattle.rdx_defs.specs.Answers.{ReadsRelation};
 ghost use Rattle.rdx_defs.specs.RelationEnds.{relation_ends};
-ghost use Rattle.rdx_parts.specs.Scope.{scope_of};
+ghost use Rattle.rdx_templates.specs.Scope.{scope_of};
 ghost use Rattle.rdx_patterns.specs.Names as names;
 ghost use Rattle.rdx_patterns.specs.Nonterminals.{names_of};
 ghost use Rattle.rdx_patterns.specs.Parts.{is_symbol, text_of};

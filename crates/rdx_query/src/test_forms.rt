@@ -2,7 +2,7 @@
 ghost use Rattle.std.specs.Prelude.{◌≡◌, Some, option_map};
 ghost use Rattle.rdx_patterns.specs.Refusal.{refusal_of};
 ghost use Rattle.rdx_patterns.specs.Readable.{IsReadable};
-ghost use Rattle.rdx_parts.specs.Scope.{scope_of};
+ghost use Rattle.rdx_templates.specs.Scope.{scope_of};
 ghost use Rattle.rdx_query.specs.Inside.Asking.{AreReadable, EqualAskedBy, EqualFitsBy, LeadingAskedBy, LeadingFitsBy, ReadsHosts};
 ghost use Rattle.rdx_query.specs.Inside.Earlier as refusals;
 ghost use Rattle.rdx_query.specs.Inside.Earlier.{IsRefusedBy};
@@ -16,12 +16,12 @@ use crate::lookup::relation_named;
 use crate::parts::{EqualParts, LeadingParts, equal_parts, leading_parts};
 use crate::refusals::misshaped;
 use rdx_lang::HostExpr;
-use rdx_parts::Scope;
 use rdx_patterns::refusal::{named, unnamed};
 use rdx_patterns::shape::{items, text};
 use rdx_patterns::unbuilt::has_word_to_come;
 use rdx_patterns::{DefFault, DefKind, DefRefusal};
 use rdx_sexp::Datum;
+use rdx_templates::Scope;
 use rdx_term::Name;
 use std::alloc::Global;
 

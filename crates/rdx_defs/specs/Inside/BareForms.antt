@@ -12,7 +12,7 @@ use Rattle.rdx_defs.specs.MetafunctionForms.{ClauseForm, clause_form, Metafuncti
 use Rattle.rdx_defs.specs.MetafunctionReading.{text_in}
 use Rattle.rdx_defs.specs.RelationForms.{CaseForm, case_form, RelationForm}
 use Rattle.rdx_defs.specs.RelationStands.{domain_stands, shortcuts_stand}
-use Rattle.rdx_parts.specs.Scope.{Scope}
+use Rattle.rdx_templates.specs.Scope.{Scope}
 use Rattle.rdx_parts.specs.Stands.{Stand, misshaped, function, arrow, template, misfits}
 use Rattle.rdx_parts.specs.BareStands.{lone_pattern, arguments_stand, held_stands, extras_stand, branch_stands}
 

@@ -8,9 +8,9 @@ use Rattle.rdx_parts.specs.Outlines.{Branch, bound_by_taken, bound_by_branch, ta
 use Rattle.rdx_defs.specs.MetafunctionForms.{MetafunctionForm}
 use Rattle.rdx_defs.specs.MetafunctionReading.{contract_reading}
 use Rattle.rdx_defs.specs.RelationReading.{first_name}
-use Rattle.rdx_parts.specs.Scope.{Scope}
+use Rattle.rdx_templates.specs.Scope.{Scope}
+use Rattle.rdx_templates.specs.TemplateReading.{template_reading}
 use Rattle.rdx_parts.specs.Stands.{names_bound}
-use Rattle.rdx_parts.specs.TemplateReading.{template_reading}
 
 -- the rule of a case
 abbrev pub branch_rule : Scope → List (List ℕ) → Branch → Rule

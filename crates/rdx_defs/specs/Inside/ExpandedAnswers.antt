@@ -9,7 +9,7 @@ use Rattle.rdx_patterns.specs.declared.shape.fault.DefFault.TheVariants.{Refused
 use Rattle.rdx_defs.specs.RelationForms.{RelationForm}
 use Rattle.rdx_defs.specs.RelationReading.{expanded_reading}
 use Rattle.rdx_defs.specs.RelationStands.{expanded_stands, shortcuts_stand}
-use Rattle.rdx_parts.specs.Scope.{Scope}
+use Rattle.rdx_templates.specs.Scope.{Scope}
 use Rattle.rdx_parts.specs.StandRefusal.{stands_refusal}
 
 -- the refusal of one with these parts, which was written with these shortcuts

@@ -8,18 +8,18 @@ ghost use Rattle.rdx_patterns.specs.Nonterminals.{names_of};
 ghost use Rattle.rdx_patterns.specs.Readable.{IsReadable};
 ghost use Rattle.rdx_defs.specs.Answers.{ReadsJudgement};
 ghost use Rattle.rdx_defs.specs.JudgementForms as forms;
-ghost use Rattle.rdx_parts.specs.Scope.{callable, scope_of};
+ghost use Rattle.rdx_templates.specs.Scope.{callable, scope_of};
 
 use crate::crosses::add_asked;
 use crate::judgements::forms::{judgement_form, judgement_in, own_mode};
 use crate::judgements::readings::read_parts;
 use crate::judgements::refusals::refuse_judgement;
 use rdx_lang::{CheckedLang, Judgement};
-use rdx_parts::Scope;
 use rdx_patterns::refusal::unnamed;
 use rdx_patterns::unbuilt::has_word_to_come;
 use rdx_patterns::{DefFault, DefKind, Names};
 use rdx_sexp::Datum;
+use rdx_templates::Scope;
 use std::alloc::Global;
 
 /// The name that a `define-judgment-form` form gives its judgement, in its mode, where the form has

@@ -19,14 +19,13 @@ ghost use Rattle.rdx_parts.specs.PartsHave.{RuleHas, RulesHave, can_bind, can_re
 ghost use Rattle.rdx_defs.specs.JudgementForms as forms;
 ghost use Rattle.rdx_defs.specs.JudgementReading as model;
 ghost use Rattle.rdx_defs.specs.MetafunctionReading.{closed_items};
-ghost use Rattle.rdx_parts.specs.Scope.{scope_of};
+ghost use Rattle.rdx_templates.specs.Scope.{scope_of};
 ghost use Rattle.rdx_parts.specs.StandChecks as checks;
 
 use crate::judgements::forms::{
     JudgementForm, RuleForm, contract_form, judgement_in, own_rule, rule_branch,
 };
 use rdx_lang::{CheckedLang, CheckedPat, Extra, Item, JRule, Judgement, Pat, Template};
-use rdx_parts::Scope;
 use rdx_parts::arguments::Headed;
 use rdx_parts::branches::RuleBranch;
 use rdx_parts::extras::ExtraPlace;
@@ -35,6 +34,7 @@ use rdx_parts::stands::names::{input_names, rule_names};
 use rdx_parts::stands::readings::{read_extras, read_patterns, read_templates};
 use rdx_patterns::{Names, Position, readings, symbol_name};
 use rdx_sexp::Datum;
+use rdx_templates::Scope;
 use rdx_term::{Name, NoMemory};
 use std::alloc::Global;
 use std::rc::RcStr;

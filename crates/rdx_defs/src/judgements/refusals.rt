@@ -7,16 +7,16 @@ ghost use Rattle.rdx_defs.specs.Inside.FormViews.{judgement_form_of};
 ghost use Rattle.rdx_parts.specs.PartsHave.{IsReadableIn};
 ghost use Rattle.rdx_defs.specs.JudgementForms as forms;
 ghost use Rattle.rdx_defs.specs.JudgementRefusal.{judgement_refusal, premise_refusal};
-ghost use Rattle.rdx_parts.specs.Scope.{scope_of};
+ghost use Rattle.rdx_templates.specs.Scope.{scope_of};
 
 use crate::judgements::forms::JudgementForm;
 use crate::judgements::stands::{
     judgement_outline, judgement_stands, question_outline, question_stands,
 };
-use rdx_parts::Scope;
 use rdx_parts::stands::refusals::refuse_parts;
 use rdx_patterns::{DefRefusal, Names};
 use rdx_sexp::Datum;
+use rdx_templates::Scope;
 use rdx_term::NoMemory;
 use std::alloc::Global;
 

@@ -10,7 +10,7 @@ ghost use Rattle.rdx_parts.specs.PartViews.{headed_of, outline_of, rule_branch_o
 ghost use Rattle.rdx_parts.specs.PartsHave.{AreReadable, ExtrasHave, OutlineHas, RuleHas, RulesHave, readable};
 ghost use Rattle.rdx_defs.specs.JudgementForms as forms;
 ghost use Rattle.rdx_defs.specs.JudgementStands as model;
-ghost use Rattle.rdx_parts.specs.Scope.{scope_of};
+ghost use Rattle.rdx_templates.specs.Scope.{scope_of};
 ghost use Rattle.rdx_parts.specs.Stands.{misshaped};
 
 use crate::judgements::forms::{
@@ -18,7 +18,6 @@ use crate::judgements::forms::{
     next_option, own_rule, rule_branch,
 };
 use crate::relations::forms::is_keyword;
-use rdx_parts::Scope;
 use rdx_parts::arguments::{Headed, headed_list, in_conclusion, is_misfit};
 use rdx_parts::branches::{Outline, Question, RuleBranch};
 use rdx_parts::extras::ExtraPlace;
@@ -26,6 +25,7 @@ use rdx_parts::stands::collecting::{
     Stand, add_alone, add_arguments, add_extras, add_held, add_misfit,
 };
 use rdx_sexp::Datum;
+use rdx_templates::Scope;
 use rdx_term::NoMemory;
 use std::alloc::Global;
 

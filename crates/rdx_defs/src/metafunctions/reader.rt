@@ -7,19 +7,19 @@ ghost use Rattle.rdx_patterns.specs.Ends.{Gained, ends_in};
 ghost use Rattle.rdx_patterns.specs.Nonterminals.{names_of};
 ghost use Rattle.rdx_patterns.specs.Readable.{IsReadable};
 ghost use Rattle.rdx_defs.specs.Answers.{ReadsMetafunction};
-ghost use Rattle.rdx_parts.specs.Scope.{callable, scope_of};
+ghost use Rattle.rdx_templates.specs.Scope.{callable, scope_of};
 
 use crate::crosses::add_asked;
 use crate::metafunctions::forms::{function_in, metafunction_form};
 use crate::metafunctions::readings::read_parts;
 use crate::metafunctions::stands::{function_stands, metafunction_outline};
 use rdx_lang::{CheckedLang, Metafunction};
-use rdx_parts::Scope;
 use rdx_parts::stands::refusals::refuse_parts;
 use rdx_patterns::refusal::unnamed;
 use rdx_patterns::unbuilt::has_word_to_come;
 use rdx_patterns::{DefFault, DefKind, Names};
 use rdx_sexp::Datum;
+use rdx_templates::Scope;
 use std::alloc::Global;
 
 /// As [`read_metafunction`], over a language with nonterminals of these names.

@@ -11,15 +11,15 @@ ghost use Rattle.rdx_defs.specs.Inside.FormViews.{contract_form_of, metafunction
 ghost use Rattle.rdx_parts.specs.PartViews.{branch_of, outline_of};
 ghost use Rattle.rdx_parts.specs.PartsHave.{BranchHas, BranchesHave, can_read};
 ghost use Rattle.rdx_defs.specs.MetafunctionReading as model;
-ghost use Rattle.rdx_parts.specs.Scope.{scope_of};
+ghost use Rattle.rdx_templates.specs.Scope.{scope_of};
 
 use crate::metafunctions::forms::{ContractForm, MetafunctionForm};
 use rdx_lang::{CheckedLang, CheckedPat, Clause, Item, Metafunction, Pat};
-use rdx_parts::Scope;
 use rdx_parts::branches::{Branch, Outline};
 use rdx_parts::stands::readings::read_branch;
 use rdx_patterns::{Names, Position, readings, symbol_name};
 use rdx_sexp::Datum;
+use rdx_templates::Scope;
 use rdx_term::{Name, NoMemory};
 use std::alloc::Global;
 

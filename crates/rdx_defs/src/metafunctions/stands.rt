@@ -10,16 +10,16 @@ ghost use Rattle.rdx_defs.specs.Inside.FormViews.{contract_form_of, metafunction
 ghost use Rattle.rdx_parts.specs.PartViews.{branch_of, outline_of, stands_of};
 ghost use Rattle.rdx_parts.specs.PartsHave.{AreReadable};
 ghost use Rattle.rdx_defs.specs.MetafunctionForms as forms;
-ghost use Rattle.rdx_parts.specs.Scope.{scope_of};
+ghost use Rattle.rdx_templates.specs.Scope.{scope_of};
 
 use crate::metafunctions::forms::{
     ContractForm, MetafunctionForm, clause_branch, clause_of, text_in,
 };
-use rdx_parts::Scope;
 use rdx_parts::branches::{Branch, Outline};
 use rdx_parts::stands::collecting::{Stand, add_alone, add_branch};
 use rdx_patterns::heads::{Roles, is_pattern, next, rest};
 use rdx_sexp::Datum;
+use rdx_templates::Scope;
 use rdx_term::NoMemory;
 use std::alloc::Global;
 

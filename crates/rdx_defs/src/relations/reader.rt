@@ -15,7 +15,7 @@ ghost use Rattle.rdx_defs.specs.Inside.FormViews.{relation_form_of};
 ghost use Rattle.rdx_parts.specs.PartViews.{outline_of};
 ghost use Rattle.rdx_parts.specs.PartsHave.{AreReadable};
 ghost use Rattle.rdx_defs.specs.RelationEnds.{expanded_ends, relation_ends};
-ghost use Rattle.rdx_parts.specs.Scope.{callable, scope_of};
+ghost use Rattle.rdx_templates.specs.Scope.{callable, scope_of};
 
 use crate::relations::ends::add_ends_of;
 use crate::relations::forms::{RelationForm, relation_form};
@@ -24,13 +24,13 @@ use crate::relations::stands::{relation_outline, relation_stands};
 use crate::shorthand::expanding::expanded_cases;
 use crate::shorthand::forms::cut_at_with;
 use rdx_lang::{CheckedLang, Relation};
-use rdx_parts::Scope;
 use rdx_parts::branches::Outline;
 use rdx_parts::stands::refusals::refuse_parts;
 use rdx_patterns::refusal::unnamed;
 use rdx_patterns::unbuilt::has_word_to_come;
 use rdx_patterns::{DefFault, DefKind, Names};
 use rdx_sexp::Datum;
+use rdx_templates::Scope;
 use rdx_term::Name;
 use std::alloc::Global;
 

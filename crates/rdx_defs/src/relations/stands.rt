@@ -11,16 +11,16 @@ ghost use Rattle.rdx_defs.specs.Inside.ShortcutViews.{shortcut_of};
 ghost use Rattle.rdx_defs.specs.RelationForms as forms;
 ghost use Rattle.rdx_defs.specs.RelationStands as model;
 ghost use Rattle.rdx_defs.specs.Shorthand as shorthand;
-ghost use Rattle.rdx_parts.specs.Scope.{scope_of};
+ghost use Rattle.rdx_templates.specs.Scope.{scope_of};
 
 use crate::relations::forms::{RelationForm, case_branch, case_form};
 use crate::shorthand::checks::{is_known, was_seen};
 use crate::shorthand::forms::{Shortcut, shortcut_form};
-use rdx_parts::Scope;
 use rdx_parts::branches::{Branch, Outline};
 use rdx_parts::stands::collecting::{Stand, add_alone, add_branch};
 use rdx_patterns::shape::text;
 use rdx_sexp::Datum;
+use rdx_templates::Scope;
 use rdx_term::NoMemory;
 use std::alloc::Global;
 use std::collections::BTreeSet;

@@ -2,25 +2,25 @@
 ghost use Rattle.std.specs.Prelude.{◌≡◌, ◌++◌, [], IfOk, option_map};
 ghost use Rattle.rdx_patterns.specs.Inside.Repeats.{texts_in, HaveSame};
 ghost use Rattle.rdx_patterns.specs.OccurrenceView.{occurrences_of};
-ghost use Rattle.rdx_parts.specs.Earliest.{earliest, lesser, start};
+ghost use Rattle.rdx_templates.specs.Earliest.{earliest, lesser, start};
+ghost use Rattle.rdx_templates.specs.Scope.{scope_of};
 ghost use Rattle.rdx_parts.specs.PartViews.{misfit_of, stand_of, stands_of};
 ghost use Rattle.rdx_parts.specs.NamesAgain as repeats;
-ghost use Rattle.rdx_parts.specs.Scope.{scope_of};
 ghost use Rattle.rdx_parts.specs.StandChecks as model;
 ghost use Rattle.rdx_parts.specs.Stands.{bound_among};
 
-use crate::Scope;
 use crate::arguments::mode_of;
-use crate::earliest::{earlier, is_before};
 use crate::stands::collecting::Stand;
 use crate::stands::patterns::{earliest_bad_binder, earliest_keyword};
-use crate::templates::shapes::{shape_in_host, shape_in_template};
 use rdx_patterns::checks::{bound_by, when};
 use rdx_patterns::names::{begins_with_dots, is_bad_name};
 use rdx_patterns::occurrences::Occurrence;
 use rdx_patterns::shape::{is_word, text};
 use rdx_patterns::{Names, Position};
 use rdx_sexp::{Datum, Form};
+use rdx_templates::Scope;
+use rdx_templates::earliest::{earlier, is_before};
+use rdx_templates::templates::shapes::{shape_in_host, shape_in_template};
 use rdx_term::NoMemory;
 use std::alloc::Global;
 use std::collections::BTreeSet;
@@ -46,7 +46,7 @@ fn shape_fault<'a>(s: &Stand<'a>) -> Option<&'a Datum>
 
 /// The earliest thing that has not its shape, keyword in a pattern or a template, operation with a
 /// wrong number of arguments, or name where none may come.
-#[tactic(auto, using(std::proofs::lemmas::Grind::common_steps, crate::proofs::EarliestPlaces::lesser_assoc, crate::proofs::EarliestPlaces::lesser_none, crate::proofs::EarliestPlaces::earliest_append))]
+#[tactic(auto, using(std::proofs::lemmas::Grind::common_steps, rdx_templates::proofs::EarliestPlaces::lesser_assoc, rdx_templates::proofs::EarliestPlaces::lesser_none, rdx_templates::proofs::EarliestPlaces::earliest_append))]
 pub(crate) fn earliest_shape_fault<'a>(found: &[Stand<'a>]) -> Option<&'a Datum>
     ensures { option_map (λ d. d.now) result
         ≡ earliest start (model.shape_faults (stands_of found.now)) }
@@ -136,7 +136,7 @@ fn name_again<'a>(
 
 /// The earliest name of a case or a rule that an earlier one has, or name that is made and is bound
 /// before.
-#[tactic(auto, using(crate::proofs::EarliestPlaces::lesser_none))]
+#[tactic(auto, using(rdx_templates::proofs::EarliestPlaces::lesser_none))]
 pub(crate) fn earliest_repeated<'a>(
     alloc: Global,
     names: &Names,
@@ -182,7 +182,7 @@ fn bad_name<'a>(s: &Stand<'a>) -> Option<&'a Datum>
 }
 
 /// The earliest name that a metafunction or a judgement has, or that is bound, and that may not be.
-#[tactic(auto, using(std::proofs::lemmas::Grind::common_steps, crate::proofs::EarliestPlaces::lesser_assoc, crate::proofs::EarliestPlaces::lesser_none, crate::proofs::EarliestPlaces::earliest_append))]
+#[tactic(auto, using(std::proofs::lemmas::Grind::common_steps, rdx_templates::proofs::EarliestPlaces::lesser_assoc, rdx_templates::proofs::EarliestPlaces::lesser_none, rdx_templates::proofs::EarliestPlaces::earliest_append))]
 pub(crate) fn earliest_bad_name<'a>(found: &[Stand<'a>]) -> Option<&'a Datum>
     ensures { option_map (λ d. d.now) result
         ≡ earliest start (model.bad_names (stands_of found.now)) }
@@ -216,7 +216,7 @@ fn unknown_name<'a>(scope: &Scope, s: &Stand<'a>) -> Option<&'a Datum>
 }
 
 /// The earliest symbol that is no arrow where one has to stand, or no judgement of the file.
-#[tactic(auto, using(std::proofs::lemmas::Grind::common_steps, crate::proofs::EarliestPlaces::lesser_assoc, crate::proofs::EarliestPlaces::lesser_none, crate::proofs::EarliestPlaces::earliest_append))]
+#[tactic(auto, using(std::proofs::lemmas::Grind::common_steps, rdx_templates::proofs::EarliestPlaces::lesser_assoc, rdx_templates::proofs::EarliestPlaces::lesser_none, rdx_templates::proofs::EarliestPlaces::earliest_append))]
 pub(crate) fn earliest_unknown_name<'a>(scope: &Scope, found: &[Stand<'a>]) -> Option<&'a Datum>
     ensures { option_map (λ d. d.now) result
         ≡ earliest start (model.unknown_names (scope_of scope.now) (stands_of found.now)) }
@@ -281,7 +281,7 @@ fn earlier_misfit<'a>(one: Option<Misfit<'a>>, other: Option<Misfit<'a>>) -> Opt
 }
 
 /// The earliest thing that does not fit the mode of a judgement, or lacks one.
-#[tactic(auto, using(crate::proofs::EarliestPlaces::lesser_assoc, crate::proofs::EarliestPlaces::lesser_none, crate::proofs::EarliestPlaces::earliest_append))]
+#[tactic(auto, using(rdx_templates::proofs::EarliestPlaces::lesser_assoc, rdx_templates::proofs::EarliestPlaces::lesser_none, rdx_templates::proofs::EarliestPlaces::earliest_append))]
 pub(crate) fn earliest_misfit<'a>(found: &[Stand<'a>]) -> Option<Misfit<'a>>
     ensures { option_map misfit_of result
         ≡ earliest model.misfit_start (model.mode_faults (stands_of found.now)) }

@@ -1,25 +1,25 @@
 // Names that are bound at two depths.
 ghost use Rattle.std.specs.Prelude.{◌≡◌, ◌++◌, IfOk, option_map};
 ghost use Rattle.rdx_patterns.specs.OccurrenceView.{occurrences_of};
-ghost use Rattle.rdx_parts.specs.Bound as model;
-ghost use Rattle.rdx_parts.specs.Earliest.{earliest, start};
+ghost use Rattle.rdx_templates.specs.Bound as model;
+ghost use Rattle.rdx_templates.specs.Earliest.{earliest, start};
 ghost use Rattle.rdx_parts.specs.PartsHave.{BindNames};
 ghost use Rattle.rdx_parts.specs.StandChecks.{is_other, other_depths};
 ghost use Rattle.rdx_parts.specs.Stands.{bound_among};
 
-use crate::earliest::earlier;
 use crate::stands::names::bound_name;
-use crate::templates::bound::Bound;
 use rdx_patterns::checks::{bound_by, when};
 use rdx_patterns::occurrences::Occurrence;
 use rdx_patterns::shape::text;
 use rdx_patterns::{Names, Position};
 use rdx_sexp::Datum;
+use rdx_templates::earliest::earlier;
+use rdx_templates::templates::bound::Bound;
 use rdx_term::NoMemory;
 use std::alloc::Global;
 
 // The depth with which a text is bound among these, or else among those.
-#[tactic(auto, using(crate::proofs::Depths::depth_before, crate::proofs::Depths::depth_behind))]
+#[tactic(auto, using(rdx_templates::proofs::Depths::depth_before, rdx_templates::proofs::Depths::depth_behind))]
 fn depth_among(bound: &Bound<'_>, behind: &Bound<'_>, text: &str) -> Option<u32>
     ensures { result ≡ model.depth_of (bound.now ++ behind.now) text.now }
 {
@@ -30,7 +30,7 @@ fn depth_among(bound: &Bound<'_>, behind: &Bound<'_>, text: &str) -> Option<u32>
 }
 
 // The same, or else at last among these here.
-#[tactic(auto, using(crate::proofs::Depths::depth_before, crate::proofs::Depths::depth_behind))]
+#[tactic(auto, using(rdx_templates::proofs::Depths::depth_before, rdx_templates::proofs::Depths::depth_behind))]
 fn depth_here(bound: &Bound<'_>, behind: &Bound<'_>, here: &Bound<'_>, text: &str) -> Option<u32>
     ensures { result ≡ model.depth_of ((bound.now ++ behind.now) ++ here.now) text.now }
 {
@@ -52,7 +52,7 @@ fn is_another(depth: u32, first: Option<u32>) -> bool
 
 /// The earliest symbol that binds a name at another depth than it has first, be that among these
 /// names, among those behind them or at a symbol before it.
-#[tactic(auto, using(crate::proofs::EarliestPlaces::lesser_none))]
+#[tactic(auto, using(rdx_templates::proofs::EarliestPlaces::lesser_none))]
 pub(crate) fn earliest_clash<'a>(
     alloc: Global,
     names: &Names,

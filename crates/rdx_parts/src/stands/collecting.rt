@@ -2,21 +2,21 @@
 ghost use Rattle.std.specs.Prelude.{◌≡◌, ◌++◌, ◌∷◌, [], IfOk, map};
 ghost use Rattle.rdx_patterns.specs.OccurrenceView.{occurrences_of};
 ghost use Rattle.rdx_patterns.specs.Readable.{IsReadable};
+ghost use Rattle.rdx_templates.specs.Scope.{scope_of};
 ghost use Rattle.rdx_parts.specs.BareStands as bare;
 ghost use Rattle.rdx_parts.specs.Outlines.{taken_occurrences};
 ghost use Rattle.rdx_parts.specs.PartViews.{arguments_of, branch_of, extra_form_of, place_of, stand_of, stands_of, takes_of};
 ghost use Rattle.rdx_parts.specs.PartsHave.{AreReadable, ExtraHas, ExtrasHave, PremiseHas, BranchHas, IsReadableTaken, readable};
 ghost use Rattle.rdx_parts.specs.Headed as headed;
-ghost use Rattle.rdx_parts.specs.Scope.{scope_of};
 ghost use Rattle.rdx_parts.specs.Stands as model;
 
-use crate::Scope;
 use crate::arguments::{Arguments, headed_list, is_misfit, mode_of, premise_arguments};
 use crate::branches::{Branch, Takes};
 use crate::extras::{ExtraForm, ExtraPlace, form_at};
 use rdx_patterns::occurrences::{Occurrence, add_pattern, add_patterns};
 use rdx_patterns::shape::text;
 use rdx_sexp::Datum;
+use rdx_templates::Scope;
 use rdx_term::NoMemory;
 use std::alloc::Global;
 

@@ -2,19 +2,17 @@
 ghost use Rattle.std.specs.Prelude.{◌≡◌, ◌++◌, ◌∷◌, [], IfOk, IsTrue, map, option_map};
 ghost use Rattle.rdx_patterns.specs.OccurrenceView.{occurrences_of};
 ghost use Rattle.rdx_patterns.specs.Readable.{IsReadable};
-ghost use Rattle.rdx_parts.specs.Earliest.{earliest, start};
+ghost use Rattle.rdx_templates.specs.Earliest.{earliest, start};
+ghost use Rattle.rdx_templates.specs.Scope.{scope_of};
 ghost use Rattle.rdx_parts.specs.Headed as headed;
 ghost use Rattle.rdx_parts.specs.Outlines.{one, taken_occurrences};
 ghost use Rattle.rdx_parts.specs.ByNames as by_names;
 ghost use Rattle.rdx_parts.specs.PartViews.{arguments_of, branch_of, extra_form_of, outline_of, place_of, question_of, rule_branch_of, takes_of};
 ghost use Rattle.rdx_parts.specs.PartsHave.{BindNames, CanBind, can_bind, AloneHave, ArgumentsHave, BranchHas, BranchesHave, ExtraHas, ExtrasHave, OutlineHas, PremiseHas, QuestionHas, QuestionsHave, RuleHas, RulesHave};
-ghost use Rattle.rdx_parts.specs.Scope.{scope_of};
 ghost use Rattle.rdx_parts.specs.Stands.{bound_among};
 
-use crate::Scope;
 use crate::arguments::{Arguments, headed_list, premise_arguments};
 use crate::branches::{Branch, Outline, Question, RuleBranch, Takes};
-use crate::earliest::earlier;
 use crate::extras::{ExtraForm, ExtraPlace, form_at};
 use crate::stands::clashes::earliest_clash;
 use crate::stands::collecting::in_takes;
@@ -23,15 +21,17 @@ use crate::stands::names::{
     taken_names,
 };
 use crate::stands::patterns::{earliest_bad_occurrence, earliest_escape};
-use crate::templates::bound::Bound;
-use crate::templates::driving::{driving_of, driving_of_host};
-use crate::templates::places::{
-    bad_in_host, bad_in_template, escape_in_host, escape_in_template, shallow_in_host,
-    shallow_in_template,
-};
 use rdx_patterns::Names;
 use rdx_patterns::occurrences::Occurrence;
 use rdx_sexp::Datum;
+use rdx_templates::Scope;
+use rdx_templates::earliest::earlier;
+use rdx_templates::templates::bound::Bound;
+use rdx_templates::templates::driving::{driving_of, driving_of_host};
+use rdx_templates::templates::places::{
+    bad_in_host, bad_in_template, escape_in_host, escape_in_template, shallow_in_host,
+    shallow_in_template,
+};
 use rdx_term::NoMemory;
 use std::alloc::Global;
 
@@ -233,7 +233,7 @@ fn fault_in_premise<'a>(
 }
 
 // The earliest one in an extra.
-#[tactic(auto, using(crate::proofs::EarliestPlaces::lesser_assoc, crate::proofs::EarliestPlaces::lesser_none, crate::proofs::EarliestPlaces::earliest_append))]
+#[tactic(auto, using(rdx_templates::proofs::EarliestPlaces::lesser_assoc, rdx_templates::proofs::EarliestPlaces::lesser_none, rdx_templates::proofs::EarliestPlaces::earliest_append))]
 fn fault_in_extra<'a>(
     alloc: Global,
     check: Check,
@@ -264,7 +264,7 @@ fn fault_in_extra<'a>(
 }
 
 // The earliest one in extras.
-#[tactic(auto, using(crate::proofs::EarliestPlaces::lesser_none))]
+#[tactic(auto, using(rdx_templates::proofs::EarliestPlaces::lesser_none))]
 fn fault_in_extras<'a>(
     alloc: Global,
     check: Check,
@@ -291,7 +291,7 @@ fn fault_in_extras<'a>(
 }
 
 // The earliest one in a case or a clause.
-#[tactic(auto, using(crate::proofs::EarliestPlaces::lesser_assoc, crate::proofs::EarliestPlaces::lesser_none, crate::proofs::EarliestPlaces::earliest_append))]
+#[tactic(auto, using(rdx_templates::proofs::EarliestPlaces::lesser_assoc, rdx_templates::proofs::EarliestPlaces::lesser_none, rdx_templates::proofs::EarliestPlaces::earliest_append))]
 fn fault_in_branch<'a>(
     alloc: Global,
     check: Check,
@@ -323,7 +323,7 @@ fn fault_in_branch<'a>(
 }
 
 // The earliest one in cases or clauses.
-#[tactic(auto, using(crate::proofs::EarliestPlaces::lesser_none, crate::proofs::EarliestPlaces::earliest_next))]
+#[tactic(auto, using(rdx_templates::proofs::EarliestPlaces::lesser_none, rdx_templates::proofs::EarliestPlaces::earliest_next))]
 fn fault_in_branches<'a>(
     alloc: Global,
     check: Check,
@@ -398,7 +398,7 @@ fn fault_in_premises<'a>(
 }
 
 // The earliest one in a rule, as it is written.
-#[tactic(auto, using(crate::proofs::EarliestPlaces::lesser_assoc, crate::proofs::EarliestPlaces::lesser_none, crate::proofs::EarliestPlaces::earliest_append))]
+#[tactic(auto, using(rdx_templates::proofs::EarliestPlaces::lesser_assoc, rdx_templates::proofs::EarliestPlaces::lesser_none, rdx_templates::proofs::EarliestPlaces::earliest_append))]
 fn fault_in_rule<'a>(
     alloc: Global,
     check: Check,
@@ -422,7 +422,7 @@ fn fault_in_rule<'a>(
 }
 
 // The earliest one in rules.
-#[tactic(auto, using(crate::proofs::EarliestPlaces::lesser_none, crate::proofs::EarliestPlaces::earliest_next))]
+#[tactic(auto, using(rdx_templates::proofs::EarliestPlaces::lesser_none, rdx_templates::proofs::EarliestPlaces::earliest_next))]
 fn fault_in_rules<'a>(
     alloc: Global,
     check: Check,
@@ -445,7 +445,7 @@ fn fault_in_rules<'a>(
 }
 
 // The earliest one in a premise by itself, and behind it.
-#[tactic(auto, using(crate::proofs::EarliestPlaces::lesser_assoc, crate::proofs::EarliestPlaces::lesser_none, crate::proofs::EarliestPlaces::earliest_append))]
+#[tactic(auto, using(rdx_templates::proofs::EarliestPlaces::lesser_assoc, rdx_templates::proofs::EarliestPlaces::lesser_none, rdx_templates::proofs::EarliestPlaces::earliest_append))]
 fn fault_in_question<'a>(
     alloc: Global,
     check: Check,
@@ -470,7 +470,7 @@ fn fault_in_question<'a>(
 }
 
 // The earliest one in premises by themselves.
-#[tactic(auto, using(crate::proofs::EarliestPlaces::lesser_none, crate::proofs::EarliestPlaces::earliest_next))]
+#[tactic(auto, using(rdx_templates::proofs::EarliestPlaces::lesser_none, rdx_templates::proofs::EarliestPlaces::earliest_next))]
 fn fault_in_questions<'a>(
     alloc: Global,
     check: Check,
@@ -494,7 +494,7 @@ fn fault_in_questions<'a>(
 }
 
 // The earliest one in patterns that stand by themselves.
-#[tactic(auto, using(crate::proofs::EarliestPlaces::lesser_none, crate::proofs::EarliestPlaces::earliest_next))]
+#[tactic(auto, using(rdx_templates::proofs::EarliestPlaces::lesser_none, rdx_templates::proofs::EarliestPlaces::earliest_next))]
 fn fault_in_alone<'a>(
     alloc: Global,
     check: Check,
@@ -516,7 +516,7 @@ fn fault_in_alone<'a>(
 }
 
 /// The earliest place at which the check refuses a form of this outline, over these nonterminals.
-#[tactic(auto, using(crate::proofs::EarliestPlaces::lesser_assoc, crate::proofs::EarliestPlaces::lesser_none, crate::proofs::EarliestPlaces::earliest_append))]
+#[tactic(auto, using(rdx_templates::proofs::EarliestPlaces::lesser_assoc, rdx_templates::proofs::EarliestPlaces::lesser_none, rdx_templates::proofs::EarliestPlaces::earliest_append))]
 pub(crate) fn earliest_fault<'a>(
     alloc: Global,
     check: Check,

@@ -3,26 +3,26 @@ ghost use Rattle.std.specs.Prelude.{◌≡◌, ◌<◌, ◌++◌, ◌∷◌, [],
 ghost use Rattle.rdx_patterns.specs.OccurrenceView.{occurrences_of};
 ghost use Rattle.rdx_patterns.specs.Parts.{text_of};
 ghost use Rattle.rdx_term.specs.Spelling.{is_name};
+ghost use Rattle.rdx_templates.specs.Scope.{scope_of};
 ghost use Rattle.rdx_parts.specs.Arguments.{data_at, patterns_in};
 ghost use Rattle.rdx_parts.specs.Headed as headed;
 ghost use Rattle.rdx_parts.specs.ByNames as by_names;
 ghost use Rattle.rdx_parts.specs.Outlines.{one, each};
 ghost use Rattle.rdx_parts.specs.PartViews.{arguments_of, branch_of, extra_form_of, place_of, rule_branch_of, takes_of};
 ghost use Rattle.rdx_parts.specs.PartsHave.{AreNames, BindNames, CanBind, can_bind, BranchHas, ExtraHas, ExtrasHave, PremiseHas, RuleHas};
-ghost use Rattle.rdx_parts.specs.Scope.{scope_of};
 ghost use Rattle.rdx_parts.specs.Stands.{bound_among, names_bound};
 
-use crate::Scope;
 use crate::arguments::{Arguments, headed_list, premise_arguments};
 use crate::branches::{Branch, RuleBranch, Takes};
 use crate::extras::{ExtraForm, ExtraPlace, form_at};
 use crate::stands::collecting::in_takes;
-use crate::templates::bound::Bound;
 use rdx_patterns::checks::bound_by;
 use rdx_patterns::occurrences::Occurrence;
 use rdx_patterns::shape::text;
 use rdx_patterns::{Names, Position, symbol_name};
 use rdx_sexp::Datum;
+use rdx_templates::Scope;
+use rdx_templates::templates::bound::Bound;
 use rdx_term::{Name, NoMemory};
 use std::alloc::Global;
 

@@ -2,16 +2,16 @@
 ghost use Rattle.std.specs.Prelude.{◌≡◌, option_map};
 ghost use Rattle.rdx_patterns.specs.OccurrenceView.{occurrences_of};
 ghost use Rattle.rdx_patterns.specs.PatternChecks as model;
-ghost use Rattle.rdx_parts.specs.Earliest.{earliest, start};
+ghost use Rattle.rdx_templates.specs.Earliest.{earliest, start};
 
-use crate::earliest::earlier;
 use rdx_patterns::Names;
 use rdx_patterns::checks::{bad_binder, bad_occurrence, escape_in, keyword_fault};
 use rdx_patterns::occurrences::Occurrence;
 use rdx_sexp::Datum;
+use rdx_templates::earliest::earlier;
 
 /// The earliest keyword.
-#[tactic(auto, using(crate::proofs::EarliestPlaces::lesser_assoc, crate::proofs::EarliestPlaces::lesser_none, crate::proofs::EarliestPlaces::earliest_append))]
+#[tactic(auto, using(rdx_templates::proofs::EarliestPlaces::lesser_assoc, rdx_templates::proofs::EarliestPlaces::lesser_none, rdx_templates::proofs::EarliestPlaces::earliest_append))]
 pub(crate) fn earliest_keyword<'a>(found: &[Occurrence<'a>]) -> Option<&'a Datum>
     ensures { option_map (λ d. d.now) result
         ≡ earliest start (model.keyword_faults (occurrences_of found.now)) }
@@ -24,7 +24,7 @@ pub(crate) fn earliest_keyword<'a>(found: &[Occurrence<'a>]) -> Option<&'a Datum
 }
 
 /// The earliest name that is bound and may not be.
-#[tactic(auto, using(std::proofs::lemmas::Grind::common_steps, crate::proofs::EarliestPlaces::lesser_assoc, crate::proofs::EarliestPlaces::lesser_none, crate::proofs::EarliestPlaces::earliest_append, crate::proofs::LonePlaces::bad_binder_alone))]
+#[tactic(auto, using(std::proofs::lemmas::Grind::common_steps, rdx_templates::proofs::EarliestPlaces::lesser_assoc, rdx_templates::proofs::EarliestPlaces::lesser_none, rdx_templates::proofs::EarliestPlaces::earliest_append, crate::proofs::LonePlaces::bad_binder_alone))]
 pub(crate) fn earliest_bad_binder<'a>(found: &[Occurrence<'a>]) -> Option<&'a Datum>
     ensures { option_map (λ d. d.now) result
         ≡ earliest start (model.bad_binders (occurrences_of found.now)) }
@@ -37,7 +37,7 @@ pub(crate) fn earliest_bad_binder<'a>(found: &[Occurrence<'a>]) -> Option<&'a Da
 }
 
 /// The earliest part that means nothing, over these nonterminals.
-#[tactic(auto, using(std::proofs::lemmas::Grind::common_steps, crate::proofs::EarliestPlaces::lesser_assoc, crate::proofs::EarliestPlaces::lesser_none, crate::proofs::EarliestPlaces::earliest_append, crate::proofs::LonePlaces::bad_occurrence_alone))]
+#[tactic(auto, using(std::proofs::lemmas::Grind::common_steps, rdx_templates::proofs::EarliestPlaces::lesser_assoc, rdx_templates::proofs::EarliestPlaces::lesser_none, rdx_templates::proofs::EarliestPlaces::earliest_append, crate::proofs::LonePlaces::bad_occurrence_alone))]
 pub(crate) fn earliest_bad_occurrence<'a>(
     names: &Names,
     found: &[Occurrence<'a>],
@@ -53,7 +53,7 @@ pub(crate) fn earliest_bad_occurrence<'a>(
 }
 
 /// The earliest list that would ask Racket.
-#[tactic(auto, using(crate::proofs::EarliestPlaces::lesser_assoc, crate::proofs::EarliestPlaces::lesser_none, crate::proofs::EarliestPlaces::earliest_append))]
+#[tactic(auto, using(rdx_templates::proofs::EarliestPlaces::lesser_assoc, rdx_templates::proofs::EarliestPlaces::lesser_none, rdx_templates::proofs::EarliestPlaces::earliest_append))]
 pub(crate) fn earliest_escape<'a>(found: &[Occurrence<'a>]) -> Option<&'a Datum>
     ensures { option_map (λ d. d.now) result
         ≡ earliest start (model.escapes (occurrences_of found.now)) }

@@ -1,13 +1,12 @@
 // Why a form of a relation, a metafunction or a judgement is refused.
 ghost use Rattle.std.specs.Prelude.{◌≡◌, None, IfOk, option_map};
 ghost use Rattle.rdx_patterns.specs.Refusal.{refusal_of};
+ghost use Rattle.rdx_templates.specs.Scope.{scope_of};
 ghost use Rattle.rdx_parts.specs.FormRefusals as forms;
 ghost use Rattle.rdx_parts.specs.PartViews.{misfit_of, outline_of, stands_of};
 ghost use Rattle.rdx_parts.specs.PartsHave.{OutlineHas, can_bind};
-ghost use Rattle.rdx_parts.specs.Scope.{scope_of};
 ghost use Rattle.rdx_parts.specs.StandChecks as model;
 
-use crate::Scope;
 use crate::branches::Outline;
 use crate::stands::checks::{
     Misfit, earliest_bad_name, earliest_misfit, earliest_repeated, earliest_shape_fault,
@@ -19,6 +18,7 @@ use rdx_patterns::refusal::{named, named_at, unnamed};
 use rdx_patterns::shape::text;
 use rdx_patterns::{DefKind, DefRefusal, Names};
 use rdx_sexp::Datum;
+use rdx_templates::Scope;
 use rdx_term::NoMemory;
 use rdx_term::printing::print_string;
 use rdx_term::spelling::is_symbol;

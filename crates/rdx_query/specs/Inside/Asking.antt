@@ -10,9 +10,9 @@ use Rattle.rdx_lang.specs.Templates.{Host, Template}
 use Rattle.rdx_lang.specs.TemplateView.{host_of, template_of}
 use Rattle.rdx_lang.specs.declared.program.Premise as code_premise
 use Rattle.rdx_lang.specs.declared.template.HostExpr.{HostExpr}
-use Rattle.rdx_parts.specs.Scope.{Scope}
-use Rattle.rdx_parts.specs.TemplateReading.{host_reading}
-use Rattle.rdx_parts.specs.TemplateRefusal.{host_refusal}
+use Rattle.rdx_templates.specs.Scope.{Scope}
+use Rattle.rdx_templates.specs.TemplateReading.{host_reading}
+use Rattle.rdx_templates.specs.TemplateRefusal.{host_refusal}
 use Rattle.rdx_defs.specs.declared.judgements.premises.ReadPremise.{ReadPremise}
 use Rattle.rdx_patterns.specs.Parts.{is_symbol}
 use Rattle.rdx_patterns.specs.Readable.{IsReadable}

@@ -1,6 +1,6 @@
 -- What is known, as the code has it.
 use Rattle.rdx_lang.specs.ProgramView.{program_of}
-use Rattle.rdx_parts.specs.Scope.{scope_of}
+use Rattle.rdx_templates.specs.Scope.{scope_of}
 use Rattle.rdx_query.specs.Known as model
 use Rattle.rdx_query.specs.declared.known.Known.{Known}
 

@@ -1,7 +1,7 @@
 use Rattle.std.proofs.Common.{ℕ, List, subst, sym}
 use Rattle.rdx_patterns.specs.Ends.{ends_in}
 use Rattle.rdx_defs.specs.Answers.{ReadsJudgement}
-use Rattle.rdx_parts.specs.Scope.{scope_of}
+use Rattle.rdx_templates.specs.Scope.{scope_of}
 use Rattle.rdx_query.proofs.GainingNothing.{gained-at}
 use Rattle.rdx_query.proofs.KeptNames.{kept-at}
 use Rattle.rdx_query.proofs.Replaced.{same-known, tables-stay}

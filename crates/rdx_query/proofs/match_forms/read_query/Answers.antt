@@ -6,7 +6,7 @@ use Rattle.rdx_lang.specs.Programs.{language_named}
 use Rattle.rdx_patterns.specs.Answers.{ReadsPattern}
 use Rattle.rdx_patterns.specs.Nonterminals.{names_of}
 use Rattle.rdx_patterns.specs.Parts.{text_of}
-use Rattle.rdx_parts.specs.Answers.{ReadsHost}
+use Rattle.rdx_templates.specs.Answers.{ReadsHost}
 use Rattle.rdx_query.specs.Inside.KnownView.{known_of}
 use Rattle.rdx_query.specs.Inside.PartViews.{parts_of}
 use Rattle.rdx_query.proofs.FormParts.{query-items}

@@ -1,6 +1,6 @@
 use Rattle.std.proofs.Common.{[], subst}
 use Rattle.std.proofs.lemmas.Result.{err_from_is_err_and}
-use Rattle.rdx_parts.specs.Answers.{ReadsHost}
+use Rattle.rdx_templates.specs.Answers.{ReadsHost}
 use Rattle.rdx_query.specs.Inside.KnownView.{known_of}
 use Rattle.rdx_query.specs.Inside.PartViews.{equals_of}
 use Rattle.rdx_query.proofs.TestChecks.{equal-readable, equal-fault, equal-asked}

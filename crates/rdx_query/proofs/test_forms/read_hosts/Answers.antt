@@ -2,8 +2,8 @@ use Rattle.std.proofs.Common.{[], ◌∷◌, Some, Err, ◌++◌, drop, map, opt
 use Rattle.std.proofs.lemmas.List.{map-append}
 use Rattle.rdx_lang.specs.TemplateView.{host_of}
 use Rattle.rdx_patterns.specs.Refusal.{refusal_of}
-use Rattle.rdx_parts.specs.Answers.{ReadsHost}
-use Rattle.rdx_parts.specs.Scope.{scope_of}
+use Rattle.rdx_templates.specs.Answers.{ReadsHost}
+use Rattle.rdx_templates.specs.Scope.{scope_of}
 use Rattle.rdx_query.proofs.TestChecks.{hosts-same, hosts-read, hosts-kept}
 use Rattle.rdx_query.proofs.test_forms.read_hosts.Goals as goal
 use Rattle.rdx_query.proofs.test_forms.read_hosts.Goals.{in-Ok+in_ok-push-in-Ok, in-Err-Refused}

@@ -1,7 +1,7 @@
 use Rattle.std.proofs.Common.{drop, map, option_map}
 use Rattle.rdx_lang.specs.TemplateView.{host_of}
 use Rattle.rdx_patterns.specs.Refusal.{refusal_of}
-use Rattle.rdx_parts.specs.Scope.{scope_of}
+use Rattle.rdx_templates.specs.Scope.{scope_of}
 use Rattle.rdx_query.proofs.TestChecks.{HostsSoFar}
 use Rattle.rdx_query.proofs.test_forms.read_hosts.Given as goal
 

@@ -3,7 +3,7 @@ use Rattle.std.proofs.lemmas.Result.{err_from_is_err_and}
 use Rattle.rdx_lang.specs.ProgramView.{relation_of}
 use Rattle.rdx_lang.specs.Programs.{relation_named}
 use Rattle.rdx_patterns.specs.Parts.{text_of}
-use Rattle.rdx_parts.specs.Answers.{ReadsHost}
+use Rattle.rdx_templates.specs.Answers.{ReadsHost}
 use Rattle.rdx_query.specs.Inside.Asking.{ReadsHosts}
 use Rattle.rdx_query.specs.Inside.KnownView.{known_of}
 use Rattle.rdx_query.specs.Inside.PartViews.{leading_of}

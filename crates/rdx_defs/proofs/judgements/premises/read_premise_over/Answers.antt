@@ -5,15 +5,15 @@ use Rattle.rdx_lang.specs.Patterns.{Language}
 use Rattle.rdx_lang.specs.ProgramView.{premise_of}
 use Rattle.rdx_patterns.specs.Nonterminals.{names_of}
 use Rattle.rdx_patterns.specs.Refusal.{refusal_of}
-use Rattle.rdx_parts.specs.Bound.{Bound}
+use Rattle.rdx_templates.specs.Bound.{Bound}
 use Rattle.rdx_parts.specs.ExtraReading.{premise_reading}
 use Rattle.rdx_parts.specs.Headed.{Headed, headed}
 use Rattle.rdx_parts.specs.ByNames.{premise_names}
 use Rattle.rdx_parts.specs.PartsHave.{PremiseHas, can_read}
 use Rattle.rdx_defs.specs.JudgementRefusal.{premise_refusal}
-use Rattle.rdx_parts.specs.Scope.{scope_of}
+use Rattle.rdx_templates.specs.Scope.{scope_of}
+use Rattle.rdx_templates.specs.TemplateReading.{template_reading}
 use Rattle.rdx_parts.specs.Stands.{names_bound, bound_by_premise}
-use Rattle.rdx_parts.specs.TemplateReading.{template_reading}
 use Rattle.rdx_parts.proofs.NamesBound as names
 use Rattle.rdx_defs.proofs.PassedForms.{gained, question-valid}
 use Rattle.rdx_defs.proofs.ReadJudgements.{readable-behind, read-some}

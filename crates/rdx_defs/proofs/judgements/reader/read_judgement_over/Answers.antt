@@ -18,7 +18,7 @@ use Rattle.rdx_defs.specs.JudgementForms.{judgement_form, judgement_in, contract
 use Rattle.rdx_defs.specs.JudgementReading.{judgement_reading}
 use Rattle.rdx_defs.specs.JudgementRefusal.{judgement_refusal}
 use Rattle.rdx_defs.specs.MetafunctionReading.{text_in}
-use Rattle.rdx_parts.specs.Scope.{scope_of, callable}
+use Rattle.rdx_templates.specs.Scope.{scope_of, callable}
 use Rattle.rdx_defs.proofs.PassedForms.{gained, judgement-valid}
 use Rattle.rdx_defs.proofs.ReadJudgements.{no-name, no-mode}
 use Rattle.rdx_defs.proofs.InheritedParts.{judgement-has}

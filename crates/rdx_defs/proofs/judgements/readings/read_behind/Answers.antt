@@ -1,7 +1,7 @@
 use Rattle.rdx_lang.specs.Checked.{language_in}
+use Rattle.rdx_templates.specs.Scope.{scope_of}
 use Rattle.rdx_parts.specs.PartViews.{rule_branch_of}
 use Rattle.rdx_parts.specs.PartsHave.{can_bind, can_read}
-use Rattle.rdx_parts.specs.Scope.{scope_of}
 use Rattle.rdx_parts.proofs.PartsAt.{rule-weaker}
 use Rattle.rdx_defs.proofs.judgements.readings.read_behind.Goals as goal
 

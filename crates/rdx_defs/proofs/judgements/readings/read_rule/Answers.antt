@@ -3,9 +3,9 @@ use Rattle.std.specs.Prelude.{option_map}
 use Rattle.rdx_lang.specs.Checked.{language_in, pattern_in}
 use Rattle.rdx_lang.specs.ProgramView.{extras_of}
 use Rattle.rdx_lang.specs.TemplateView.{template_of}
+use Rattle.rdx_templates.specs.Bound.{Bound}
 use Rattle.rdx_parts.specs.Arguments as arguments
 use Rattle.rdx_parts.specs.Arguments.{patterns_in, templates_in}
-use Rattle.rdx_parts.specs.Bound.{Bound}
 use Rattle.rdx_parts.specs.ExtraForms.{of_rule}
 use Rattle.rdx_parts.specs.ExtraReading as model
 use Rattle.rdx_parts.specs.ExtraReading.{list_reading, templates_reading}
@@ -16,7 +16,7 @@ use Rattle.rdx_defs.specs.Inside.FormViews.{rule_form_of}
 use Rattle.rdx_parts.specs.PartViews.{arguments_of, rule_branch_of}
 use Rattle.rdx_parts.specs.PartsHave.{IsPattern, RuleHas, can_read}
 use Rattle.rdx_defs.specs.JudgementStands.{bound_by_inputs, bound_by_rule, rule_arguments}
-use Rattle.rdx_parts.specs.Scope.{scope_of}
+use Rattle.rdx_templates.specs.Scope.{scope_of}
 use Rattle.rdx_parts.specs.Stands.{names_bound}
 use Rattle.rdx_defs.proofs.FormFaults as names
 use Rattle.rdx_parts.proofs.NamesBound.{extras-reads}

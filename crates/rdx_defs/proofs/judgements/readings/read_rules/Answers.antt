@@ -4,7 +4,7 @@ use Rattle.rdx_lang.specs.Checked.{language_in}
 use Rattle.rdx_defs.specs.Inside.FormViews.{rule_form_of}
 use Rattle.rdx_parts.specs.PartsHave.{can_read}
 use Rattle.rdx_defs.specs.JudgementForms.{rule_form, own_rule}
-use Rattle.rdx_parts.specs.Scope.{scope_of}
+use Rattle.rdx_templates.specs.Scope.{scope_of}
 use Rattle.rdx_defs.proofs.RuleParts.{rules-in, rule-in}
 use Rattle.rdx_defs.proofs.judgements.readings.read_rules.Goals as goal
 

@@ -2,7 +2,7 @@ use Rattle.std.proofs.Common.{◌≡◌, ◌++◌, drop}
 use Rattle.std.specs.Prelude.{option_map}
 use Rattle.rdx_lang.specs.ProgramView.{judgement_rules_of}
 use Rattle.rdx_defs.specs.JudgementReading.{rules_reading}
-use Rattle.rdx_parts.specs.Scope.{scope_of}
+use Rattle.rdx_templates.specs.Scope.{scope_of}
 use Rattle.rdx_defs.proofs.judgements.readings.read_rules.Given as goal
 
 abbrev pub invariant-loop-d : goal.invariant-loop-d

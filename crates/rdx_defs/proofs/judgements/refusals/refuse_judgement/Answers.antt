@@ -7,9 +7,9 @@ use Rattle.rdx_defs.specs.Inside.FormOutlines.{judgement_outline}
 use Rattle.rdx_parts.specs.Outlines.{Outline}
 use Rattle.rdx_parts.specs.FormRefusals.{form_refusal}
 use Rattle.rdx_defs.specs.Inside.FormViews.{judgement_form_of}
+use Rattle.rdx_templates.specs.Scope.{scope_of}
 use Rattle.rdx_parts.specs.PartViews.{outline_of, stands_of}
 use Rattle.rdx_parts.specs.PartsHave.{OutlineHas, can_bind, IsReadableTaken}
-use Rattle.rdx_parts.specs.Scope.{scope_of}
 use Rattle.rdx_defs.proofs.FormRefusals.{judgement-refused}
 use Rattle.rdx_defs.proofs.PassedForms.{judgement-early}
 use Rattle.rdx_defs.proofs.InheritedParts.{judgement-has, judgement_outline-has}

@@ -3,11 +3,11 @@ use Rattle.std.specs.Prelude.{IfOk, Option, option_map}
 use Rattle.rdx_patterns.specs.Refusal.{Refusal, refusal_of}
 use Rattle.rdx_defs.specs.Inside.BareForms as bare_stands
 use Rattle.rdx_defs.specs.Inside.FormOutlines.{question_outline}
+use Rattle.rdx_templates.specs.Scope.{scope_of}
 use Rattle.rdx_parts.specs.Outlines.{Outline}
 use Rattle.rdx_parts.specs.FormRefusals.{form_refusal}
 use Rattle.rdx_parts.specs.PartViews.{outline_of, stands_of}
 use Rattle.rdx_parts.specs.PartsHave.{OutlineHas, can_bind}
-use Rattle.rdx_parts.specs.Scope.{scope_of}
 use Rattle.rdx_defs.proofs.FormRefusals.{question-refused}
 use Rattle.rdx_defs.proofs.PassedForms.{question-early}
 use Rattle.rdx_defs.proofs.judgements.refusals.refuse_question.Goals as goal

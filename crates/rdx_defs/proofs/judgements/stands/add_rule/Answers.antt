@@ -3,7 +3,7 @@ use Rattle.std.specs.Prelude.{option_map}
 use Rattle.rdx_defs.specs.Inside.FormViews.{rule_form_of}
 use Rattle.rdx_parts.specs.PartsHave.{readable}
 use Rattle.rdx_defs.specs.JudgementForms.{rule_form, own_rule}
-use Rattle.rdx_parts.specs.Scope.{scope_of}
+use Rattle.rdx_templates.specs.Scope.{scope_of}
 use Rattle.rdx_defs.proofs.RuleParts.{rule-in}
 use Rattle.rdx_defs.proofs.judgements.stands.add_rule.Goals as goal
 

@@ -1,6 +1,6 @@
 use Rattle.std.specs.Prelude.{option_map}
+use Rattle.rdx_templates.specs.Scope.{scope_of}
 use Rattle.rdx_parts.specs.PartsHave.{readable}
-use Rattle.rdx_parts.specs.Scope.{scope_of}
 use Rattle.rdx_defs.proofs.RuleParts.{rules-in}
 use Rattle.rdx_defs.proofs.judgements.stands.add_rules.Goals as goal
 

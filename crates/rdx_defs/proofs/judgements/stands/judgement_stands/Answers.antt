@@ -9,7 +9,7 @@ use Rattle.rdx_parts.specs.PartViews.{stands_of}
 use Rattle.rdx_parts.specs.PartsHave.{AreReadable, RulesHave, readable}
 use Rattle.rdx_defs.specs.JudgementForms.{judgement_in, mode_form, own_mode}
 use Rattle.rdx_defs.specs.JudgementStands.{missing_mode, options_stand}
-use Rattle.rdx_parts.specs.Scope.{scope_of}
+use Rattle.rdx_templates.specs.Scope.{scope_of}
 use Rattle.rdx_parts.specs.declared.stands.collecting.Stand as code
 use Rattle.rdx_defs.proofs.RuleForms.{alone-readable}
 use Rattle.rdx_defs.proofs.judgements.stands.judgement_stands.Goals as goal

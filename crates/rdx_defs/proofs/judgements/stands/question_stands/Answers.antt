@@ -1,6 +1,6 @@
 use Rattle.rdx_patterns.specs.Readable.{IsReadable}
+use Rattle.rdx_templates.specs.Scope.{scope_of}
 use Rattle.rdx_parts.specs.PartsHave.{IsReadableTaken}
-use Rattle.rdx_parts.specs.Scope.{scope_of}
 use Rattle.rdx_defs.proofs.InheritedParts.{premise-has}
 use Rattle.rdx_defs.proofs.ReadableParts.{readable-inherited}
 use Rattle.rdx_defs.proofs.judgements.stands.question_stands.Goals as goal

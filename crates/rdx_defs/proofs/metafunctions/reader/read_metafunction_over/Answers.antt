@@ -23,7 +23,7 @@ use Rattle.rdx_parts.specs.PartsHave.{AreReadable, BranchesHave, OutlineHas, can
 use Rattle.rdx_defs.specs.MetafunctionForms.{metafunction_form, function_in}
 use Rattle.rdx_defs.specs.MetafunctionReading.{metafunction_reading}
 use Rattle.rdx_defs.specs.MetafunctionRefusal.{metafunction_refusal}
-use Rattle.rdx_parts.specs.Scope.{scope_of, callable}
+use Rattle.rdx_templates.specs.Scope.{scope_of, callable}
 use Rattle.rdx_defs.proofs.FormRefusals.{metafunction-refused}
 use Rattle.rdx_defs.proofs.PassedForms.{gained, metafunction-early, has-function, metafunction-valid}
 use Rattle.rdx_defs.proofs.InheritedParts.{metafunction-has, contract-has}

@@ -1,7 +1,7 @@
 use Rattle.rdx_lang.specs.Checked.{language_in}
+use Rattle.rdx_templates.specs.Scope.{scope_of}
 use Rattle.rdx_parts.specs.PartViews.{branch_of}
 use Rattle.rdx_parts.specs.PartsHave.{can_read}
-use Rattle.rdx_parts.specs.Scope.{scope_of}
 use Rattle.rdx_parts.proofs.PartsAt.{branches-at}
 use Rattle.rdx_defs.proofs.metafunctions.readings.read_clauses.Goals as goal
 

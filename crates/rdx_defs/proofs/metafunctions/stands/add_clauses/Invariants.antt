@@ -1,7 +1,7 @@
 use Rattle.std.proofs.Common.{◌≡◌, ◌++◌, drop}
 use Rattle.rdx_defs.specs.Inside.BareForms.{clauses_stand}
+use Rattle.rdx_templates.specs.Scope.{scope_of}
 use Rattle.rdx_parts.specs.PartViews.{stands_of}
-use Rattle.rdx_parts.specs.Scope.{scope_of}
 use Rattle.rdx_defs.proofs.metafunctions.stands.add_clauses.Given as goal
 
 abbrev pub invariant-loop-d : goal.invariant-loop-d

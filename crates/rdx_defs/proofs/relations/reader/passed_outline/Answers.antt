@@ -7,9 +7,9 @@ use Rattle.rdx_defs.specs.Inside.FormOutlines.{domain_patterns, relation_outline
 use Rattle.rdx_parts.specs.Outlines.{Outline}
 use Rattle.rdx_parts.specs.FormRefusals.{form_refusal}
 use Rattle.rdx_defs.specs.Inside.FormViews.{relation_form_of}
+use Rattle.rdx_templates.specs.Scope.{scope_of}
 use Rattle.rdx_parts.specs.PartViews.{outline_of, stands_of}
 use Rattle.rdx_parts.specs.PartsHave.{OutlineHas, can_bind}
-use Rattle.rdx_parts.specs.Scope.{scope_of}
 use Rattle.rdx_defs.proofs.FormRefusals.{relation-refused}
 use Rattle.rdx_defs.proofs.PartsOfForms.{RelationHas}
 use Rattle.rdx_defs.proofs.PassedForms.{relation-early}

@@ -15,7 +15,7 @@ use Rattle.rdx_parts.specs.PartViews.{outline_of}
 use Rattle.rdx_parts.specs.PartsHave.{OutlineHas, can_read}
 use Rattle.rdx_defs.specs.RelationEnds.{expanded_ends}
 use Rattle.rdx_defs.specs.RelationReading.{expanded_reading}
-use Rattle.rdx_parts.specs.Scope.{scope_of, callable}
+use Rattle.rdx_templates.specs.Scope.{scope_of, callable}
 use Rattle.rdx_defs.proofs.PartsOfForms.{RelationHas}
 use Rattle.rdx_defs.proofs.PassedForms.{relation-valid}
 use Rattle.rdx_defs.proofs.ReadableParts.{each-readable}

@@ -13,7 +13,7 @@ use Rattle.rdx_defs.specs.Inside.FormViews.{relation_form_of}
 use Rattle.rdx_parts.specs.PartsHave.{AreReadable, IsReadableTaken}
 use Rattle.rdx_defs.specs.RelationEnds.{expanded_ends, ends_by}
 use Rattle.rdx_defs.specs.RelationForms.{case_form, RelationForm, relation_form}
-use Rattle.rdx_parts.specs.Scope.{scope_of}
+use Rattle.rdx_templates.specs.Scope.{scope_of}
 use Rattle.rdx_defs.proofs.ExpandedRelations.{expanded-reads, readable-before, readable-behind}
 use Rattle.rdx_defs.proofs.InheritedParts.{relation-has}
 use Rattle.rdx_defs.proofs.PlainRelations.{no-data, plain-form}

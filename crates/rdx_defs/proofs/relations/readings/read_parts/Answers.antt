@@ -4,7 +4,7 @@ use Rattle.rdx_parts.specs.Outlines as inside
 use Rattle.rdx_defs.specs.Inside.BranchReadings.{branch_rules}
 use Rattle.rdx_parts.specs.PartViews.{branch_of}
 use Rattle.rdx_defs.specs.RelationReading.{rules_reading}
-use Rattle.rdx_parts.specs.Scope.{scope_of}
+use Rattle.rdx_templates.specs.Scope.{scope_of}
 use Rattle.rdx_parts.specs.declared.branches.Branch.{Branch}
 use Rattle.rdx_defs.proofs.BranchRules.{rules-branches}
 use Rattle.rdx_defs.proofs.relations.readings.read_parts.Goals as goal

@@ -1,8 +1,8 @@
 use Rattle.std.proofs.Common.{◌≡◌, ◌++◌, drop, map}
 use Rattle.rdx_lang.specs.ProgramView.{rule_of}
 use Rattle.rdx_defs.specs.Inside.BranchReadings.{branch_rules}
+use Rattle.rdx_templates.specs.Scope.{scope_of}
 use Rattle.rdx_parts.specs.PartViews.{branch_of}
-use Rattle.rdx_parts.specs.Scope.{scope_of}
 use Rattle.rdx_defs.proofs.relations.readings.read_rules.Given as goal
 
 abbrev pub invariant-loop-branch : goal.invariant-loop-branch

@@ -3,8 +3,8 @@ use Rattle.std.specs.Prelude.{option_map}
 use Rattle.rdx_patterns.specs.Readable.{IsReadable}
 use Rattle.rdx_parts.specs.Outlines.{Branch}
 use Rattle.rdx_defs.specs.Inside.FormViews.{case_form_of}
+use Rattle.rdx_templates.specs.Scope.{scope_of}
 use Rattle.rdx_parts.specs.PartsHave.{BranchHas, readable, IsReadableTaken}
-use Rattle.rdx_parts.specs.Scope.{scope_of}
 use Rattle.rdx_defs.proofs.InheritedParts.{case-has}
 use Rattle.rdx_defs.proofs.ReadableParts.{readable-inherited}
 use Rattle.rdx_defs.proofs.relations.stands.add_case.Goals as goal

@@ -1,6 +1,6 @@
 use Rattle.std.proofs.Common.{◌≡◌, drop}
 use Rattle.std.specs.Prelude.{option_map}
-use Rattle.rdx_parts.specs.Earliest.{start, lesser, earliest}
+use Rattle.rdx_templates.specs.Earliest.{start, lesser, earliest}
 use Rattle.rdx_parts.specs.PartViews.{stands_of}
 use Rattle.rdx_parts.specs.StandChecks.{bad_names}
 use Rattle.rdx_parts.proofs.stands.checks.earliest_bad_name.Given as goal

@@ -1,6 +1,6 @@
 use Rattle.std.proofs.Common.{◌≡◌, drop}
 use Rattle.std.specs.Prelude.{option_map}
-use Rattle.rdx_parts.specs.Earliest.{lesser, earliest}
+use Rattle.rdx_templates.specs.Earliest.{lesser, earliest}
 use Rattle.rdx_parts.specs.PartViews.{misfit_of, stands_of}
 use Rattle.rdx_parts.specs.StandChecks.{mode_faults, misfit_start}
 use Rattle.rdx_parts.proofs.stands.checks.earliest_misfit.Given as goal

@@ -2,10 +2,10 @@ use Rattle.std.proofs.Common.{◌∙◌, ◌+◌, drop, List, sym, ap}
 use Rattle.std.specs.Prelude.{Option, option_map}
 use Rattle.rdx_sexp.specs.Sexp.{Sexp}
 use Rattle.rdx_patterns.specs.Inside.Repeats.{texts_in}
-use Rattle.rdx_parts.specs.Earliest.{start, lesser, earliest}
+use Rattle.rdx_templates.specs.Earliest.{start, lesser, earliest}
+use Rattle.rdx_templates.proofs.EarliestPlaces.{earliest-more}
 use Rattle.rdx_parts.specs.PartViews.{stand_of, stands_of}
 use Rattle.rdx_parts.specs.NamesAgain.{name_again, names_again}
-use Rattle.rdx_parts.proofs.EarliestPlaces.{earliest-more}
 use Rattle.rdx_parts.proofs.RepeatedNames.{again-later}
 use Rattle.rdx_parts.proofs.stands.checks.earliest_repeated.Goals as goal
 

@@ -1,7 +1,7 @@
 use Rattle.std.proofs.Common.{◌≡◌, drop, []}
 use Rattle.std.specs.Prelude.{option_map}
 use Rattle.rdx_patterns.specs.Inside.Repeats.{texts_in}
-use Rattle.rdx_parts.specs.Earliest.{start, lesser, earliest}
+use Rattle.rdx_templates.specs.Earliest.{start, lesser, earliest}
 use Rattle.rdx_parts.specs.PartViews.{stands_of}
 use Rattle.rdx_parts.specs.NamesAgain.{names_again}
 use Rattle.rdx_parts.proofs.stands.checks.earliest_repeated.Given as goal

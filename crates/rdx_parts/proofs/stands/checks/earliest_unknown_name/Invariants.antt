@@ -1,8 +1,8 @@
 use Rattle.std.proofs.Common.{◌≡◌, drop}
 use Rattle.std.specs.Prelude.{option_map}
-use Rattle.rdx_parts.specs.Earliest.{start, lesser, earliest}
+use Rattle.rdx_templates.specs.Earliest.{start, lesser, earliest}
+use Rattle.rdx_templates.specs.Scope.{scope_of}
 use Rattle.rdx_parts.specs.PartViews.{stands_of}
-use Rattle.rdx_parts.specs.Scope.{scope_of}
 use Rattle.rdx_parts.specs.StandChecks.{unknown_names}
 use Rattle.rdx_parts.proofs.stands.checks.earliest_unknown_name.Given as goal
 

@@ -5,11 +5,11 @@ use Rattle.rdx_patterns.specs.Inside.Repeats.{texts_in}
 use Rattle.rdx_patterns.specs.Parts.{text_of}
 use Rattle.rdx_patterns.specs.PatternChecks.{when}
 use Rattle.rdx_patterns.proofs.Seen.{contains-texts, texts-inserted, not_either}
-use Rattle.rdx_parts.specs.Earliest.{start, earliest}
+use Rattle.rdx_templates.specs.Earliest.{start, earliest}
+use Rattle.rdx_templates.proofs.EarliestPlaces.{earliest-when}
 use Rattle.rdx_parts.specs.PartViews.{stand_of}
 use Rattle.rdx_parts.specs.NamesAgain.{name_again, bound_with}
 use Rattle.rdx_parts.specs.StandChecks.{label, names_with}
-use Rattle.rdx_parts.proofs.EarliestPlaces.{earliest-when}
 use Rattle.rdx_parts.proofs.RepeatedNames.{last-same}
 use Rattle.rdx_parts.proofs.stands.checks.name_again.Goals as goal
 

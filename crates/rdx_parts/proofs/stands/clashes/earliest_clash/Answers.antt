@@ -4,8 +4,8 @@ use Rattle.rdx_lang.proofs.Rest.{rest_at}
 use Rattle.rdx_patterns.specs.OccurrenceView.{bounds_of, occurrence_of, occurrences_of}
 use Rattle.rdx_patterns.specs.PatternChecks.{Bound, when}
 use Rattle.rdx_patterns.specs.Refusal.{first}
-use Rattle.rdx_parts.specs.Bound.{depth_of}
-use Rattle.rdx_parts.specs.Earliest.{start, lesser, earliest}
+use Rattle.rdx_templates.specs.Bound.{depth_of}
+use Rattle.rdx_templates.specs.Earliest.{start, lesser, earliest}
 use Rattle.rdx_parts.specs.PartsHave.{BindNames}
 use Rattle.rdx_parts.specs.StandChecks.{is_other, other_depths}
 use Rattle.rdx_parts.specs.Stands.{bound_among}

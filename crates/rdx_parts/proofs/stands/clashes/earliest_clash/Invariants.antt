@@ -1,7 +1,7 @@
 use Rattle.std.proofs.Common.{◌≡◌, ◌++◌, drop}
 use Rattle.std.specs.Prelude.{option_map}
 use Rattle.rdx_patterns.specs.OccurrenceView.{occurrences_of}
-use Rattle.rdx_parts.specs.Earliest.{start, lesser, earliest}
+use Rattle.rdx_templates.specs.Earliest.{start, lesser, earliest}
 use Rattle.rdx_parts.specs.StandChecks.{other_depths}
 use Rattle.rdx_parts.specs.Stands.{bound_among}
 use Rattle.rdx_parts.proofs.stands.clashes.earliest_clash.Given as goal

@@ -1,7 +1,7 @@
 use Rattle.std.proofs.Common.{◌≡◌, ◌++◌, drop}
+use Rattle.rdx_templates.specs.Scope.{scope_of}
 use Rattle.rdx_parts.specs.BareStands.{extras_stand}
 use Rattle.rdx_parts.specs.PartViews.{place_of, stands_of}
-use Rattle.rdx_parts.specs.Scope.{scope_of}
 use Rattle.rdx_parts.proofs.stands.collecting.add_extras.Given as goal
 
 abbrev pub invariant-loop-d : goal.invariant-loop-d

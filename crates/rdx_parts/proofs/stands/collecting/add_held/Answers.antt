@@ -1,9 +1,9 @@
 use Rattle.std.proofs.Common.{◌∙◌, Some, sym, ap, subst}
 use Rattle.std.specs.Prelude.{option_map}
+use Rattle.rdx_templates.specs.Scope.{scope_of}
 use Rattle.rdx_parts.specs.Arguments.{Arguments}
 use Rattle.rdx_parts.specs.PartViews.{headed_of}
 use Rattle.rdx_parts.specs.PartsHave.{AreReadable, PremiseHas, readable}
-use Rattle.rdx_parts.specs.Scope.{scope_of}
 use Rattle.rdx_parts.proofs.stands.collecting.add_held.Goals as goal
 
 pub add_arguments-requires : goal.add_arguments-requires

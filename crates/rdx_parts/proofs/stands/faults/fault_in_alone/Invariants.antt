@@ -1,6 +1,6 @@
 use Rattle.std.proofs.Common.{◌≡◌, drop, map}
 use Rattle.std.specs.Prelude.{option_map}
-use Rattle.rdx_parts.specs.Earliest.{start, lesser, earliest}
+use Rattle.rdx_templates.specs.Earliest.{start, lesser, earliest}
 use Rattle.rdx_parts.specs.ByNames.{alone_faults}
 use Rattle.rdx_parts.proofs.stands.faults.fault_in_alone.Given as goal
 

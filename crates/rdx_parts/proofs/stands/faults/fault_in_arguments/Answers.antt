@@ -4,16 +4,16 @@ use Rattle.std.specs.Iterator.Adapters.{zip_first, zip_second}
 use Rattle.std.specs.Prelude.{Option, option_map}
 use Rattle.std.specs.Slice.Iter.{iter_rest}
 use Rattle.rdx_sexp.specs.Sexp.{Sexp}
+use Rattle.rdx_templates.specs.Bound.{Bound}
+use Rattle.rdx_templates.specs.Earliest.{start, lesser, earliest}
+use Rattle.rdx_templates.specs.Scope.{scope_of}
+use Rattle.rdx_templates.proofs.EarliestPlaces.{lesser_none}
 use Rattle.rdx_parts.specs.Arguments.{data_at, data_by}
-use Rattle.rdx_parts.specs.Bound.{Bound}
-use Rattle.rdx_parts.specs.Earliest.{start, lesser, earliest}
 use Rattle.rdx_parts.specs.Outlines.{each}
 use Rattle.rdx_parts.specs.ByNames.{faults_by, flagged_faults, patterns_names}
 use Rattle.rdx_parts.specs.PartViews.{flag_at}
 use Rattle.rdx_parts.specs.PartsHave.{AreReadable, CanBind}
-use Rattle.rdx_parts.specs.Scope.{scope_of}
 use Rattle.rdx_parts.proofs.ArgumentLists.{bind-argument, faults-end, earliest-first}
-use Rattle.rdx_parts.proofs.EarliestPlaces.{lesser_none}
 use Rattle.rdx_parts.proofs.stands.faults.fault_in_arguments.Goals as goal
 
 pub loop-flag-init : goal.loop-flag-init

@@ -2,13 +2,13 @@ use Rattle.std.proofs.Common.{◌≡◌, ◌++◌, map}
 use Rattle.std.specs.Iterator.Adapters.{zip_first, zip_second}
 use Rattle.std.specs.Prelude.{option_map}
 use Rattle.std.specs.Slice.Iter.{iter_rest}
+use Rattle.rdx_templates.specs.Earliest.{start, lesser, earliest}
+use Rattle.rdx_templates.specs.Scope.{scope_of}
 use Rattle.rdx_parts.specs.Arguments.{data_at}
-use Rattle.rdx_parts.specs.Earliest.{start, lesser, earliest}
 use Rattle.rdx_parts.specs.Outlines.{each}
 use Rattle.rdx_parts.specs.ByNames.{arguments_faults, flagged_faults}
 use Rattle.rdx_parts.specs.PartViews.{arguments_of, flag_at}
 use Rattle.rdx_parts.specs.PartsHave.{AreReadable, CanBind}
-use Rattle.rdx_parts.specs.Scope.{scope_of}
 use Rattle.rdx_parts.proofs.stands.faults.fault_in_arguments.Given as goal
 
 abbrev pub invariant-loop-flag : goal.invariant-loop-flag

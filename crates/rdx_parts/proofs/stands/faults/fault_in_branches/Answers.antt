@@ -1,6 +1,6 @@
+use Rattle.rdx_templates.specs.Scope.{scope_of}
 use Rattle.rdx_parts.specs.PartViews.{branch_of}
 use Rattle.rdx_parts.specs.PartsHave.{can_bind}
-use Rattle.rdx_parts.specs.Scope.{scope_of}
 use Rattle.rdx_parts.proofs.PartsAt.{branches-at}
 use Rattle.rdx_parts.proofs.stands.faults.fault_in_branches.Goals as goal
 

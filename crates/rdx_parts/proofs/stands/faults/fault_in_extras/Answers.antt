@@ -2,13 +2,13 @@ use Rattle.std.proofs.Common.{◌≡◌, ◌++◌, ◌∙◌, ◌+◌, drop, Lis
 use Rattle.std.specs.Prelude.{option_map}
 use Rattle.rdx_sexp.specs.Sexp.{Sexp}
 use Rattle.rdx_patterns.proofs.Rests.{drop-at}
-use Rattle.rdx_parts.specs.Earliest.{start, lesser, earliest}
+use Rattle.rdx_templates.specs.Earliest.{start, lesser, earliest}
+use Rattle.rdx_templates.specs.Scope.{scope_of}
+use Rattle.rdx_templates.proofs.EarliestPlaces.{lesser_assoc, earliest_append}
 use Rattle.rdx_parts.specs.ExtraForms.{ExtraForm, form_at}
 use Rattle.rdx_parts.specs.ByNames.{extra_names, extra_faults, extras_faults}
 use Rattle.rdx_parts.specs.PartViews.{place_of}
 use Rattle.rdx_parts.specs.PartsHave.{ExtraHas, can_bind}
-use Rattle.rdx_parts.specs.Scope.{scope_of}
-use Rattle.rdx_parts.proofs.EarliestPlaces.{lesser_assoc, earliest_append}
 use Rattle.rdx_parts.proofs.PartsAt.{extras-at}
 use Rattle.rdx_parts.proofs.stands.faults.fault_in_extras.Goals as goal
 

@@ -1,6 +1,6 @@
+use Rattle.rdx_templates.specs.Scope.{scope_of}
 use Rattle.rdx_parts.specs.PartViews.{question_of}
 use Rattle.rdx_parts.specs.PartsHave.{can_bind}
-use Rattle.rdx_parts.specs.Scope.{scope_of}
 use Rattle.rdx_parts.proofs.PartsAt.{questions-at}
 use Rattle.rdx_parts.proofs.stands.faults.fault_in_questions.Goals as goal
 

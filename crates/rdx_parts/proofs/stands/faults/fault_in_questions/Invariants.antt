@@ -1,9 +1,9 @@
 use Rattle.std.proofs.Common.{◌≡◌, drop, map}
 use Rattle.std.specs.Prelude.{option_map}
-use Rattle.rdx_parts.specs.Earliest.{start, lesser, earliest}
+use Rattle.rdx_templates.specs.Earliest.{start, lesser, earliest}
+use Rattle.rdx_templates.specs.Scope.{scope_of}
 use Rattle.rdx_parts.specs.ByNames.{questions_faults}
 use Rattle.rdx_parts.specs.PartViews.{question_of}
-use Rattle.rdx_parts.specs.Scope.{scope_of}
 use Rattle.rdx_parts.proofs.stands.faults.fault_in_questions.Given as goal
 
 abbrev pub invariant-loop-question : goal.invariant-loop-question

@@ -1,6 +1,6 @@
+use Rattle.rdx_templates.specs.Scope.{scope_of}
 use Rattle.rdx_parts.specs.PartViews.{rule_branch_of}
 use Rattle.rdx_parts.specs.PartsHave.{can_bind}
-use Rattle.rdx_parts.specs.Scope.{scope_of}
 use Rattle.rdx_parts.proofs.PartsAt.{rules-at}
 use Rattle.rdx_parts.proofs.stands.faults.fault_in_rules.Goals as goal
 

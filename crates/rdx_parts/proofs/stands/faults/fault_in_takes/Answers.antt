@@ -2,8 +2,8 @@ use Rattle.std.proofs.Common.{◌≡◌, ◌++◌, ◌∙◌, Bor, ap, append-ni
 use Rattle.std.proofs.lemmas.Result.{IfOk-weaker}
 use Rattle.std.specs.Prelude.{Option, option_map}
 use Rattle.rdx_sexp.specs.Sexp.{Sexp}
-use Rattle.rdx_parts.specs.Bound.{Bound}
-use Rattle.rdx_parts.specs.Earliest.{earliest, start}
+use Rattle.rdx_templates.specs.Bound.{Bound}
+use Rattle.rdx_templates.specs.Earliest.{earliest, start}
 use Rattle.rdx_parts.specs.Outlines.{taken_occurrences}
 use Rattle.rdx_parts.specs.ByNames.{pattern_faults}
 use Rattle.rdx_parts.specs.PartViews.{takes_of}

@@ -4,8 +4,8 @@ use Rattle.std.specs.Iterator.Adapters.{zip_first, zip_second}
 use Rattle.std.specs.Prelude.{option_map}
 use Rattle.std.specs.Slice.Iter.{iter_rest}
 use Rattle.rdx_sexp.specs.Sexp.{Sexp}
+use Rattle.rdx_templates.specs.Bound.{Bound}
 use Rattle.rdx_parts.specs.Arguments.{data_at, data_by}
-use Rattle.rdx_parts.specs.Bound.{Bound}
 use Rattle.rdx_parts.specs.Outlines.{each}
 use Rattle.rdx_parts.specs.ByNames.{patterns_names}
 use Rattle.rdx_parts.specs.PartViews.{flag_at}

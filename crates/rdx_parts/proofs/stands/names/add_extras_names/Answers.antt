@@ -1,8 +1,8 @@
 use Rattle.std.proofs.Common.{sym, subst}
+use Rattle.rdx_templates.specs.Scope.{scope_of}
 use Rattle.rdx_parts.specs.ExtraForms.{ExtraForm}
 use Rattle.rdx_parts.specs.PartViews.{place_of}
 use Rattle.rdx_parts.specs.PartsHave.{ExtraHas, can_bind}
-use Rattle.rdx_parts.specs.Scope.{scope_of}
 use Rattle.rdx_parts.proofs.PartsAt.{extras-at}
 use Rattle.rdx_parts.proofs.stands.names.add_extras_names.Goals as goal
 

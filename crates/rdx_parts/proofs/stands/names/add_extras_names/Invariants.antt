@@ -1,7 +1,7 @@
 use Rattle.std.proofs.Common.{◌≡◌, ◌++◌, drop}
+use Rattle.rdx_templates.specs.Scope.{scope_of}
 use Rattle.rdx_parts.specs.ByNames.{extras_names}
 use Rattle.rdx_parts.specs.PartViews.{place_of}
-use Rattle.rdx_parts.specs.Scope.{scope_of}
 use Rattle.rdx_parts.proofs.stands.names.add_extras_names.Given as goal
 
 abbrev pub invariant-loop-d : goal.invariant-loop-d

@@ -2,7 +2,7 @@ use Rattle.std.proofs.Common.{◌≡◌, drop}
 use Rattle.std.specs.Prelude.{option_map}
 use Rattle.rdx_patterns.specs.OccurrenceView.{occurrences_of}
 use Rattle.rdx_patterns.specs.PatternChecks.{keyword_faults}
-use Rattle.rdx_parts.specs.Earliest.{earliest, lesser, start}
+use Rattle.rdx_templates.specs.Earliest.{earliest, lesser, start}
 use Rattle.rdx_parts.proofs.stands.patterns.earliest_keyword.Given as goal
 
 abbrev pub invariant-loop-o : goal.invariant-loop-o

@@ -1,9 +1,9 @@
 use Rattle.std.proofs.Common.{sym, subst}
 use Rattle.rdx_lang.specs.Checked.{language_in}
+use Rattle.rdx_templates.specs.Scope.{scope_of}
 use Rattle.rdx_parts.specs.ExtraForms.{ExtraForm}
 use Rattle.rdx_parts.specs.PartViews.{place_of}
 use Rattle.rdx_parts.specs.PartsHave.{ExtraHas, can_bind, can_read}
-use Rattle.rdx_parts.specs.Scope.{scope_of}
 use Rattle.rdx_parts.proofs.PartsAt.{extras-at, extra-weaker}
 use Rattle.rdx_parts.proofs.stands.readings.read_extras.Goals as goal
 

@@ -1,8 +1,8 @@
 use Rattle.std.proofs.Common.{◌≡◌, ◌++◌, drop}
 use Rattle.rdx_lang.specs.ProgramView.{extras_of}
+use Rattle.rdx_templates.specs.Scope.{scope_of}
 use Rattle.rdx_parts.specs.ByNames.{extras_reading}
 use Rattle.rdx_parts.specs.PartViews.{place_of}
-use Rattle.rdx_parts.specs.Scope.{scope_of}
 use Rattle.rdx_parts.proofs.stands.readings.read_extras.Given as goal
 
 abbrev pub invariant-loop-d : goal.invariant-loop-d

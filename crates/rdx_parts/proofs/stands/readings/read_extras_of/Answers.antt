@@ -1,10 +1,10 @@
 use Rattle.std.proofs.Common.{◌≡◌, ◌∙◌, sym, ap}
 use Rattle.std.proofs.lemmas.Result.{IfOk-weaker}
-use Rattle.rdx_parts.specs.Bound.{Bound}
+use Rattle.rdx_templates.specs.Bound.{Bound}
+use Rattle.rdx_templates.specs.Scope.{scope_of}
 use Rattle.rdx_parts.specs.Outlines.{bound_by_taken}
 use Rattle.rdx_parts.specs.ByNames.{extras_reading}
 use Rattle.rdx_parts.specs.PartViews.{branch_of}
-use Rattle.rdx_parts.specs.Scope.{scope_of}
 use Rattle.rdx_parts.proofs.NamesBound.{extras-reads}
 use Rattle.rdx_parts.proofs.stands.readings.read_extras_of.Goals as goal
 

@@ -1,11 +1,11 @@
 use Rattle.std.proofs.Common.{◌≡◌, ◌∙◌, ap}
 use Rattle.std.proofs.lemmas.Result.{IfOk-weaker}
-use Rattle.rdx_parts.specs.Bound.{Bound}
+use Rattle.rdx_templates.specs.Bound.{Bound}
+use Rattle.rdx_templates.specs.Scope.{scope_of}
+use Rattle.rdx_templates.specs.TemplateReading.{template_reading}
 use Rattle.rdx_parts.specs.Outlines.{bound_by_branch}
 use Rattle.rdx_parts.specs.PartViews.{branch_of}
-use Rattle.rdx_parts.specs.Scope.{scope_of}
 use Rattle.rdx_parts.specs.Stands.{names_bound}
-use Rattle.rdx_parts.specs.TemplateReading.{template_reading}
 use Rattle.rdx_parts.proofs.NamesBound.{branch-names}
 use Rattle.rdx_parts.proofs.stands.readings.read_result.Goals as goal
 

@@ -5,10 +5,10 @@ use Rattle.std.specs.Prelude.{option_map}
 use Rattle.std.specs.Slice.Iter.{iter_rest}
 use Rattle.rdx_sexp.specs.Sexp.{Sexp}
 use Rattle.rdx_lang.specs.TemplateView.{template_of}
+use Rattle.rdx_templates.specs.Scope.{scope_of}
 use Rattle.rdx_parts.specs.Arguments.{data_at, data_by}
 use Rattle.rdx_parts.specs.ExtraReading.{templates_reading}
 use Rattle.rdx_parts.specs.PartViews.{flag_at}
-use Rattle.rdx_parts.specs.Scope.{scope_of}
 use Rattle.rdx_parts.proofs.ArgumentReadings.{templates-end}
 use Rattle.rdx_parts.proofs.stands.readings.read_templates.Goals as goal
 

@@ -3,10 +3,10 @@ use Rattle.std.specs.Iterator.Adapters.{zip_first, zip_second}
 use Rattle.std.specs.Prelude.{not}
 use Rattle.std.specs.Slice.Iter.{iter_rest}
 use Rattle.rdx_lang.specs.TemplateView.{template_of}
+use Rattle.rdx_templates.specs.Scope.{scope_of}
 use Rattle.rdx_parts.specs.Arguments.{data_at, templates_in}
 use Rattle.rdx_parts.specs.ExtraReading.{templates_reading}
 use Rattle.rdx_parts.specs.PartViews.{arguments_of, flag_at}
-use Rattle.rdx_parts.specs.Scope.{scope_of}
 use Rattle.rdx_parts.proofs.stands.readings.read_templates.Given as goal
 
 abbrev pub invariant-loop-flag : goal.invariant-loop-flag

@@ -1,7 +1,0 @@
-use Rattle.std.proofs.Common.{drop}
-use Rattle.std.specs.BTreeMap.{get_by_text}
-use Rattle.rdx_lang.specs.Model.Places.{FindsPlaces}
-use Rattle.rdx_parts.proofs.scope.places_of.Given as goal
-
-abbrev pub invariant-loop-place : goal.invariant-loop-place
-invariant-loop-place l = FindsPlaces (λ n. n) (get_by_text l.places) l.place (drop l.place l.names)

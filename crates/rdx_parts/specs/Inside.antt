@@ -1,5 +1,0 @@
-pub mod HeadViews
-pub mod PartView
-pub mod ItemParts
-pub mod PartRefusal
-pub mod Reach

@@ -1,0 +1,16 @@
+pub mod HeadTests
+pub mod HostWords
+pub mod ItemTests
+pub mod TemplateEquations
+pub mod OneItem
+pub mod ItemLists
+pub mod Unrepeated
+pub mod Depths
+pub mod FoundDepths
+pub mod Reaching
+pub mod ListsReach
+pub mod DrivenItems
+pub mod Fitting
+pub mod OneReading
+pub mod Examples
+pub mod EarliestPlaces

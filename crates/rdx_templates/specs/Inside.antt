@@ -1,0 +1,4 @@
+pub mod HeadViews
+pub mod PartView
+pub mod ItemParts
+pub mod PartRefusal

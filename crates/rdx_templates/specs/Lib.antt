@@ -1,0 +1,16 @@
+pub mod Earliest
+pub mod Bound
+pub mod Scope
+pub mod HostHeads
+pub mod TemplateHeads
+pub mod TemplateShapes
+pub mod TemplateOccurrences
+pub mod TemplateReading
+pub mod TemplateChecks
+pub mod TemplateRefusal
+pub mod Reach
+pub mod Answers
+pub mod Laws
+pub mod Examples
+pub mod Model
+pub mod Inside
