@@ -4,11 +4,9 @@ use Rattle.std.proofs.lemmas.List.{append-nil}
 use Rattle.std.specs.Prelude.{Option, Some, None, bytes_eq, codes, if◌then◌else◌}
 use Rattle.rdx_sexp.specs.Sexp.{Sexp}
 use Rattle.rdx_lang.specs.Programs.{Mode}
-use Rattle.rdx_patterns.specs.Kinds.{is_among}
-use Rattle.rdx_patterns.specs.Occurrences.{occurrences}
 use Rattle.rdx_patterns.specs.Parts.{text_of}
 use Rattle.rdx_parts.specs.Arguments.{is_misfit}
-use Rattle.rdx_parts.specs.ExtraForms.{of_case, of_clause, of_rule}
+use Rattle.rdx_parts.specs.ExtraForms.{of_clause, of_rule}
 use Rattle.rdx_parts.specs.Headed.{Headed, headed}
 use Rattle.rdx_parts.specs.BareStands as bare_stands
 use Rattle.rdx_defs.specs.Inside.BareForms as bare_forms
@@ -21,11 +19,9 @@ use Rattle.rdx_defs.specs.JudgementStands as judgements
 use Rattle.rdx_defs.specs.JudgementStands.{rule_arguments, bound_by_inputs, bound_by_rule, conclusion_stands, premises_stand, name_stands, rule_stands, rules_stand, flags_stand, mode_stands, lone_patterns, given_stands, option_stands, options_stand, missing_mode, judgement_stands}
 use Rattle.rdx_defs.specs.MetafunctionForms.{ClauseForm, clause_form, ContractForm, MetafunctionForm}
 use Rattle.rdx_defs.specs.MetafunctionStands.{clause_stands, clauses_stand, contract_stands, function_stands}
-use Rattle.rdx_defs.specs.RelationForms.{CaseForm, case_form, RelationForm, is_keyword}
-use Rattle.rdx_defs.specs.RelationStands.{case_stands, cases_stand, domain_stands, expanded_stands, arrows_stand, shortcut_stands, arrows_with, shortcuts_stand}
+use Rattle.rdx_relations.specs.RelationForms.{is_keyword}
 use Rattle.rdx_templates.specs.Scope.{Scope}
-use Rattle.rdx_defs.specs.Shorthand.{Shortcut, shortcut_form, is_known_arrow}
-use Rattle.rdx_parts.specs.Stands.{Stand, misshaped, function, judgement, arrow, pattern, template, repeated, names_bound, arguments_stand, misfits, held_stands, bound_by_premise}
+use Rattle.rdx_parts.specs.Stands.{Stand, misshaped, function, judgement, pattern, template, names_bound, arguments_stand, misfits, held_stands, bound_by_premise}
 use Rattle.rdx_defs.proofs.LoneStands.{contract-lone}
 use Rattle.rdx_parts.proofs.BranchStands.{branch_stands}
 use Rattle.rdx_parts.proofs.BareChecks.{bare, bare-both, bare-either, bare-lone, bare-misfits, bare-arguments, bare-held, bare-extras}
@@ -79,55 +75,7 @@ bare-name (Some n) = refl
 
 -- ---- shortcuts
 
--- the arrows of one
-bare-arrows : (seen : List (List ℕ)) (s : Shortcut) → map bare (arrows_stand seen s) ≡ arrows_stand seen s
-bare-arrows seen s =
-    let b = is_known_arrow seen s.old in
-    let c = is_among seen (text_of s.new) in
-    let os = if b then [] else arrow s.old ∷ [] in
-    let rs = if c then repeated s.new ∷ [] else [] in
-    bare-both os rs os rs (bare-either b [] (arrow s.old ∷ []) [] (arrow s.old ∷ []) refl refl) (bare-either c (repeated s.new ∷ []) [] (repeated s.new ∷ []) [] refl refl)
-
--- one
-bare-shortcut : (seen : List (List ℕ)) (d : Sexp) (o : Option Shortcut) → map bare (shortcut_stands seen d o) ≡ shortcut_stands seen d o
-bare-shortcut seen d None = refl
-bare-shortcut seen d (Some s) = bare-arrows seen s
-
--- several
-bare-shortcuts : (seen : List (List ℕ)) (ds : List Sexp) → map bare (shortcuts_stand seen ds) ≡ shortcuts_stand seen ds
-bare-shortcuts seen [] = refl
-bare-shortcuts seen (d ∷ ds) =
-    let o = shortcut_form d in
-    let ss = shortcut_stands seen d o in
-    let rs = shortcuts_stand (arrows_with seen o) ds in
-    bare-both ss rs ss rs (bare-shortcut seen d o) (bare-shortcuts (arrows_with seen o) ds)
-
 module _ (S : Scope) (ns : List (List ℕ)) where
-  -- in a case
-  bare-case : (d : Sexp) (o : Option CaseForm) → map bare (case_stands S ns d o) ≡ bare_forms.case_stands S d o
-  bare-case d None = refl
-  bare-case d (Some c) =
-      ap (λ (ss : List Stand). arrow c.arrow ∷ pattern [] (occurrences 0 c.pattern) ∷ template [] c.result ∷ ss) (bare-extras S ns of_case _ false c.extras)
-
-  -- in cases
-  bare-cases : (ds : List Sexp) → map bare (cases_stand S ns ds) ≡ bare_forms.cases_stand S ds
-  bare-cases [] = refl
-  bare-cases (d ∷ ds) =
-      bare-both (case_stands S ns d (case_form d)) (cases_stand S ns ds) (bare_forms.case_stands S d (case_form d)) (bare_forms.cases_stand S ds)
-      (bare-case d (case_form d)) (bare-cases ds)
-
-  -- in a relation without shorthand
-  bare-expanded : (r : RelationForm) → map bare (expanded_stands S ns r) ≡ bare_forms.expanded_stands S r
-  bare-expanded r = bare-both (domain_stands r.domain) (cases_stand S ns r.cases) (domain_stands r.domain) (bare_forms.cases_stand S r.cases) (bare-domain r.domain) (bare-cases r.cases)
-    where
-      bare-domain : (o : Option Sexp) → map bare (domain_stands o) ≡ domain_stands o
-      bare-domain None = refl
-      bare-domain (Some p) = refl
-
-  -- and with shortcuts behind it
-  pub bare-relation : (r : RelationForm) (ds : List Sexp) → map bare (expanded_stands S ns r ++ shortcuts_stand [] ds) ≡ bare_forms.relation_stands S r ds
-  bare-relation r ds = bare-both (expanded_stands S ns r) (shortcuts_stand [] ds) (bare_forms.expanded_stands S r) (shortcuts_stand [] ds) (bare-expanded r) (bare-shortcuts [] ds)
-
   -- in a clause
   bare-clause : (x : List ℕ) (d : Sexp) (o : Option ClauseForm) → map bare (clause_stands S ns x d o) ≡ bare_forms.clause_stands S d (own_clause x o)
   bare-clause x d None = refl

@@ -4,14 +4,13 @@ use Rattle.std.proofs.lemmas.List.{append-nil, map-append}
 use Rattle.std.specs.Prelude.{Option, Some, None, bytes_eq, codes, if◌then◌else◌}
 use Rattle.rdx_sexp.specs.Sexp.{Sexp}
 use Rattle.rdx_lang.specs.Programs.{Mode}
-use Rattle.rdx_patterns.specs.Kinds.{is_among}
 use Rattle.rdx_patterns.specs.Parts.{text_of}
 use Rattle.rdx_patterns.specs.PatternChecks as patterns
 use Rattle.rdx_templates.specs.Bound.{Bound}
 use Rattle.rdx_parts.specs.Arguments.{is_misfit, patterns_in}
 use Rattle.rdx_parts.specs.ExtraForms.{of_rule}
 use Rattle.rdx_parts.specs.Headed.{Headed, headed}
-use Rattle.rdx_defs.specs.Inside.FormOutlines.{case_branch, in_case, case_branches, domain_patterns, relation_outline, clause_branch, own_clause, in_clause, clause_branches, contract_patterns, metafunction_outline, rule_branch, in_rule, rule_branches, given_patterns, option_patterns, options_patterns, judgement_outline, question_outline}
+use Rattle.rdx_defs.specs.Inside.FormOutlines.{clause_branch, own_clause, in_clause, clause_branches, contract_patterns, metafunction_outline, rule_branch, in_rule, rule_branches, given_patterns, option_patterns, options_patterns, judgement_outline, question_outline}
 use Rattle.rdx_parts.specs.ByNames as by_names
 use Rattle.rdx_parts.specs.ByNames.{premise_names, input_names, rule_names, template_faults, arguments_faults, premise_faults, extras_faults, branch_faults, branches_faults, alone_faults, conclusion_faults, premises_faults, rules_faults, result_faults, question_faults, outline_faults}
 use Rattle.rdx_defs.specs.JudgementForms.{RuleForm, rule_form, own_rule, OptionForm, JudgementForm, judgement_in, mode_form, own_mode, is_flag, key_text, is_fit_option}
@@ -20,13 +19,11 @@ use Rattle.rdx_defs.specs.JudgementStands as judgements
 use Rattle.rdx_defs.specs.JudgementStands.{rule_arguments, bound_by_inputs, bound_by_rule, conclusion_stands, premises_stand, name_stands, rule_stands, rules_stand, flags_stand, mode_stands, lone_patterns, given_stands, option_stands, options_stand, missing_mode, judgement_stands}
 use Rattle.rdx_defs.specs.MetafunctionForms.{ClauseForm, clause_form, ContractForm, MetafunctionForm}
 use Rattle.rdx_defs.specs.MetafunctionStands.{clause_stands, clauses_stand, contract_stands, function_stands}
-use Rattle.rdx_defs.specs.RelationForms.{CaseForm, case_form, RelationForm, is_keyword}
-use Rattle.rdx_defs.specs.RelationStands.{case_stands, cases_stand, domain_stands, expanded_stands, shortcut_stands, arrows_with, shortcuts_stand}
+use Rattle.rdx_relations.specs.RelationForms.{is_keyword}
 use Rattle.rdx_templates.specs.Scope.{Scope}
-use Rattle.rdx_defs.specs.Shorthand.{Shortcut, shortcut_form, is_known_arrow}
-use Rattle.rdx_parts.specs.Stands.{Stand, misshaped, function, judgement, arrow, template, misfit, repeated, names_bound, arguments_stand, misfits, held_stands, bound_by_premise, bound_by_extras}
+use Rattle.rdx_parts.specs.Stands.{Stand, misshaped, function, judgement, template, misfit, names_bound, arguments_stand, misfits, held_stands, bound_by_premise, bound_by_extras}
 use Rattle.rdx_parts.specs.declared.stands.faults.Check.{Check}
-use Rattle.rdx_defs.proofs.LoneStands.{contract-lone, domain-lone}
+use Rattle.rdx_defs.proofs.LoneStands.{contract-lone}
 use Rattle.rdx_parts.proofs.BranchStands.{branch_stands}
 use Rattle.rdx_parts.proofs.NamesBound.{named_at, faults, patterns-names, premise-names, extras-names, passed, only, misshaped-none, named-none, misfits-none, skipped, faults-both, template-fault, arguments-faults, held-faults, extras-faults, branch-faults, branches-append, alone-faults, alone-append, rules-append}
 
@@ -40,63 +37,8 @@ module _ (S : Scope) (ns : List (List ℕ)) where
   rule-names m r =
       (λ i. input-names m r i ++ extras-names S ns of_rule r.premises i)
       ∙ sym (map-append named_at (bound_by_inputs ns m r) (bound_by_extras of_rule S ns r.premises))
-  -- ---- relations
 
 module _ (k : Check) (S : Scope) (ns : List (List ℕ)) where
-  -- in a case
-  case-faults : (d : Sexp) (o : Option CaseForm) → faults k S ns (case_stands S ns d o) ≡ branches_faults k S ns (in_case o)
-  case-faults d None = misshaped-none k S ns d
-  case-faults d (Some c) =
-      skipped k S ns (arrow c.arrow) (branch_stands S ns false (case_branch c)) (passed k S ns (arrow c.arrow) refl refl refl refl)
-      ∙ branch-faults k S ns false (case_branch c) ∙ sym (append-nil (branch_faults k S ns (case_branch c)))
-
-  -- in cases
-  cases-faults : (ds : List Sexp) → faults k S ns (cases_stand S ns ds) ≡ branches_faults k S ns (case_branches ds)
-  cases-faults [] = refl
-  cases-faults (d ∷ ds) =
-      faults-both k S ns (case_stands S ns d (case_form d)) (cases_stand S ns ds) (branches_faults k S ns (in_case (case_form d)))
-      (branches_faults k S ns (case_branches ds)) (case-faults d (case_form d)) (cases-faults ds)
-      ∙ sym (branches-append k S ns (in_case (case_form d)) (case_branches ds))
-
-  -- in an arrow of a shortcut that is none
-  arrow-none : (b : Bool) (d : Sexp) → faults k S ns (if b then [] else arrow d ∷ []) ≡ []
-  arrow-none true d = refl
-  arrow-none false d = only k S ns (arrow d) [] (passed k S ns (arrow d) refl refl refl refl)
-
-  -- in one that comes again
-  repeated-none : (b : Bool) (d : Sexp) → faults k S ns (if b then repeated d ∷ [] else []) ≡ []
-  repeated-none true d = only k S ns (repeated d) [] (passed k S ns (repeated d) refl refl refl refl)
-  repeated-none false d = refl
-
-  -- in a shortcut
-  shortcut-none : (seen : List (List ℕ)) (d : Sexp) (o : Option Shortcut) → faults k S ns (shortcut_stands seen d o) ≡ []
-  shortcut-none seen d None = misshaped-none k S ns d
-  shortcut-none seen d (Some s) =
-      let b = is_known_arrow seen s.old in
-      let c = is_among seen (text_of s.new) in
-      faults-both k S ns (if b then [] else arrow s.old ∷ []) (if c then repeated s.new ∷ [] else []) [] [] (arrow-none b s.old) (repeated-none c s.new)
-
-  -- in shortcuts
-  shortcuts-none : (seen : List (List ℕ)) (ds : List Sexp) → faults k S ns (shortcuts_stand seen ds) ≡ []
-  shortcuts-none seen [] = refl
-  shortcuts-none seen (d ∷ ds) =
-      let o = shortcut_form d in
-      faults-both k S ns (shortcut_stands seen d o) (shortcuts_stand (arrows_with seen o) ds) [] [] (shortcut-none seen d o) (shortcuts-none (arrows_with seen o) ds)
-
-  -- in a form without shorthand
-  expanded-faults : (r : RelationForm) → faults k S ns (expanded_stands S ns r) ≡ outline_faults k S ns (relation_outline r)
-  expanded-faults r =
-      let bs = branches_faults k S ns (case_branches r.cases) in
-      faults-both k S ns (domain_stands r.domain) (cases_stand S ns r.cases) (alone_faults k ns (domain_patterns r.domain)) (bs ++ [])
-      (ap (λ (ss : List Stand). faults k S ns ss) (domain-lone r.domain) ∙ alone-faults k S ns (domain_patterns r.domain))
-      (cases-faults r.cases ∙ sym (append-nil bs))
-
-  -- and with shortcuts behind it
-  pub relation-faults : (r : RelationForm) (ds : List Sexp) → faults k S ns (expanded_stands S ns r ++ shortcuts_stand [] ds) ≡ outline_faults k S ns (relation_outline r)
-  relation-faults r ds =
-      faults-both k S ns (expanded_stands S ns r) (shortcuts_stand [] ds) (outline_faults k S ns (relation_outline r)) [] (expanded-faults r) (shortcuts-none [] ds)
-      ∙ append-nil (outline_faults k S ns (relation_outline r))
-
   -- ---- metafunctions
 
   -- in a clause

@@ -7,13 +7,10 @@ use Rattle.rdx_patterns.specs.Heads.{Roles, patterns as items_of_list, next, res
 use Rattle.rdx_patterns.specs.Occurrences.{occurrences}
 use Rattle.rdx_patterns.specs.Reading.{is_pattern}
 use Rattle.rdx_parts.specs.BareStands.{lone_pattern}
-use Rattle.rdx_defs.specs.Inside.FormOutlines.{domain_patterns, pattern_when, patterns_among, contract_patterns}
+use Rattle.rdx_defs.specs.Inside.FormOutlines.{pattern_when, patterns_among, contract_patterns}
 use Rattle.rdx_defs.specs.MetafunctionForms.{ContractForm}
 use Rattle.rdx_defs.specs.MetafunctionStands.{patterns_stand, contract_stands}
-use Rattle.rdx_defs.specs.RelationStands.{domain_stands}
 use Rattle.rdx_parts.specs.Stands.{Stand, pattern}
-
--- ---- patterns that stand by themselves
 
 -- a datum that may be a pattern, before others
 lone-first : (b : Bool) (d : Sexp) (ss : List Stand) (ps : List Sexp) → ss ≡ map lone_pattern ps
@@ -33,8 +30,3 @@ contract-lone None = refl
 contract-lone (Some c) =
     ap (λ (ss : List Stand). ss ++ lone_pattern c.value ∷ []) (patterns-lone items_of_list (sexps c.arguments))
     ∙ sym (map-append lone_pattern (patterns_among items_of_list (sexps c.arguments)) (c.value ∷ []))
-
--- a domain
-pub domain-lone : (o : Option Sexp) → domain_stands o ≡ map lone_pattern (domain_patterns o)
-domain-lone None = refl
-domain-lone (Some p) = refl

@@ -5,7 +5,7 @@ use Rattle.std.specs.List.{list_all}
 use Rattle.rdx_sexp.specs.Sexp.{Sexp}
 use Rattle.rdx_term.specs.Spelling.{is_name}
 use Rattle.rdx_lang.specs.Patterns.{Language}
-use Rattle.rdx_lang.specs.Valid.{is_valid_clause, is_valid_contract, is_valid_metafunction, is_valid_over}
+use Rattle.rdx_lang.specs.Valid.{is_valid_clause, is_valid_contract, is_valid_metafunction}
 use Rattle.rdx_patterns.specs.Ends.{ends_in, crossed_for}
 use Rattle.rdx_patterns.specs.Nonterminals.{names_of}
 use Rattle.rdx_patterns.specs.Parts.{text_of}
@@ -13,10 +13,10 @@ use Rattle.rdx_patterns.specs.Readable.{IsReadable}
 use Rattle.rdx_patterns.proofs.Booleans.{and_both}
 use Rattle.rdx_patterns.proofs.Firsts.{none_first}
 use Rattle.rdx_defs.specs.Inside.BareForms as bare_stands
-use Rattle.rdx_defs.specs.Inside.FormOutlines.{relation_outline, clause_branches, metafunction_outline, judgement_outline, question_outline}
+use Rattle.rdx_defs.specs.Inside.FormOutlines.{clause_branches, metafunction_outline, judgement_outline, question_outline}
 use Rattle.rdx_defs.specs.Inside.BranchReadings.{branch_metafunction}
 use Rattle.rdx_parts.specs.FormRefusals.{early_refusal}
-use Rattle.rdx_parts.specs.PartsHave.{IsReadableIn, IsReadableTaken, CanBind, OutlineHas, can_bind, can_read}
+use Rattle.rdx_parts.specs.PartsHave.{IsReadableIn, IsReadableTaken, CanBind, OutlineHas, can_bind}
 use Rattle.rdx_defs.specs.JudgementForms.{JudgementForm, judgement_form}
 use Rattle.rdx_defs.specs.JudgementRefusal.{judgement_refusal, lone_premise_stands, premise_refusal}
 use Rattle.rdx_defs.specs.JudgementStands.{judgement_stands}
@@ -24,51 +24,26 @@ use Rattle.rdx_defs.specs.MetafunctionForms.{MetafunctionForm, metafunction_form
 use Rattle.rdx_defs.specs.MetafunctionReading.{contract_reading, clauses_reading, text_in, metafunction_reading}
 use Rattle.rdx_defs.specs.MetafunctionRefusal.{metafunction_refusal}
 use Rattle.rdx_defs.specs.MetafunctionStands.{contract_stands, clauses_stand, function_stands}
-use Rattle.rdx_defs.specs.Inside.ExpandedAnswers.{expanded_refusal}
-use Rattle.rdx_defs.specs.RelationEnds.{expanded_ends}
-use Rattle.rdx_defs.specs.RelationForms.{RelationForm}
-use Rattle.rdx_defs.specs.RelationReading.{expanded_reading}
-use Rattle.rdx_defs.specs.RelationStands.{expanded_stands, shortcuts_stand}
 use Rattle.rdx_templates.specs.Scope.{Scope, callable}
 use Rattle.rdx_parts.specs.StandChecks.{is_bad_function, bad_names}
 use Rattle.rdx_parts.specs.Stands.{Stand}
-use Rattle.rdx_defs.proofs.BareForms.{bare-relation, bare-function, bare-judgement, bare-question}
+use Rattle.rdx_defs.proofs.BareForms.{bare-function, bare-judgement, bare-question}
 use Rattle.rdx_parts.proofs.BareChecks.{bad_names-bare}
-use Rattle.rdx_defs.proofs.AskingParts.{AsksWithin, asks-within, TakenWithin, within-inherited, BindsWithin, binds-within}
-use Rattle.rdx_defs.proofs.BoundParts.{can-bind, relation-binds, metafunction-binds, judgement-binds, question-binds}
-use Rattle.rdx_defs.proofs.FormRefusals.{ArePassed, no-contract, early-names, relation-passed, metafunction-passed, judgement-passed, question-passed, some-function}
-use Rattle.rdx_defs.proofs.InheritedParts.{relation_outline-has, metafunction-has, metafunction_outline-has, function-named, function-name, judgement-has, mode-has, judgement_outline-has, question_outline-has}
-use Rattle.rdx_defs.proofs.PartsOfForms.{IsNamed, IsNamedIn, RelationHas}
-use Rattle.rdx_defs.proofs.ReadableParts.{readable-inherited}
-use Rattle.rdx_defs.proofs.RelationAsks.{relation-asks}
-use Rattle.rdx_defs.proofs.ValidForms.{IsGoodMetafunction, relation-good, metafunction-good}
+use Rattle.rdx_relations.proofs.AskingParts.{AsksWithin, asks-within, TakenWithin, within-inherited, BindsWithin, binds-within}
+use Rattle.rdx_relations.proofs.BoundParts.{can-bind}
+use Rattle.rdx_defs.proofs.BoundParts.{metafunction-binds, judgement-binds, question-binds}
+use Rattle.rdx_relations.proofs.FormRefusals.{ArePassed, early-names}
+use Rattle.rdx_defs.proofs.FormRefusals.{no-contract, metafunction-passed, judgement-passed, question-passed, some-function}
+use Rattle.rdx_defs.proofs.InheritedParts.{metafunction-has, metafunction_outline-has, function-named, function-name, judgement-has, mode-has, judgement_outline-has, question_outline-has}
+use Rattle.rdx_relations.proofs.PartsOfForms.{IsNamed}
+use Rattle.rdx_defs.proofs.PartsOfForms.{IsNamedIn}
+use Rattle.rdx_relations.proofs.ReadableParts.{readable-inherited}
+use Rattle.rdx_defs.proofs.ValidForms.{IsGoodMetafunction, metafunction-good}
 use Rattle.rdx_defs.proofs.ValidJudgements.{IsValidJudgement, judgement-good, IsValidQuestion, question-good}
 
 -- the language over which the parts of a form are read
 abbrev pub gained : Language → Sexp → Language
 gained L d = crossed_for (ends_in d) L
-
--- ---- relations
-
--- where the early checks refuse nothing, what patterns bind are names
-pub relation-early : (S : Scope) (ns : List (List ℕ)) (r : RelationForm) (ds : List Sexp) (ss : List Stand) → RelationHas IsReadable r
-    → ss ≡ bare_stands.relation_stands S r ds → early_refusal ns ss ≡ None → OutlineHas S (can_bind ns) (relation_outline r)
-relation-early S ns r ds ss h q e =
-    relation-binds S IsReadableTaken (CanBind ns) (can-bind ns) r ds (early-names ns (bare_stands.relation_stands S r ds) (ap (early_refusal ns) (sym q) ∙ e))
-    (relation_outline-has IsReadable IsReadableTaken readable-inherited S r h)
-
--- where no check refuses, its patterns are well formed, and it is valid
-pub relation-valid : (S : Scope) (L : Language) (r : RelationForm) (ds : List Sexp) (x : List ℕ) → RelationHas IsReadable r → expanded_refusal S (names_of L) r ds ≡ None
-    → OutlineHas S (can_read S (crossed_for (expanded_ends r) L) (names_of L)) (relation_outline r)
-    × (is_valid_over (callable S) (Some (crossed_for (expanded_ends r) L)) (expanded_reading S (names_of L) x r) ≡ true)
-relation-valid S L r ds x h e =
-    let ns = names_of L in
-    let ys = expanded_ends r in
-    let ss = expanded_stands S ns r ++ shortcuts_stand [] ds in
-    let k = relation-passed S ns r ds e in
-    let o = relation_outline-has (AsksWithin ys) (TakenWithin ys) (within-inherited ys) S r (relation-asks r h) in
-    let b : bad_names (bare_stands.relation_stands S r ds) ≡ [] = ap bad_names (sym (bare-relation S ns r ds)) ∙ bad_names-bare ss ∙ k.names in
-    relation-good S L ys r ds x (relation-binds S (TakenWithin ys) (BindsWithin ys ns) (binds-within ys ns) r ds b o) k
 
 -- ---- metafunctions
 

@@ -22,9 +22,10 @@ use Rattle.rdx_defs.specs.MetafunctionReading.{text_in}
 use Rattle.rdx_templates.specs.Scope.{Scope}
 use Rattle.rdx_defs.specs.Scopes.{are_conditions, is_rule_of, with_mode, judgement_by, judgement_moded, begins_with, defined_judgements}
 use Rattle.rdx_parts.specs.Stands.{Stand, misshaped, bound_by_extra, held_stands, extra_stands, is_named, extras_stand}
-use Rattle.rdx_defs.proofs.FormRefusals.{ArePassed, judgement-passed}
+use Rattle.rdx_relations.proofs.FormRefusals.{ArePassed}
+use Rattle.rdx_defs.proofs.FormRefusals.{judgement-passed}
 use Rattle.rdx_defs.proofs.PassedForms.{judgement-valid}
-use Rattle.rdx_defs.proofs.PassedStands.{passed-both}
+use Rattle.rdx_relations.proofs.PassedStands.{passed-both}
 
 module _ (S : Scope) (ns : List (List ℕ)) where
   -- ---- rules

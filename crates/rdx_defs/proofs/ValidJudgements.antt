@@ -40,20 +40,20 @@ use Rattle.rdx_defs.specs.JudgementReading.{rule_reading, with_rule, rules_readi
 use Rattle.rdx_defs.specs.JudgementRefusal.{result_stands, lone_premise_stands}
 use Rattle.rdx_defs.specs.JudgementStands.{rule_arguments, bound_by_inputs, bound_by_rule, conclusion_stands, premises_stand, name_stands, rule_stands, rules_stand, flags_stand, mode_stands, contract_stands, given_stands, option_stands, options_stand, missing_mode, judgement_stands}
 use Rattle.rdx_defs.specs.MetafunctionReading.{closed_items, text_in}
-use Rattle.rdx_defs.specs.RelationForms.{is_keyword}
+use Rattle.rdx_relations.specs.RelationForms.{is_keyword}
 use Rattle.rdx_templates.specs.Scope.{Scope, callable, has_metafunction}
 use Rattle.rdx_templates.specs.TemplateReading.{template_reading}
 use Rattle.rdx_parts.specs.StandChecks.{bad_names}
 use Rattle.rdx_parts.specs.Stands.{Stand, misshaped, judgement, template, names_bound, bound_by_premise, bound_by_extras, arguments_stand, misfits, held_stands}
-use Rattle.rdx_defs.proofs.AlikeSymbols.{AreAlike, alike-none}
-use Rattle.rdx_defs.proofs.AskingParts.{BindsWithin}
-use Rattle.rdx_defs.proofs.BoundParts.{symbol-name}
-use Rattle.rdx_defs.proofs.FormRefusals.{ArePassed}
-use Rattle.rdx_defs.proofs.PartsOfForms.{IsNamed, HeadedHas, HeadedHasIn, bound}
-use Rattle.rdx_defs.proofs.PassedStands.{mode-fits, passed-both, pattern-first, template-first, arguments-passed, misfits-false, fits-uses, all-fit}
-use Rattle.rdx_defs.proofs.PatternLists.{single-items, inputs-counted, outputs-counted, each-bound}
+use Rattle.rdx_relations.proofs.AlikeSymbols.{AreAlike, alike-none}
+use Rattle.rdx_relations.proofs.AskingParts.{BindsWithin}
+use Rattle.rdx_relations.proofs.BoundParts.{symbol-name}
+use Rattle.rdx_relations.proofs.FormRefusals.{ArePassed}
+use Rattle.rdx_relations.proofs.PartsOfForms.{IsNamed, HeadedHas, HeadedHasIn, bound}
+use Rattle.rdx_relations.proofs.PassedStands.{mode-fits, passed-both, pattern-first, template-first, arguments-passed, misfits-false, fits-uses, all-fit}
+use Rattle.rdx_relations.proofs.PatternLists.{single-items, inputs-counted, outputs-counted, each-bound}
 use Rattle.rdx_parts.proofs.RepeatedNames.{not_false}
-use Rattle.rdx_defs.proofs.ValidExtras.{alike-taken, taken-passed, premise-good, extras-good}
+use Rattle.rdx_relations.proofs.ValidExtras.{alike-taken, taken-passed, premise-good, extras-good}
 use Rattle.rdx_defs.proofs.ValidForms.{AreWell, with-well, closed-well_formed}
 
 -- ---- keywords

@@ -1,11 +1,10 @@
 -- What the readers of forms answer.
 use Rattle.std.specs.Prelude.{◌≡◌, ℕ, [], List, Option, Some, None, option_map, Result, Ok, Err}
 use Rattle.rdx_sexp.specs.Sexp.{Sexp}
-use Rattle.rdx_lang.specs.ProgramView.{relation_of, metafunction_of, judgement_of, premise_of}
+use Rattle.rdx_lang.specs.ProgramView.{metafunction_of, judgement_of, premise_of}
 use Rattle.rdx_lang.specs.TemplateView.{template_of}
 use Rattle.rdx_lang.specs.declared.program.Judgement.{Judgement}
 use Rattle.rdx_lang.specs.declared.program.Metafunction.{Metafunction}
-use Rattle.rdx_lang.specs.declared.program.Relation.{Relation}
 use Rattle.rdx_patterns.specs.Refusal.{refusal_of}
 use Rattle.rdx_patterns.specs.declared.shape.fault.DefFault.{DefFault}
 use Rattle.rdx_patterns.specs.declared.shape.fault.DefFault.TheVariants.{Refused, NoMemory}
@@ -17,9 +16,6 @@ use Rattle.rdx_defs.specs.JudgementRefusal.{judgement_refusal, premise_refusal}
 use Rattle.rdx_defs.specs.MetafunctionForms.{MetafunctionForm, metafunction_form}
 use Rattle.rdx_defs.specs.MetafunctionReading.{metafunction_reading}
 use Rattle.rdx_defs.specs.MetafunctionRefusal.{metafunction_refusal}
-use Rattle.rdx_defs.specs.RelationForms.{RelationForm, relation_form}
-use Rattle.rdx_defs.specs.RelationReading.{relation_reading}
-use Rattle.rdx_defs.specs.RelationRefusal.{relation_refusal}
 use Rattle.rdx_templates.specs.Scope.{Scope}
 use Rattle.rdx_templates.specs.TemplateReading.{template_reading}
 use Rattle.rdx_parts.specs.Stands.{names_bound, bound_by_premise}
@@ -82,22 +78,3 @@ IsPremiseFault S ns d t NoMemory = Unit {0}
 abbrev pub ReadsPremise : Scope → List (List ℕ) → Sexp → Option Sexp → Result ReadPremise DefFault → Type 0
 ReadsPremise S ns d t (Ok q) = IsPremise S ns d t q
 ReadsPremise S ns d t (Err e) = IsPremiseFault S ns d t e
-
--- ---- relations
-
--- the relation is the one of this name that a form with these parts stands for, in this scope, over the nonterminals ns
-pub record IsRelation (S : Scope) (ns : List (List ℕ)) (x : List ℕ) (d : Sexp) (r : Relation) : Type 0 where
-  pub passes : relation_refusal S ns d ≡ None
-  pub parts : RelationForm
-  pub is_form : relation_form d ≡ Some parts
-  pub is_read : relation_of r ≡ relation_reading S ns x parts
-
--- the datum is refused so as a relation, unless memory ran out
-abbrev pub IsRelationFault : Scope → List (List ℕ) → Sexp → DefFault → Type 0
-IsRelationFault S ns d (Refused r) = relation_refusal S ns d ≡ Some (refusal_of r)
-IsRelationFault S ns d NoMemory = Unit {0}
-
--- the datum is this relation in this scope, over the nonterminals ns, or it is refused so
-abbrev pub ReadsRelation : Scope → List (List ℕ) → List ℕ → Sexp → Result Relation DefFault → Type 0
-ReadsRelation S ns x d (Ok r) = IsRelation S ns x d r
-ReadsRelation S ns x d (Err e) = IsRelationFault S ns d e

@@ -4,7 +4,3 @@ pub mod Contracts
 pub mod FormViews
 pub mod BareForms
 pub mod ScopeParts
-pub mod ExpandedAnswers
-pub mod ShortcutViews
-pub mod Arrows
-pub mod Filling

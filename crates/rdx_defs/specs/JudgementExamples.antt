@@ -14,7 +14,7 @@ use Rattle.rdx_patterns.specs.declared.shape.fault.DefKind.TheVariants.{Mode, Un
 use Rattle.rdx_defs.specs.JudgementForms.{JudgementForm, judgement_form}
 use Rattle.rdx_defs.specs.JudgementReading.{judgement_reading}
 use Rattle.rdx_defs.specs.JudgementRefusal.{judgement_refusal}
-use Rattle.rdx_defs.specs.RelationExamples.{no_scope, number}
+use Rattle.rdx_relations.specs.RelationExamples.{no_scope, number}
 use Rattle.rdx_templates.specs.Scope.{Scope}
 
 -- in a file that has the judgements J and K, both of an input and an output

@@ -7,7 +7,7 @@ use Rattle.rdx_sexp.specs.Sexp.{integer, truth, text, symbol, keyword, Sexp, lea
 use Rattle.rdx_lang.specs.Programs.{Mode}
 use Rattle.rdx_patterns.specs.Parts.{parts, is_symbol, is_word, text_of}
 use Rattle.rdx_parts.specs.Headed.{Headed, headed}
-use Rattle.rdx_defs.specs.RelationForms.{is_keyword, may_name}
+use Rattle.rdx_relations.specs.RelationForms.{is_keyword, may_name}
 
 -- ---- rules
 

@@ -9,7 +9,7 @@ use Rattle.rdx_parts.specs.Arguments.{Arguments, in_conclusion, is_misfit, patte
 use Rattle.rdx_parts.specs.ExtraForms.{of_rule}
 use Rattle.rdx_parts.specs.Headed.{Headed, headed}
 use Rattle.rdx_defs.specs.JudgementForms.{RuleForm, rule_form, own_rule, OptionForm, JudgementForm, judgement_in, mode_form, own_mode, is_flag, key_text, is_fit_option}
-use Rattle.rdx_defs.specs.RelationForms.{is_keyword}
+use Rattle.rdx_relations.specs.RelationForms.{is_keyword}
 use Rattle.rdx_templates.specs.Scope.{Scope}
 use Rattle.rdx_parts.specs.Stands.{Stand, misshaped, judgement, pattern, misfit, named, names_bound, bound_by_patterns, bound_by_extras, arguments_stand, misfits, extras_stand}
 

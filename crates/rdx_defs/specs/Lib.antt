@@ -1,10 +1,3 @@
-pub mod RelationForms
-pub mod Shorthand
-pub mod Expansion
-pub mod RelationStands
-pub mod RelationReading
-pub mod RelationEnds
-pub mod RelationRefusal
 pub mod MetafunctionForms
 pub mod MetafunctionStands
 pub mod MetafunctionReading
@@ -15,11 +8,8 @@ pub mod JudgementReading
 pub mod JudgementRefusal
 pub mod Scopes
 pub mod Answers
-pub mod RelationLaws
 pub mod MetafunctionLaws
 pub mod JudgementLaws
-pub mod RelationExamples
-pub mod ShorthandExamples
 pub mod MetafunctionExamples
 pub mod JudgementExamples
 pub mod Inside

@@ -13,7 +13,7 @@ use Rattle.rdx_patterns.specs.declared.shape.fault.DefKind.TheVariants.{Shape}
 use Rattle.rdx_defs.specs.MetafunctionForms.{MetafunctionForm, metafunction_form}
 use Rattle.rdx_defs.specs.MetafunctionReading.{metafunction_reading}
 use Rattle.rdx_defs.specs.MetafunctionRefusal.{metafunction_refusal}
-use Rattle.rdx_defs.specs.RelationExamples.{no_scope, number}
+use Rattle.rdx_relations.specs.RelationExamples.{no_scope, number}
 use Rattle.rdx_templates.specs.Scope.{Scope}
 
 -- over a language with the nonterminal `n`, the datum has these parts, passes the checks, and is this metafunction

@@ -3,7 +3,7 @@
 use Rattle.std.specs.Prelude.{◌&&◌, List, [], ◌∷◌, Option, Some, None, option_map, codes, if◌then◌else◌}
 use Rattle.rdx_sexp.specs.Sexp.{Sexp}
 use Rattle.rdx_patterns.specs.Parts.{parts, is_symbol, is_word}
-use Rattle.rdx_defs.specs.RelationForms.{may_name}
+use Rattle.rdx_relations.specs.RelationForms.{may_name}
 
 -- ---- clauses
 

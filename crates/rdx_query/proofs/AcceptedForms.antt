@@ -20,9 +20,9 @@ use Rattle.rdx_defs.specs.MetafunctionForms.{MetafunctionForm, metafunction_form
 use Rattle.rdx_defs.specs.MetafunctionReading.{metafunction_reading}
 use Rattle.rdx_defs.specs.MetafunctionRefusal.{metafunction_refusal}
 use Rattle.rdx_defs.specs.MetafunctionStands.{metafunction_stands}
-use Rattle.rdx_defs.specs.RelationForms.{RelationForm, relation_form}
-use Rattle.rdx_defs.specs.RelationReading.{relation_reading}
-use Rattle.rdx_defs.specs.RelationStands.{relation_stands}
+use Rattle.rdx_relations.specs.RelationForms.{RelationForm, relation_form}
+use Rattle.rdx_relations.specs.RelationReading.{relation_reading}
+use Rattle.rdx_relations.specs.RelationStands.{relation_stands}
 use Rattle.rdx_parts.specs.StandChecks.{shape_at, repeated_name_at}
 use Rattle.rdx_parts.specs.StandRefusal.{stands_refusal}
 use Rattle.rdx_parts.specs.Stands.{Stand}

@@ -24,9 +24,9 @@ use Rattle.rdx_defs.specs.JudgementReading.{judgement_reading}
 use Rattle.rdx_defs.specs.JudgementRefusal.{result_stands}
 use Rattle.rdx_defs.specs.MetafunctionForms.{MetafunctionForm, metafunction_form}
 use Rattle.rdx_defs.specs.MetafunctionReading.{metafunction_reading}
-use Rattle.rdx_defs.specs.RelationForms.{RelationForm, relation_form}
-use Rattle.rdx_defs.specs.RelationReading.{relation_reading}
-use Rattle.rdx_defs.specs.RelationStands.{relation_stands}
+use Rattle.rdx_relations.specs.RelationForms.{RelationForm, relation_form}
+use Rattle.rdx_relations.specs.RelationReading.{relation_reading}
+use Rattle.rdx_relations.specs.RelationStands.{relation_stands}
 use Rattle.rdx_parts.specs.StandChecks.{shape_faults, shape_at, bad_name_at, bad_place_at, depth_fault_at, unknown_name_at, undriven_at, escape_at as stands_escape_at, mode_fault_at}
 use Rattle.rdx_parts.specs.Stands.{misshaped, held_stands, bound_by_premise}
 use Rattle.rdx_query.specs.ClosureForms.{closed_relation, closure_names, closure_language_at, unknown_closed_at, closure_shape_at, no_nonterminal_at, misshaped_refusal, context_refusal_by, context_relation_by, compatible_refusal_by, compatible_relation_by}

@@ -25,10 +25,11 @@ use Rattle.rdx_templates.specs.Scope.{Scope, has_metafunction, mode_among, mode_
 use Rattle.rdx_defs.specs.Scopes.{are_conditions, is_clause_of, function_of_all, metafunction_name, judgement_moded, begins_with, defined_functions, defined_judgements, language_text, defined_languages, languages_in, scope_in}
 use Rattle.rdx_parts.specs.StandChecks.{bad_name, bad_names}
 use Rattle.rdx_parts.specs.Stands.{Stand, misshaped, function, pattern, template, argument_occurrences, names_bound, extras_stand}
-use Rattle.rdx_defs.proofs.FormRefusals.{ArePassed, metafunction-passed}
-use Rattle.rdx_defs.proofs.PartsOfForms.{Each}
+use Rattle.rdx_relations.proofs.FormRefusals.{ArePassed}
+use Rattle.rdx_defs.proofs.FormRefusals.{metafunction-passed}
+use Rattle.rdx_relations.proofs.PartsOfForms.{Each}
 use Rattle.rdx_defs.proofs.PassedForms.{has-function, metafunction-valid}
-use Rattle.rdx_defs.proofs.PassedStands.{passed-both, pattern-first, template-first}
+use Rattle.rdx_relations.proofs.PassedStands.{passed-both, pattern-first, template-first}
 use Rattle.rdx_defs.proofs.ScopeForms.{not_misshaped, conditions-shaped, in-scope}
 use Rattle.rdx_query.specs.DefineForms.{defined_relation}
 use Rattle.rdx_query.specs.Definitions.{Defined, language, metafunction, judgement, relation}

@@ -22,25 +22,25 @@ use Rattle.rdx_parts.specs.Arguments.{patterns_in}
 use Rattle.rdx_parts.specs.ExtraForms.{ExtraForm, such_that, provided, confirmed, holding, freshly, name, no_extra, of_case, form_at, condition_behind, fresh_names, extra_among}
 use Rattle.rdx_parts.specs.ExtraReading.{extras_reading}
 use Rattle.rdx_parts.specs.Headed.{Headed, headed}
-use Rattle.rdx_defs.specs.Inside.FormOutlines.{case_branch, in_case, case_branches, relation_outline}
+use Rattle.rdx_relations.specs.Inside.FormOutlines.{case_branch, in_case, case_branches, relation_outline}
 use Rattle.rdx_parts.specs.Outlines.{Takes, one, each, bound_by_taken}
 use Rattle.rdx_parts.specs.PartsHave.{PremiseHas, ExtraHas, ExtrasHave, BranchHas, BranchesHave, OutlineHas}
-use Rattle.rdx_defs.specs.RelationForms.{CaseForm, case_form, RelationForm}
-use Rattle.rdx_defs.specs.RelationReading.{rule_reading, with_rule, rules_reading}
-use Rattle.rdx_defs.specs.RelationStands.{case_stands, cases_stand, domain_stands, expanded_stands, shortcuts_stand}
+use Rattle.rdx_relations.specs.RelationForms.{CaseForm, case_form, RelationForm}
+use Rattle.rdx_relations.specs.RelationReading.{rule_reading, with_rule, rules_reading}
+use Rattle.rdx_relations.specs.RelationStands.{case_stands, cases_stand, domain_stands, expanded_stands, shortcuts_stand}
 use Rattle.rdx_templates.specs.Scope.{Scope}
 use Rattle.rdx_parts.specs.Stands.{template, names_bound, premise_arguments, bound_by_premise, bound_freshly, bound_by_extra, bound_by_extras, extras_stand, bound_in}
-use Rattle.rdx_defs.specs.RelationStands.{bound_by_case}
-use Rattle.rdx_defs.proofs.AlikeSymbols.{alike-none}
-use Rattle.rdx_defs.proofs.AskingParts.{BindsWithin}
-use Rattle.rdx_defs.proofs.FormRefusals.{ArePassed}
-use Rattle.rdx_defs.proofs.InheritedParts.{relation_outline-has}
+use Rattle.rdx_relations.specs.RelationStands.{bound_by_case}
+use Rattle.rdx_relations.proofs.AlikeSymbols.{alike-none}
+use Rattle.rdx_relations.proofs.AskingParts.{BindsWithin}
+use Rattle.rdx_relations.proofs.FormRefusals.{ArePassed}
+use Rattle.rdx_relations.proofs.InheritedParts.{relation_outline-has}
 use Rattle.rdx_parts.proofs.BranchStands.{branch_stands}
-use Rattle.rdx_defs.proofs.PartsOfForms as forms
-use Rattle.rdx_defs.proofs.PartsOfForms.{Each, RelationHas, IsInherited, wanted}
-use Rattle.rdx_defs.proofs.PassedStands.{passed-both, pattern-first, template-first, arrow-first}
-use Rattle.rdx_defs.proofs.PatternLists.{each-bound}
-use Rattle.rdx_defs.proofs.ValidExtras.{alike-taken, taken-passed, extras-good}
+use Rattle.rdx_relations.proofs.PartsOfForms as forms
+use Rattle.rdx_relations.proofs.PartsOfForms.{Each, RelationHas, IsInherited, wanted}
+use Rattle.rdx_relations.proofs.PassedStands.{passed-both, pattern-first, template-first, arrow-first}
+use Rattle.rdx_relations.proofs.PatternLists.{each-bound}
+use Rattle.rdx_relations.proofs.ValidExtras.{alike-taken, taken-passed, extras-good}
 use Rattle.rdx_query.proofs.SmallData.{SymbolsHave, AllSymbolsHave, IsSmall, small-items, small-readable, case-extras}
 
 -- Q holds of the text of each symbol, and of that of what is none.

@@ -17,7 +17,7 @@ use Rattle.rdx_defs.specs.JudgementForms.{JudgementForm, cut_options, judgement_
 use Rattle.rdx_defs.specs.JudgementReading.{judgement_reading}
 use Rattle.rdx_defs.specs.JudgementRefusal.{judgement_refusal}
 use Rattle.rdx_defs.specs.JudgementStands.{judgement_stands}
-use Rattle.rdx_defs.specs.RelationForms.{may_name}
+use Rattle.rdx_relations.specs.RelationForms.{may_name}
 use Rattle.rdx_templates.specs.Scope.{Scope}
 use Rattle.rdx_parts.specs.StandChecks.{shape_at, repeated_name_at, bad_name_at, bad_place_at, depth_fault_at, unknown_name_at, undriven_at, escape_at, mode_fault_at}
 use Rattle.rdx_parts.specs.StandRefusal.{stands_refusal}

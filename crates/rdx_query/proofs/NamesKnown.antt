@@ -27,9 +27,9 @@ use Rattle.rdx_defs.specs.JudgementForms.{JudgementForm, judgement_form}
 use Rattle.rdx_defs.specs.JudgementReading.{judgement_reading}
 use Rattle.rdx_defs.specs.JudgementRefusal.{result_stands}
 use Rattle.rdx_defs.specs.JudgementStands.{judgement_stands}
-use Rattle.rdx_defs.specs.RelationForms.{RelationForm, relation_form}
-use Rattle.rdx_defs.specs.RelationReading.{relation_reading}
-use Rattle.rdx_defs.specs.RelationStands.{relation_stands}
+use Rattle.rdx_relations.specs.RelationForms.{RelationForm, relation_form}
+use Rattle.rdx_relations.specs.RelationReading.{relation_reading}
+use Rattle.rdx_relations.specs.RelationStands.{relation_stands}
 use Rattle.rdx_templates.specs.Scope.{Scope, mode_of}
 use Rattle.rdx_parts.specs.StandChecks.{shape_at, repeated_name_at, bad_name_at, bad_place_at, depth_fault_at, unknown_names, unknown_name_at, undriven_at, escape_at, mode_fault_at}
 use Rattle.rdx_parts.specs.Stands.{Stand, asked, misfits, arguments_stand, names_bound, premise_arguments, held_stands, bound_by_premise}

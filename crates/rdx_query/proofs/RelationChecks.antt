@@ -24,11 +24,11 @@ use Rattle.rdx_patterns.specs.Unbuilt.{has_word_to_come}
 use Rattle.rdx_patterns.specs.declared.shape.fault.DefFault.{DefFault}
 use Rattle.rdx_patterns.specs.declared.shape.fault.DefFault.TheVariants.{Refused, NoMemory}
 use Rattle.rdx_patterns.specs.declared.shape.fault.DefRefusal.{DefRefusal}
-use Rattle.rdx_defs.specs.Answers.{ReadsRelation}
-use Rattle.rdx_defs.specs.RelationForms.{RelationForm, is_keyword, may_name, relation_among, relation_over, relation_form}
-use Rattle.rdx_defs.specs.RelationReading.{relation_reading}
-use Rattle.rdx_defs.specs.RelationRefusal.{relation_refusal}
-use Rattle.rdx_defs.specs.RelationStands.{relation_stands}
+use Rattle.rdx_relations.specs.Answers.{ReadsRelation}
+use Rattle.rdx_relations.specs.RelationForms.{RelationForm, is_keyword, may_name, relation_among, relation_over, relation_form}
+use Rattle.rdx_relations.specs.RelationReading.{relation_reading}
+use Rattle.rdx_relations.specs.RelationRefusal.{relation_refusal}
+use Rattle.rdx_relations.specs.RelationStands.{relation_stands}
 use Rattle.rdx_templates.specs.Scope.{Scope}
 use Rattle.rdx_parts.specs.StandRefusal.{stands_refusal}
 use Rattle.rdx_parts.specs.Stands.{Stand}

@@ -8,11 +8,11 @@ use Rattle.rdx_sexp.specs.Size.{sexp_depth, sexps_depth, IsSpelledSexp, AreSpell
 use Rattle.rdx_patterns.specs.Kinds.{is_among}
 use Rattle.rdx_patterns.specs.Parts.{listed, parts, is_symbol, is_word, text_of}
 use Rattle.rdx_patterns.specs.Readable.{IsReadable}
-use Rattle.rdx_defs.specs.Expansion.{replaced, replaced_in, by_shortcut, expanded_case, settled, expanded_by, used_shortcuts, expanded_cases, expanded_form}
-use Rattle.rdx_defs.specs.RelationForms.{CaseForm, case_among, case_form, RelationForm, is_keyword, relation_over, may_name, relation_among, relation_form}
-use Rattle.rdx_defs.specs.Shorthand.{before_with, behind_with, Shortcut, is_new_arrow, shortcut_among, shortcut_of_lists, shortcut_form, with_shortcut, shortcuts_of, first_of_each}
-use Rattle.rdx_defs.proofs.InheritedParts.{relation-has}
-use Rattle.rdx_defs.proofs.PartsOfForms.{Each, RelationHas, IsInherited}
+use Rattle.rdx_relations.specs.Expansion.{replaced, replaced_in, by_shortcut, expanded_case, settled, expanded_by, used_shortcuts, expanded_cases, expanded_form}
+use Rattle.rdx_relations.specs.RelationForms.{CaseForm, case_among, case_form, RelationForm, is_keyword, relation_over, may_name, relation_among, relation_form}
+use Rattle.rdx_relations.specs.Shorthand.{before_with, behind_with, Shortcut, is_new_arrow, shortcut_among, shortcut_of_lists, shortcut_form, with_shortcut, shortcuts_of, first_of_each}
+use Rattle.rdx_relations.proofs.InheritedParts.{relation-has}
+use Rattle.rdx_relations.proofs.PartsOfForms.{Each, RelationHas, IsInherited}
 
 -- ---- symbols
 

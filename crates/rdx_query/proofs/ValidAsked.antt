@@ -41,7 +41,7 @@ use Rattle.rdx_parts.specs.StandChecks.{shape_at}
 use Rattle.rdx_parts.specs.StandRefusal.{stands_refusal}
 use Rattle.rdx_parts.specs.Stands.{names_bound, bound_by_premise}
 use Rattle.rdx_defs.proofs.PassedForms.{question-valid}
-use Rattle.rdx_defs.proofs.PassedStands.{host-uses}
+use Rattle.rdx_relations.proofs.PassedStands.{host-uses}
 use Rattle.rdx_query.specs.File.{Asks}
 use Rattle.rdx_query.specs.FormKinds as kind
 use Rattle.rdx_query.specs.FormKinds.{FormKind, defines, asks, passes, to_come, form_kind}

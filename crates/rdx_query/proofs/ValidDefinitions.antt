@@ -36,31 +36,32 @@ use Rattle.rdx_patterns.specs.Refusal.{Refusal, or_else, unnamed}
 use Rattle.rdx_patterns.specs.Unbuilt.{has_word_to_come, unbuilt_at}
 use Rattle.rdx_patterns.specs.declared.patterns.position.Position.TheVariants as position
 use Rattle.rdx_patterns.specs.declared.shape.fault.DefKind.TheVariants.{Unbuilt, BadPattern}
-use Rattle.rdx_defs.specs.Expansion.{expanded_form}
+use Rattle.rdx_relations.specs.Expansion.{expanded_form}
 use Rattle.rdx_parts.specs.Headed.{Headed}
-use Rattle.rdx_defs.specs.Inside.FormOutlines.{domain_patterns}
-use Rattle.rdx_defs.specs.Inside.ExpandedAnswers.{expanded_refusal}
+use Rattle.rdx_relations.specs.Inside.FormOutlines.{domain_patterns}
+use Rattle.rdx_relations.specs.Inside.ExpandedAnswers.{expanded_refusal}
 use Rattle.rdx_defs.specs.JudgementForms.{judgement_form, judgement_in, mode_form, mode_given}
 use Rattle.rdx_defs.specs.MetafunctionForms.{metafunction_form, function_in}
 use Rattle.rdx_defs.specs.MetafunctionReading.{text_in}
-use Rattle.rdx_defs.specs.RelationEnds.{expanded_ends, ends_by}
-use Rattle.rdx_defs.specs.RelationForms.{RelationForm}
-use Rattle.rdx_defs.specs.RelationReading.{rules_reading}
-use Rattle.rdx_defs.specs.RelationStands.{relation_stands}
+use Rattle.rdx_relations.specs.RelationEnds.{expanded_ends, ends_by}
+use Rattle.rdx_relations.specs.RelationForms.{RelationForm}
+use Rattle.rdx_relations.specs.RelationReading.{rules_reading}
+use Rattle.rdx_relations.specs.RelationStands.{relation_stands}
 use Rattle.rdx_templates.specs.Scope.{Scope, callable}
-use Rattle.rdx_defs.specs.Shorthand.{behind_with}
+use Rattle.rdx_relations.specs.Shorthand.{behind_with}
 use Rattle.rdx_parts.specs.StandRefusal.{stands_refusal}
-use Rattle.rdx_defs.proofs.AskingParts.{AsksWithin, TakenWithin, within-inherited, BindsWithin, binds-within}
-use Rattle.rdx_defs.proofs.BareForms.{bare-relation}
+use Rattle.rdx_relations.proofs.AskingParts.{AsksWithin, TakenWithin, within-inherited, BindsWithin, binds-within}
+use Rattle.rdx_relations.proofs.BareForms.{bare-relation}
 use Rattle.rdx_parts.proofs.BareChecks.{bad_names-bare}
-use Rattle.rdx_defs.proofs.BoundParts.{relation-binds}
-use Rattle.rdx_defs.proofs.FormRefusals.{relation-passed}
-use Rattle.rdx_defs.proofs.InheritedParts.{relation_outline-has}
-use Rattle.rdx_defs.proofs.PartsOfForms.{Each, RelationHas}
-use Rattle.rdx_defs.proofs.PassedForms.{relation-valid, has-function, metafunction-valid, judgement-valid}
-use Rattle.rdx_defs.proofs.RelationAsks.{relation-asks}
-use Rattle.rdx_defs.specs.Inside.BareForms as bare_stands
-use Rattle.rdx_defs.specs.RelationStands.{expanded_stands, shortcuts_stand}
+use Rattle.rdx_relations.proofs.BoundParts.{relation-binds}
+use Rattle.rdx_relations.proofs.FormRefusals.{relation-passed}
+use Rattle.rdx_relations.proofs.InheritedParts.{relation_outline-has}
+use Rattle.rdx_relations.proofs.PartsOfForms.{Each, RelationHas}
+use Rattle.rdx_relations.proofs.PassedForms.{relation-valid}
+use Rattle.rdx_defs.proofs.PassedForms.{has-function, metafunction-valid, judgement-valid}
+use Rattle.rdx_relations.proofs.RelationAsks.{relation-asks}
+use Rattle.rdx_relations.specs.Inside.BareForms as bare_stands
+use Rattle.rdx_relations.specs.RelationStands.{expanded_stands, shortcuts_stand}
 use Rattle.rdx_parts.specs.StandChecks.{bad_names}
 use Rattle.rdx_query.specs.ClosureForms.{closed_relation, closure_names, closure_language_at, unknown_closed_at, closure_shape_at, no_nonterminal_at, context_refusal_by, context_relation_by, compatible_refusal_by, compatible_relation_by}
 use Rattle.rdx_query.specs.DefineForms.{define_refusal_by, defined_relation, kind_refusal, kind_relation, relation_by}

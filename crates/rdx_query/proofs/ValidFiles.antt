@@ -15,7 +15,7 @@ use Rattle.rdx_patterns.proofs.Booleans.{and_both, and_true}
 use Rattle.rdx_patterns.specs.Ends.{crossed_for}
 use Rattle.rdx_patterns.specs.Inside.Among.{AreAmong}
 use Rattle.rdx_patterns.specs.Readable.{IsReadable}
-use Rattle.rdx_defs.proofs.PartsOfForms.{Each}
+use Rattle.rdx_relations.proofs.PartsOfForms.{Each}
 use Rattle.rdx_templates.specs.Scope.{mode_of, callable}
 use Rattle.rdx_defs.specs.Scopes.{scope_in}
 use Rattle.rdx_reduce.specs.ClosureLaws.{LeavesAName}

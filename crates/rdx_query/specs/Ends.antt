@@ -5,7 +5,7 @@ use Rattle.std.specs.Prelude.{ℕ, List, [], ◌++◌, Option, Some, None, flat_
 use Rattle.rdx_sexp.specs.Sexp.{Sexp}
 use Rattle.rdx_patterns.specs.Ends.{ends_in}
 use Rattle.rdx_patterns.specs.Reading.{name_in}
-use Rattle.rdx_defs.specs.RelationEnds.{relation_ends}
+use Rattle.rdx_relations.specs.RelationEnds.{relation_ends}
 use Rattle.rdx_query.specs.DefineParts.{DefineKind, by_cases, by_contexts, by_crosses, DefineParts, ClosureParts, define_parts, closure_parts, with_symbol}
 
 -- the nonterminal of a compatible closure

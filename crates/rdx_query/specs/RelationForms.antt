@@ -8,9 +8,9 @@ use Rattle.rdx_patterns.specs.Parts.{text_of}
 use Rattle.rdx_patterns.specs.Refusal.{Refusal, unnamed, named, first_refusal}
 use Rattle.rdx_patterns.specs.Unbuilt.{unbuilt_at}
 use Rattle.rdx_patterns.specs.declared.shape.fault.DefKind.TheVariants.{Shape, BadName}
-use Rattle.rdx_defs.specs.RelationForms.{relation_form}
-use Rattle.rdx_defs.specs.RelationReading.{relation_reading}
-use Rattle.rdx_defs.specs.RelationStands.{relation_stands}
+use Rattle.rdx_relations.specs.RelationForms.{relation_form}
+use Rattle.rdx_relations.specs.RelationReading.{relation_reading}
+use Rattle.rdx_relations.specs.RelationStands.{relation_stands}
 use Rattle.rdx_parts.specs.StandChecks.{shape_at, repeated_name_at, bad_name_at, bad_place_at, depth_fault_at, unknown_name_at, undriven_at, escape_at, mode_fault_at}
 use Rattle.rdx_parts.specs.Stands.{Stand}
 use Rattle.rdx_query.specs.DefineParts.{DefineParts}

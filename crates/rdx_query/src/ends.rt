@@ -4,9 +4,9 @@ ghost use Rattle.rdx_query.specs.DefineParts.{by_crosses, define_parts};
 ghost use Rattle.rdx_query.specs.Ends as model;
 
 use crate::parts::{DefineKind, closure_parts, define_parts};
-use rdx_defs::relation_ends;
 use rdx_patterns::ends_in;
 use rdx_patterns::shape::symbol;
+use rdx_relations::relation_ends;
 use rdx_sexp::Datum;
 use rdx_term::{Name, NoMemory};
 use std::alloc::Global;

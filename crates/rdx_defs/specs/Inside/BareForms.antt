@@ -1,38 +1,18 @@
 -- What stands in a form, without what is bound before it.
-use Rattle.std.specs.Prelude.{ℕ, true, false, [], List, ◌∷◌, ◌++◌, Option, Some, None, map, if◌then◌else◌}
+use Rattle.std.specs.Prelude.{ℕ, true, [], List, ◌∷◌, ◌++◌, Option, Some, None, map, if◌then◌else◌}
 use Rattle.rdx_sexp.specs.Sexp.{Sexp}
 use Rattle.rdx_lang.specs.Programs.{Mode}
 use Rattle.rdx_parts.specs.Arguments.{is_misfit}
 use Rattle.rdx_parts.specs.ExtraForms.{of_rule}
 use Rattle.rdx_parts.specs.Headed.{headed}
-use Rattle.rdx_defs.specs.Inside.FormOutlines.{case_branch, clause_branch, own_clause, contract_patterns}
+use Rattle.rdx_defs.specs.Inside.FormOutlines.{clause_branch, own_clause, contract_patterns}
 use Rattle.rdx_defs.specs.JudgementForms.{RuleForm, rule_form, own_rule, JudgementForm, judgement_in, mode_form, own_mode}
 use Rattle.rdx_defs.specs.JudgementStands.{rule_arguments, name_stands, missing_mode, options_stand}
 use Rattle.rdx_defs.specs.MetafunctionForms.{ClauseForm, clause_form, MetafunctionForm}
 use Rattle.rdx_defs.specs.MetafunctionReading.{text_in}
-use Rattle.rdx_defs.specs.RelationForms.{CaseForm, case_form, RelationForm}
-use Rattle.rdx_defs.specs.RelationStands.{domain_stands, shortcuts_stand}
 use Rattle.rdx_templates.specs.Scope.{Scope}
-use Rattle.rdx_parts.specs.Stands.{Stand, misshaped, function, arrow, template, misfits}
+use Rattle.rdx_parts.specs.Stands.{Stand, misshaped, function, template, misfits}
 use Rattle.rdx_parts.specs.BareStands.{lone_pattern, arguments_stand, held_stands, extras_stand, branch_stands}
-
--- in the case d
-abbrev pub case_stands : Scope → Sexp → Option CaseForm → List Stand
-case_stands S d None = misshaped d ∷ []
-case_stands S d (Some c) = arrow c.arrow ∷ branch_stands S false (case_branch c)
-
--- in cases
-abbrev pub cases_stand : Scope → List Sexp → List Stand
-cases_stand S [] = []
-cases_stand S (d ∷ ds) = case_stands S d (case_form d) ++ cases_stand S ds
-
--- in a relation without shorthand with these parts
-abbrev pub expanded_stands : Scope → RelationForm → List Stand
-expanded_stands S r = domain_stands r.domain ++ cases_stand S r.cases
-
--- and with these shortcuts behind them
-abbrev pub relation_stands : Scope → RelationForm → List Sexp → List Stand
-relation_stands S r ds = expanded_stands S r ++ shortcuts_stand [] ds
 
 -- in the clause d
 abbrev pub clause_stands : Scope → Sexp → Option ClauseForm → List Stand

@@ -1,41 +1,18 @@
--- The outlines of forms: the branches of their cases, clauses and rules, and the patterns that stand by themselves.
+-- The outlines of forms: the branches of their clauses and rules, and the patterns that stand by themselves.
 use Rattle.std.specs.Prelude.{ℕ, suc, Bool, [], List, ◌∷◌, ◌++◌, Option, Some, None, codes, bytes_eq, if◌then◌else◌}
 use Rattle.rdx_sexp.specs.Sexp.{Sexp, Sexps, sexps, nil, cons}
 use Rattle.rdx_patterns.specs.Heads.{Roles, patterns as items_of_list, next, rest}
 use Rattle.rdx_patterns.specs.Parts.{is_word, text_of}
 use Rattle.rdx_patterns.specs.Reading.{is_pattern}
 use Rattle.rdx_lang.specs.Programs.{Mode}
-use Rattle.rdx_parts.specs.ExtraForms.{of_case, of_clause}
+use Rattle.rdx_parts.specs.ExtraForms.{of_clause}
 use Rattle.rdx_parts.specs.Headed.{Headed, headed}
 use Rattle.rdx_defs.specs.JudgementForms.{RuleForm, rule_form, own_rule, OptionForm, JudgementForm, judgement_in, own_mode, is_any_keyword, cut_options, key_text, is_fit_option}
 use Rattle.rdx_defs.specs.JudgementStands.{rule_arguments}
 use Rattle.rdx_defs.specs.MetafunctionForms.{ClauseForm, clause_form, ContractForm, MetafunctionForm}
 use Rattle.rdx_defs.specs.MetafunctionReading.{text_in}
-use Rattle.rdx_defs.specs.RelationForms.{CaseForm, case_form, RelationForm, is_keyword}
-use Rattle.rdx_parts.specs.Outlines.{one, several, Branch, RuleBranch, Outline}
-
--- the branch of a case
-abbrev pub case_branch : CaseForm → Branch
-case_branch c = record { takes = one c.pattern; place = of_case; extras = c.extras; result = c.result }
-
--- where there is one
-abbrev pub in_case : Option CaseForm → List Branch
-in_case None = []
-in_case (Some c) = case_branch c ∷ []
-
--- the branches of cases
-abbrev pub case_branches : List Sexp → List Branch
-case_branches [] = []
-case_branches (d ∷ ds) = in_case (case_form d) ++ case_branches ds
-
--- a domain, where there is one
-abbrev pub domain_patterns : Option Sexp → List Sexp
-domain_patterns None = []
-domain_patterns (Some p) = p ∷ []
-
--- the outline of a relation
-abbrev pub relation_outline : RelationForm → Outline
-relation_outline r = record { alone = domain_patterns r.domain; branches = case_branches r.cases; rules = []; questions = [] }
+use Rattle.rdx_relations.specs.RelationForms.{is_keyword}
+use Rattle.rdx_parts.specs.Outlines.{several, Branch, RuleBranch, Outline}
 
 -- the branch of a clause
 abbrev pub clause_branch : ClauseForm → Branch

@@ -4,7 +4,6 @@ use Rattle.std.specs.Borrow.{Bor}
 use Rattle.rdx_sexp.specs.Sexp.{Sexp}
 use Rattle.rdx_sexp.specs.declared.datum.Datum.{Datum}
 use Rattle.rdx_defs.specs.MetafunctionForms as metafunctions
-use Rattle.rdx_defs.specs.RelationForms as relations
 use Rattle.rdx_defs.specs.JudgementForms as judgements
 use Rattle.rdx_defs.specs.declared.judgements.forms.JudgementForm.{JudgementForm}
 use Rattle.rdx_defs.specs.declared.judgements.forms.OptionForm.{OptionForm}
@@ -12,17 +11,7 @@ use Rattle.rdx_defs.specs.declared.judgements.forms.RuleForm.{RuleForm}
 use Rattle.rdx_defs.specs.declared.metafunctions.forms.ClauseForm.{ClauseForm}
 use Rattle.rdx_defs.specs.declared.metafunctions.forms.ContractForm.{ContractForm}
 use Rattle.rdx_defs.specs.declared.metafunctions.forms.MetafunctionForm.{MetafunctionForm}
-use Rattle.rdx_defs.specs.declared.relations.forms.CaseForm.{CaseForm}
-use Rattle.rdx_defs.specs.declared.relations.forms.RelationForm.{RelationForm}
 use Rattle.rdx_parts.specs.PartViews.{headed_of}
-
--- the case
-abbrev pub case_form_of : CaseForm → relations.CaseForm
-case_form_of c = record { arrow = c.arrow.now; pattern = c.pattern.now; result = c.result.now; extras = c.extras.now }
-
--- the relation
-abbrev pub relation_form_of : RelationForm → relations.RelationForm
-relation_form_of r = record { language = r.language.now; domain = option_map (λ d. d.now) r.domain; cases = r.cases.now }
 
 -- the clause
 abbrev pub clause_form_of : ClauseForm → metafunctions.ClauseForm

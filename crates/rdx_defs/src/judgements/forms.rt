@@ -7,10 +7,10 @@ ghost use Rattle.rdx_defs.specs.Inside.FormViews.{judgement_form_of, keys_of, ne
 ghost use Rattle.rdx_parts.specs.PartViews.{headed_of, rule_branch_of};
 ghost use Rattle.rdx_defs.specs.JudgementForms as model;
 
-use crate::relations::forms::{is_keyword, may_name};
 use rdx_parts::arguments::{Headed, headed_list, in_conclusion};
 use rdx_parts::branches::RuleBranch;
 use rdx_patterns::shape::{is_symbol, is_word, items, text};
+use rdx_relations::{is_keyword, may_name};
 use rdx_sexp::{Datum, Form};
 use rdx_term::NoMemory;
 use std::alloc::Global;

@@ -17,13 +17,13 @@ use crate::judgements::forms::{
     JudgementForm, OptionForm, RuleForm, is_fit_option, is_flag, judgement_in, mode_form,
     next_option, own_rule, rule_branch,
 };
-use crate::relations::forms::is_keyword;
 use rdx_parts::arguments::{Headed, headed_list, in_conclusion, is_misfit};
 use rdx_parts::branches::{Outline, Question, RuleBranch};
 use rdx_parts::extras::ExtraPlace;
 use rdx_parts::stands::collecting::{
     Stand, add_alone, add_arguments, add_extras, add_held, add_misfit,
 };
+use rdx_relations::is_keyword;
 use rdx_sexp::Datum;
 use rdx_templates::Scope;
 use rdx_term::NoMemory;

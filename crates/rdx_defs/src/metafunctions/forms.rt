@@ -6,10 +6,10 @@ ghost use Rattle.rdx_parts.specs.PartViews.{branch_of};
 ghost use Rattle.rdx_defs.specs.MetafunctionForms as model;
 ghost use Rattle.rdx_defs.specs.MetafunctionReading.{text_in};
 
-use crate::relations::forms::may_name;
 use rdx_parts::branches::{Branch, Takes};
 use rdx_parts::extras::ExtraPlace;
 use rdx_patterns::shape::{is_symbol, is_word, items, text};
+use rdx_relations::may_name;
 use rdx_sexp::Datum;
 
 /// A clause: `((f p ...) t extra ...)`, with any symbol for f.

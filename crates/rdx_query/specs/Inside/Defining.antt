@@ -11,9 +11,9 @@ use Rattle.rdx_lang.specs.declared.pattern.Ref.{Ref}
 use Rattle.rdx_lang.specs.declared.program.Judgement.{Judgement}
 use Rattle.rdx_lang.specs.declared.program.Metafunction.{Metafunction}
 use Rattle.rdx_lang.specs.declared.program.Relation.{Relation}
-use Rattle.rdx_defs.specs.RelationForms.{relation_form}
-use Rattle.rdx_defs.specs.RelationReading.{relation_reading}
-use Rattle.rdx_defs.specs.RelationRefusal.{relation_refusal}
+use Rattle.rdx_relations.specs.RelationForms.{relation_form}
+use Rattle.rdx_relations.specs.RelationReading.{relation_reading}
+use Rattle.rdx_relations.specs.RelationRefusal.{relation_refusal}
 use Rattle.rdx_patterns.specs.Nonterminals.{names_of}
 use Rattle.rdx_grammar.specs.Forms.{GrammarForm}
 use Rattle.rdx_grammar.specs.Languages.{language_over}

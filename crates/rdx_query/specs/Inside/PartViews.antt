@@ -2,7 +2,7 @@
 use Rattle.std.specs.Prelude.{Bool, true, false, List, [], ◌∷◌, Option, Some, None, option_map, if◌then◌else◌}
 use Rattle.rdx_patterns.specs.Parts.{parts}
 use Rattle.rdx_parts.specs.Headed.{headed}
-use Rattle.rdx_defs.specs.RelationForms.{may_name}
+use Rattle.rdx_relations.specs.RelationForms.{may_name}
 use Rattle.rdx_sexp.specs.Sexp.{Sexp}
 use Rattle.rdx_query.specs.HoldsForms as holding
 use Rattle.rdx_query.specs.MatchForms as matching

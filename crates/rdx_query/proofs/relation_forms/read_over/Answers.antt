@@ -4,7 +4,7 @@ use Rattle.rdx_lang.specs.Checked.{language_in}
 use Rattle.rdx_lang.specs.Patterns.{Language}
 use Rattle.rdx_lang.specs.ProgramView.{relation_of}
 use Rattle.rdx_lang.specs.Valid.{is_valid_over}
-use Rattle.rdx_defs.specs.RelationEnds.{relation_ends}
+use Rattle.rdx_relations.specs.RelationEnds.{relation_ends}
 use Rattle.rdx_templates.specs.Scope.{scope_of, callable}
 use Rattle.rdx_query.proofs.GainingNothing.{gained-at}
 use Rattle.rdx_query.proofs.RelationChecks.{valid-formed}

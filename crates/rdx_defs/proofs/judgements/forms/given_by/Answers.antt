@@ -1,7 +1,7 @@
 use Rattle.std.proofs.Common.{◌≡◌, ◌∷◌, ◌∙◌, Bool, true, false, sym, ap, if◌then◌else◌}
 use Rattle.rdx_defs.specs.Inside.FormViews.{option_form_of, paired}
 use Rattle.rdx_defs.specs.JudgementForms.{given_by}
-use Rattle.rdx_defs.specs.RelationForms.{is_keyword}
+use Rattle.rdx_relations.specs.RelationForms.{is_keyword}
 use Rattle.rdx_defs.proofs.RuleForms.{option-some}
 use Rattle.rdx_defs.proofs.judgements.forms.given_by.Goals as goal
 

@@ -22,7 +22,7 @@ use Rattle.rdx_templates.specs.Scope.{scope_of, callable}
 use Rattle.rdx_defs.proofs.PassedForms.{gained, judgement-valid}
 use Rattle.rdx_defs.proofs.ReadJudgements.{no-name, no-mode}
 use Rattle.rdx_defs.proofs.InheritedParts.{judgement-has}
-use Rattle.rdx_defs.proofs.ReadableParts.{readable-inherited}
+use Rattle.rdx_relations.proofs.ReadableParts.{readable-inherited}
 use Rattle.rdx_defs.proofs.judgements.reader.read_judgement_over.Goals as goal
 
 pub returns-in-Some-2-clause-reads : goal.returns-in-Some-2-clause-reads

@@ -13,7 +13,7 @@ use Rattle.rdx_parts.specs.PartsHave.{OutlineHas, can_bind, IsReadableTaken}
 use Rattle.rdx_defs.proofs.FormRefusals.{judgement-refused}
 use Rattle.rdx_defs.proofs.PassedForms.{judgement-early}
 use Rattle.rdx_defs.proofs.InheritedParts.{judgement-has, judgement_outline-has}
-use Rattle.rdx_defs.proofs.ReadableParts.{readable-inherited}
+use Rattle.rdx_relations.proofs.ReadableParts.{readable-inherited}
 use Rattle.rdx_defs.proofs.judgements.refusals.refuse_judgement.Goals as goal
 
 pub judgement_outline-requires : goal.judgement_outline-requires

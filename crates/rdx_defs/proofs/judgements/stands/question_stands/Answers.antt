@@ -1,8 +1,8 @@
 use Rattle.rdx_patterns.specs.Readable.{IsReadable}
 use Rattle.rdx_templates.specs.Scope.{scope_of}
 use Rattle.rdx_parts.specs.PartsHave.{IsReadableTaken}
-use Rattle.rdx_defs.proofs.InheritedParts.{premise-has}
-use Rattle.rdx_defs.proofs.ReadableParts.{readable-inherited}
+use Rattle.rdx_relations.proofs.InheritedParts.{premise-has}
+use Rattle.rdx_relations.proofs.ReadableParts.{readable-inherited}
 use Rattle.rdx_defs.proofs.judgements.stands.question_stands.Goals as goal
 
 pub add_held-requires : goal.add_held-requires

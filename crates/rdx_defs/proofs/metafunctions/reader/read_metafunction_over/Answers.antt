@@ -27,7 +27,7 @@ use Rattle.rdx_templates.specs.Scope.{scope_of, callable}
 use Rattle.rdx_defs.proofs.FormRefusals.{metafunction-refused}
 use Rattle.rdx_defs.proofs.PassedForms.{gained, metafunction-early, has-function, metafunction-valid}
 use Rattle.rdx_defs.proofs.InheritedParts.{metafunction-has, contract-has}
-use Rattle.rdx_defs.proofs.ReadableParts.{readable-inherited, are-readable}
+use Rattle.rdx_relations.proofs.ReadableParts.{readable-inherited, are-readable}
 use Rattle.rdx_defs.proofs.metafunctions.reader.read_metafunction_over.Goals as goal
 
 pub function_stands-requires-clause-alone : goal.function_stands-requires-clause-alone

@@ -6,7 +6,7 @@ use Rattle.rdx_defs.specs.Inside.FormViews.{clause_form_of}
 use Rattle.rdx_templates.specs.Scope.{scope_of}
 use Rattle.rdx_parts.specs.PartsHave.{BranchHas, readable, IsReadableTaken}
 use Rattle.rdx_defs.proofs.InheritedParts.{clause-has}
-use Rattle.rdx_defs.proofs.ReadableParts.{readable-inherited}
+use Rattle.rdx_relations.proofs.ReadableParts.{readable-inherited}
 use Rattle.rdx_defs.proofs.metafunctions.stands.add_clause.Goals as goal
 
 pub add_branch-requires : goal.add_branch-requires

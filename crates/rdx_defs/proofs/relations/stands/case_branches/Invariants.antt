@@ -1,7 +1,0 @@
-use Rattle.std.proofs.Common.{◌≡◌, ◌++◌, drop, map}
-use Rattle.rdx_defs.specs.Inside.FormOutlines.{case_branches}
-use Rattle.rdx_parts.specs.PartViews.{branch_of}
-use Rattle.rdx_defs.proofs.relations.stands.case_branches.Given as goal
-
-abbrev pub invariant-loop-d : goal.invariant-loop-d
-invariant-loop-d l = map branch_of l.branches.items ++ case_branches (drop l.d-index l.cases) ≡ case_branches l.cases

@@ -1,7 +1,0 @@
-use Rattle.std.proofs.Common.{drop}
-use Rattle.rdx_defs.specs.Inside.Arrows.{FindsPlaces}
-use Rattle.rdx_defs.specs.Inside.ShortcutViews.{shortcuts_in}
-use Rattle.rdx_defs.proofs.shorthand.arrows.Arrows.new.Given as goal
-
-abbrev pub invariant-loop-place : goal.invariant-loop-place
-invariant-loop-place l = FindsPlaces l.places l.place (shortcuts_in (drop l.place l.shortcuts.items))

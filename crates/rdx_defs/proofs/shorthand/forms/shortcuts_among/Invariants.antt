@@ -1,7 +1,0 @@
-use Rattle.std.proofs.Common.{◌≡◌, ◌++◌, drop}
-use Rattle.rdx_defs.specs.Inside.ShortcutViews.{shortcuts_in}
-use Rattle.rdx_defs.specs.Shorthand.{shortcuts_of}
-use Rattle.rdx_defs.proofs.shorthand.forms.shortcuts_among.Given as goal
-
-abbrev pub invariant-loop-d : goal.invariant-loop-d
-invariant-loop-d l = shortcuts_in l.found.items ++ shortcuts_of (drop l.d-index l.parts) ≡ shortcuts_of l.parts

@@ -1,0 +1,12 @@
+pub mod RelationForms
+pub mod Shorthand
+pub mod Expansion
+pub mod RelationStands
+pub mod RelationReading
+pub mod RelationEnds
+pub mod RelationRefusal
+pub mod Answers
+pub mod RelationLaws
+pub mod RelationExamples
+pub mod ShorthandExamples
+pub mod Inside
