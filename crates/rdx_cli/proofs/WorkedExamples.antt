@@ -18,12 +18,13 @@ use Rattle.rdx_sexp.specs.declared.fault.ReadKind.TheVariants.{NotUtf8, WrongClo
 use Rattle.rdx_patterns.specs.declared.shape.fault.DefKind.TheVariants.{UnknownLanguage}
 use Rattle.rdx_patterns.specs.Refusal.{named as named_refusal}
 use Rattle.rdx_answer.specs.Answering.{no_answers}
-use Rattle.rdx_query.specs.Definitions.{Defined}
+use Rattle.rdx_forms.specs.Definitions.{Defined}
 use Rattle.rdx_query.specs.Examples.{word, number, defines_L, asks, AnswersInOrder}
 use Rattle.rdx_query.specs.Examples.{form as spanned}
-use Rattle.rdx_query.specs.Forms.{form_refusal, form_definition}
-use Rattle.rdx_query.specs.Known.{Known, empty_program, nothing_in, with_definition}
-use Rattle.rdx_query.specs.File.{Accepts, by_check, accepts_none, accepts_definition, accepts_query, accepts_passed, refuses_here}
+use Rattle.rdx_forms.specs.Forms.{form_refusal, form_definition}
+use Rattle.rdx_forms.specs.Known.{Known, empty_program, nothing_in, with_definition}
+use Rattle.rdx_query.specs.File.{Accepts, accepts_none, accepts_definition, accepts_query, accepts_passed, refuses_here}
+use Rattle.rdx_forms.specs.OneForm.{by_check}
 use Rattle.rdx_cli.specs.Examples.{QueriesAreAnswered, CommentsAreAnswered, FormIsRefused, BracketIsRefused, NoTextIsRefused, LongFileIsRefused}
 use Rattle.rdx_cli.specs.Refusals.{refusal_line, form_line}
 use Rattle.rdx_cli.specs.Transcript.{AreData, too_long, at_fault, unread, refused, answered}

@@ -26,14 +26,14 @@ use Rattle.rdx_relations.specs.RelationStands.{relation_stands}
 use Rattle.rdx_parts.specs.StandChecks.{shape_at, repeated_name_at}
 use Rattle.rdx_parts.specs.StandRefusal.{stands_refusal}
 use Rattle.rdx_parts.specs.Stands.{Stand}
-use Rattle.rdx_query.specs.DefineParts.{DefineParts}
-use Rattle.rdx_query.specs.JudgementForms.{form_names, judgement_refusal_by, judgement_by}
-use Rattle.rdx_query.specs.Known.{Known}
-use Rattle.rdx_query.specs.LanguageForms.{unknown_at, name_taken_at, taken_at, language_refusal}
-use Rattle.rdx_query.specs.MetafunctionForms.{function_names, function_taken_at, function_refusal_by, function_by}
-use Rattle.rdx_query.specs.RelationForms.{define_shape_at, bad_relation_at, relation_names, relation_language, cases_refusal, cases_relation}
-use Rattle.rdx_query.proofs.ClauseStands.{of_function}
-use Rattle.rdx_query.proofs.StandNumbers.{nameless-refusal}
+use Rattle.rdx_forms.specs.DefineParts.{DefineParts}
+use Rattle.rdx_forms.specs.JudgementForms.{form_names, judgement_refusal_by, judgement_by}
+use Rattle.rdx_forms.specs.Known.{Known}
+use Rattle.rdx_forms.specs.LanguageForms.{unknown_at, name_taken_at, taken_at, language_refusal}
+use Rattle.rdx_forms.specs.MetafunctionForms.{function_names, function_taken_at, function_refusal_by, function_by}
+use Rattle.rdx_forms.specs.RelationForms.{define_shape_at, bad_relation_at, relation_names, relation_language, cases_refusal, cases_relation}
+use Rattle.rdx_forms.proofs.ClauseStands.{of_function}
+use Rattle.rdx_forms.proofs.StandNumbers.{nameless-refusal}
 
 -- ---- what a function gives
 

@@ -26,19 +26,21 @@ use Rattle.rdx_grammar.specs.Stands.{form_stands}
 use Rattle.rdx_patterns.specs.Unbuilt.{unbuilt_at}
 use Rattle.rdx_eval.specs.Laws.{AreFree}
 use Rattle.rdx_answer.specs.Queries.{Query}
-use Rattle.rdx_query.specs.DefineForms.{defined_relation}
-use Rattle.rdx_query.specs.Definitions.{Defined, language, metafunction, judgement, relation}
-use Rattle.rdx_query.specs.File.{Defines, Accepts, accepts_none, accepts_definition, accepts_query, accepts_passed, known_before, IsFile}
-use Rattle.rdx_query.specs.FormKinds as kind
-use Rattle.rdx_query.specs.FormKinds.{FormKind, defines, asks, passes, to_come, form_kind}
-use Rattle.rdx_query.specs.Forms.{definition_by_kind, refusal_by_kind}
-use Rattle.rdx_query.specs.JudgementForms.{defined_judgement}
-use Rattle.rdx_query.specs.Known.{Known, with_definition, or_empty}
-use Rattle.rdx_query.specs.LanguageForms.{base_name, named_base, unknown_at, taken_at, language_refusal, plain_language, extended_language}
-use Rattle.rdx_query.specs.MetafunctionForms.{defined_function}
+use Rattle.rdx_forms.specs.DefineForms.{defined_relation}
+use Rattle.rdx_forms.specs.Definitions.{Defined, language, metafunction, judgement, relation}
+use Rattle.rdx_forms.specs.OneForm.{Defines}
+use Rattle.rdx_query.specs.File.{Accepts, accepts_none, accepts_definition, accepts_query, accepts_passed, IsFile}
+use Rattle.rdx_forms.specs.Before.{known_before}
+use Rattle.rdx_forms.specs.FormKinds as kind
+use Rattle.rdx_forms.specs.FormKinds.{FormKind, defines, asks, passes, to_come, form_kind}
+use Rattle.rdx_forms.specs.Forms.{definition_by_kind, refusal_by_kind}
+use Rattle.rdx_forms.specs.JudgementForms.{defined_judgement}
+use Rattle.rdx_forms.specs.Known.{Known, with_definition, or_empty}
+use Rattle.rdx_forms.specs.LanguageForms.{base_name, named_base, unknown_at, taken_at, language_refusal, plain_language, extended_language}
+use Rattle.rdx_forms.specs.MetafunctionForms.{defined_function}
 use Rattle.rdx_query.proofs.AskedNames.{fit-before, can_answer}
 use Rattle.rdx_query.proofs.DefinedJudgements.{mapped-some}
-use Rattle.rdx_query.proofs.FoundByName.{language-among}
+use Rattle.rdx_forms.proofs.FoundByName.{language-among}
 
 -- each of these languages is well formed
 abbrev AreWellFormed : List Language → Type 0

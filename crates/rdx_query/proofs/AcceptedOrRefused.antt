@@ -29,30 +29,32 @@ use Rattle.rdx_relations.specs.RelationReading.{relation_reading}
 use Rattle.rdx_relations.specs.RelationStands.{relation_stands}
 use Rattle.rdx_parts.specs.StandChecks.{shape_faults, shape_at, bad_name_at, bad_place_at, depth_fault_at, unknown_name_at, undriven_at, escape_at as stands_escape_at, mode_fault_at}
 use Rattle.rdx_parts.specs.Stands.{misshaped, held_stands, bound_by_premise}
-use Rattle.rdx_query.specs.ClosureForms.{closed_relation, closure_names, closure_language_at, unknown_closed_at, closure_shape_at, no_nonterminal_at, misshaped_refusal, context_refusal_by, context_relation_by, compatible_refusal_by, compatible_relation_by}
-use Rattle.rdx_query.specs.DefineForms.{define_refusal_by, defined_relation, kind_refusal, kind_relation, relation_by}
-use Rattle.rdx_query.specs.DefineParts.{DefineKind, by_cases, by_contexts, by_crosses, DefineParts, ClosureParts, define_parts, closure_parts, with_symbol}
-use Rattle.rdx_query.specs.Definitions.{Defined, language, metafunction, judgement, relation, IsSound}
-use Rattle.rdx_query.specs.File.{Defines, Asks, IsPassedOver, IsRefusedForm, by_check, by_recursion, by_late_check, Accepts, accepts_none, accepts_definition, accepts_query, accepts_passed, Refuses, refuses_here, refuses_behind_definition, refuses_behind_query, refuses_behind_passed, known_before, IsFile}
-use Rattle.rdx_query.specs.FormKinds.{DefinitionKind, QueryKind, FormKind, defines, asks, passes, to_come, form_kind}
-use Rattle.rdx_query.specs.FormKinds as kind
-use Rattle.rdx_query.specs.Forms.{form_refusal, late_refusal, form_definition, refusal_by_kind, definition_by_kind, query_by_kind, is_passed_kind, definition_refusal, definition_of, question_refusal, asked_query}
-use Rattle.rdx_query.specs.HoldsForms.{HoldsParts, holds_parts, lone_parts, asked_names, asked_premise, holds_refusal, holds_refusal_over, holds_by, holds_over, holds_test_by}
-use Rattle.rdx_query.specs.HostForms.{host_of_datum, value_query}
-use Rattle.rdx_query.specs.JudgementForms.{form_names, judgement_refusal_by, defined_judgement}
-use Rattle.rdx_query.specs.Known.{Known, with_definition}
-use Rattle.rdx_query.specs.LanguageForms.{base_name, named_base, name_taken_at, language_refusal, plain_language, extended_language}
+use Rattle.rdx_forms.specs.ClosureForms.{closed_relation, closure_names, closure_language_at, unknown_closed_at, closure_shape_at, no_nonterminal_at, misshaped_refusal, context_refusal_by, context_relation_by, compatible_refusal_by, compatible_relation_by}
+use Rattle.rdx_forms.specs.DefineForms.{define_refusal_by, defined_relation, kind_refusal, kind_relation, relation_by}
+use Rattle.rdx_forms.specs.DefineParts.{DefineKind, by_cases, by_contexts, by_crosses, DefineParts, ClosureParts, define_parts, closure_parts, with_symbol}
+use Rattle.rdx_forms.specs.Definitions.{Defined, language, metafunction, judgement, relation, IsSound}
+use Rattle.rdx_forms.specs.OneForm.{Defines, Asks, IsPassedOver, IsRefusedForm, by_check, by_recursion, by_late_check}
+use Rattle.rdx_query.specs.File.{Accepts, accepts_none, accepts_definition, accepts_query, accepts_passed, Refuses, refuses_here, refuses_behind_definition, refuses_behind_query, refuses_behind_passed, IsFile}
+use Rattle.rdx_forms.specs.Before.{known_before}
+use Rattle.rdx_forms.specs.FormKinds.{DefinitionKind, QueryKind, FormKind, defines, asks, passes, to_come, form_kind}
+use Rattle.rdx_forms.specs.FormKinds as kind
+use Rattle.rdx_forms.specs.Forms.{form_refusal, late_refusal, form_definition, refusal_by_kind, definition_by_kind, query_by_kind, is_passed_kind, definition_refusal, definition_of, question_refusal, asked_query}
+use Rattle.rdx_forms.specs.HoldsForms.{HoldsParts, holds_parts, lone_parts, asked_names, asked_premise, holds_refusal, holds_refusal_over, holds_by, holds_over, holds_test_by}
+use Rattle.rdx_forms.specs.HostForms.{host_of_datum, value_query}
+use Rattle.rdx_forms.specs.JudgementForms.{form_names, judgement_refusal_by, defined_judgement}
+use Rattle.rdx_forms.specs.Known.{Known, with_definition}
+use Rattle.rdx_forms.specs.LanguageForms.{base_name, named_base, name_taken_at, language_refusal, plain_language, extended_language}
 use Rattle.rdx_query.specs.Laws.{AreAccepted, AreRefused}
-use Rattle.rdx_query.specs.MatchForms.{QueryParts, query_parts, query_refusal, query_over}
-use Rattle.rdx_query.specs.MetafunctionForms.{function_names, function_refusal_by, defined_function}
+use Rattle.rdx_forms.specs.MatchForms.{QueryParts, query_parts, query_refusal, query_over}
+use Rattle.rdx_forms.specs.MetafunctionForms.{function_names, function_refusal_by, defined_function}
 use Rattle.rdx_answer.specs.Queries.{Query, matches, whether, splits, reducts, tagged, stepper, test_equal, test_step, test_run, test_match, test_holds, test_results}
-use Rattle.rdx_query.specs.RelationForms.{relation_names, cases_refusal_over, bad_relation_at}
-use Rattle.rdx_query.specs.StepForms.{StepParts, step_parts, steps_refusal}
-use Rattle.rdx_query.specs.TestForms.{EqualParts, LeadingParts, equal_parts, leading_parts, equal_refusal, leading_refusal}
+use Rattle.rdx_forms.specs.RelationForms.{relation_names, cases_refusal_over, bad_relation_at}
+use Rattle.rdx_forms.specs.StepForms.{StepParts, step_parts, steps_refusal}
+use Rattle.rdx_forms.specs.TestForms.{EqualParts, LeadingParts, equal_parts, leading_parts, equal_refusal, leading_refusal}
 use Rattle.rdx_patterns.proofs.Firsts.{none_or}
 use Rattle.rdx_templates.proofs.EarliestPlaces.{earliest-none}
-use Rattle.rdx_query.proofs.CheckNumbers.{none-at}
-use Rattle.rdx_query.proofs.FoundByName.{HasValue, mapped, relation-found}
+use Rattle.rdx_forms.proofs.CheckNumbers.{none-at}
+use Rattle.rdx_forms.proofs.FoundByName.{HasValue, mapped, relation-found}
 use Rattle.rdx_query.proofs.OneReading.{accepts-scope, accepts-languages, accepts-ends}
 
 -- ---- what passes has its parts

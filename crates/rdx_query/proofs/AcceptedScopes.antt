@@ -31,16 +31,17 @@ use Rattle.rdx_relations.proofs.PartsOfForms.{Each}
 use Rattle.rdx_defs.proofs.PassedForms.{has-function, metafunction-valid}
 use Rattle.rdx_relations.proofs.PassedStands.{passed-both, pattern-first, template-first}
 use Rattle.rdx_defs.proofs.ScopeForms.{not_misshaped, conditions-shaped, in-scope}
-use Rattle.rdx_query.specs.DefineForms.{defined_relation}
-use Rattle.rdx_query.specs.Definitions.{Defined, language, metafunction, judgement, relation}
-use Rattle.rdx_query.specs.File.{Accepts, accepts_none, accepts_definition, accepts_query, accepts_passed, IsFile, known_before}
-use Rattle.rdx_query.specs.FormKinds as kind
-use Rattle.rdx_query.specs.FormKinds.{FormKind, defines, asks, passes, to_come, heads, kind_in, kind_by_head, kind_among, form_kind}
-use Rattle.rdx_query.specs.Forms.{refusal_by_kind, definition_by_kind, query_by_kind, is_passed_kind}
-use Rattle.rdx_query.specs.JudgementForms.{defined_judgement}
-use Rattle.rdx_query.specs.Known.{Known, with_definition, paired_with}
-use Rattle.rdx_query.specs.LanguageForms.{named_base, plain_language, extended_language}
-use Rattle.rdx_query.specs.MetafunctionForms.{function_names, defined_function}
+use Rattle.rdx_forms.specs.DefineForms.{defined_relation}
+use Rattle.rdx_forms.specs.Definitions.{Defined, language, metafunction, judgement, relation}
+use Rattle.rdx_query.specs.File.{Accepts, accepts_none, accepts_definition, accepts_query, accepts_passed, IsFile}
+use Rattle.rdx_forms.specs.Before.{known_before}
+use Rattle.rdx_forms.specs.FormKinds as kind
+use Rattle.rdx_forms.specs.FormKinds.{FormKind, defines, asks, passes, to_come, heads, kind_in, kind_by_head, kind_among, form_kind}
+use Rattle.rdx_forms.specs.Forms.{refusal_by_kind, definition_by_kind, query_by_kind, is_passed_kind}
+use Rattle.rdx_forms.specs.JudgementForms.{defined_judgement}
+use Rattle.rdx_forms.specs.Known.{Known, with_definition, paired_with}
+use Rattle.rdx_forms.specs.LanguageForms.{named_base, plain_language, extended_language}
+use Rattle.rdx_forms.specs.MetafunctionForms.{function_names, defined_function}
 use Rattle.rdx_answer.specs.Queries.{Query}
 use Rattle.rdx_query.proofs.AcceptedForms.{function-parts, judgement-parts}
 use Rattle.rdx_query.proofs.DefinedJudgements.{mapped-some}

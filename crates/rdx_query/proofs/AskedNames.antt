@@ -12,10 +12,12 @@ use Rattle.rdx_patterns.specs.Nonterminals.{names_of}
 use Rattle.rdx_templates.specs.Scope.{mode_among, mode_of}
 use Rattle.rdx_defs.specs.Scopes.{defined_judgements}
 use Rattle.rdx_eval.specs.Laws.{AreFree}
-use Rattle.rdx_query.specs.Definitions.{Defined, language, metafunction, judgement, relation}
-use Rattle.rdx_query.specs.File.{Defines, Accepts, accepts_none, accepts_definition, accepts_query, accepts_passed, known_before}
+use Rattle.rdx_forms.specs.Definitions.{Defined, language, metafunction, judgement, relation}
+use Rattle.rdx_forms.specs.OneForm.{Defines}
+use Rattle.rdx_query.specs.File.{Accepts, accepts_none, accepts_definition, accepts_query, accepts_passed}
+use Rattle.rdx_forms.specs.Before.{known_before}
 use Rattle.rdx_patterns.specs.Ends.{known_ends, crossed_for}
-use Rattle.rdx_query.specs.Known.{Known, known_as, with_definition}
+use Rattle.rdx_forms.specs.Known.{Known, known_as, with_definition}
 use Rattle.rdx_answer.specs.Queries.{Query, NamesKnown}
 use Rattle.rdx_answer.specs.Views.{AllNamesKnown}
 use Rattle.rdx_query.proofs.DefinedJudgements.{judgements_in, HasMode, no-mode, defines-moded, asks-moded, passed-moded}

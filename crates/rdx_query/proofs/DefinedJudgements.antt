@@ -13,16 +13,16 @@ use Rattle.rdx_defs.specs.JudgementReading.{judgement_reading}
 use Rattle.rdx_defs.specs.MetafunctionReading.{text_in}
 use Rattle.rdx_templates.specs.Scope.{mode_among}
 use Rattle.rdx_defs.specs.Scopes.{is_rule_of, with_mode, judgement_by as judgement_in_scope, judgement_moded, begins_with, defined_judgements}
-use Rattle.rdx_query.specs.DefineForms.{defined_relation}
-use Rattle.rdx_query.specs.Definitions.{Defined, language, metafunction, judgement, relation}
-use Rattle.rdx_query.specs.File.{Defines, Asks, IsPassedOver}
-use Rattle.rdx_query.specs.FormKinds as kind
-use Rattle.rdx_query.specs.FormKinds.{DefinitionKind, FormKind, defines, asks, passes, to_come, heads, kind_in, kind_by_head, kind_among, form_kind}
-use Rattle.rdx_query.specs.Forms.{definition_by_kind, query_by_kind, is_passed_kind}
-use Rattle.rdx_query.specs.JudgementForms.{form_names, judgement_by, defined_judgement}
-use Rattle.rdx_query.specs.Known.{Known}
-use Rattle.rdx_query.specs.LanguageForms.{plain_language, extended_language}
-use Rattle.rdx_query.specs.MetafunctionForms.{defined_function}
+use Rattle.rdx_forms.specs.DefineForms.{defined_relation}
+use Rattle.rdx_forms.specs.Definitions.{Defined, language, metafunction, judgement, relation}
+use Rattle.rdx_forms.specs.OneForm.{Defines, Asks, IsPassedOver}
+use Rattle.rdx_forms.specs.FormKinds as kind
+use Rattle.rdx_forms.specs.FormKinds.{DefinitionKind, FormKind, defines, asks, passes, to_come, heads, kind_in, kind_by_head, kind_among, form_kind}
+use Rattle.rdx_forms.specs.Forms.{definition_by_kind, query_by_kind, is_passed_kind}
+use Rattle.rdx_forms.specs.JudgementForms.{form_names, judgement_by, defined_judgement}
+use Rattle.rdx_forms.specs.Known.{Known}
+use Rattle.rdx_forms.specs.LanguageForms.{plain_language, extended_language}
+use Rattle.rdx_forms.specs.MetafunctionForms.{defined_function}
 use Rattle.rdx_answer.specs.Queries.{Query}
 
 -- ---- which forms define a judgement

@@ -16,9 +16,9 @@ use Rattle.rdx_patterns.specs.Nonterminals.{names_of}
 use Rattle.rdx_patterns.specs.Parts.{text_of}
 use Rattle.rdx_patterns.specs.Refusal.{Refusal, named}
 use Rattle.rdx_patterns.specs.declared.shape.fault.DefKind.TheVariants.{Duplicate}
-use Rattle.rdx_query.specs.Definitions.{Defined, language, metafunction, judgement, relation}
-use Rattle.rdx_query.specs.Known.{Known, with_definition, is_taken}
-use Rattle.rdx_query.specs.LanguageForms.{name_taken_at}
+use Rattle.rdx_forms.specs.Definitions.{Defined, language, metafunction, judgement, relation}
+use Rattle.rdx_forms.specs.Known.{Known, with_definition, is_taken}
+use Rattle.rdx_forms.specs.LanguageForms.{name_taken_at}
 
 -- ---- the names of languages
 

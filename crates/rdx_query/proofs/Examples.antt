@@ -39,11 +39,12 @@ use Rattle.rdx_answer.proofs.PrintedExamples.{digit_0, digit_1, digit_2, digit_3
 use Rattle.rdx_answer.specs.AnswerText.{answers_text, matches_text, splits_text, value_line, reducts_text, steps_text, fault_line}
 use Rattle.rdx_answer.specs.Answering.{HostValue, over_value, over_fault, no_answers, more_answers}
 use Rattle.rdx_answer.specs.Examples.{marked_pair}
-use Rattle.rdx_query.specs.Definitions.{language}
+use Rattle.rdx_forms.specs.Definitions.{language}
 use Rattle.rdx_query.specs.Examples.{defines_L, AnswersInOrder, WholeAnswer, Inherited, OneSplit, FilledTerm, FaultAnswered, OneReductTwoSteps, PremiseMet, OutputsListed, FirstRefusedForm, EarlierLanguagesOnly, TakenName, HostExpression, OtherForm, Sum, Wanted, OtherModule, KnownBefore, FewItems, LeftRecursion}
-use Rattle.rdx_query.specs.File.{Defines, by_check, by_recursion, accepts_none, accepts_definition, accepts_query, accepts_passed, refuses_here, refuses_behind_definition}
+use Rattle.rdx_forms.specs.OneForm.{Defines, by_check, by_recursion}
+use Rattle.rdx_query.specs.File.{accepts_none, accepts_definition, accepts_query, accepts_passed, refuses_here, refuses_behind_definition}
 use Rattle.rdx_answer.specs.HoldsAnswers.{FindsMet, whether_found, ValuesOf, values_of, values_found}
-use Rattle.rdx_query.specs.Known.{empty_program, nothing_in}
+use Rattle.rdx_forms.specs.Known.{empty_program, nothing_in}
 use Rattle.rdx_answer.specs.Queries.{matches, whether, splits, value as itself, holds, reducts, tagged}
 use Rattle.rdx_answer.specs.StepAnswers.{reducts_in, AreReducts, named_steps, reducts_found, steps_found}
 

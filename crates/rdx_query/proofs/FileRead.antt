@@ -11,13 +11,15 @@ use Rattle.rdx_patterns.specs.declared.shape.fault.DefFault.{DefFault}
 use Rattle.rdx_patterns.specs.declared.shape.fault.DefFault.TheVariants.{Refused, NoMemory}
 use Rattle.rdx_templates.specs.Scope.{Scope}
 use Rattle.rdx_defs.specs.Scopes.{languages_in, scope_in}
-use Rattle.rdx_query.specs.Definitions.{Defined}
-use Rattle.rdx_query.specs.Ends.{form_ends, file_ends}
-use Rattle.rdx_query.specs.File.{Defines, Asks, IsPassedOver, Accepts, accepts_none, accepts_definition, accepts_query, accepts_passed, Refuses, refuses_here, refuses_behind_definition, refuses_behind_query, refuses_behind_passed, known_before, IsFile, IsFileRefusal}
-use Rattle.rdx_query.specs.Inside.Defining.{IsFormFault}
+use Rattle.rdx_forms.specs.Definitions.{Defined}
+use Rattle.rdx_forms.specs.Ends.{form_ends, file_ends}
+use Rattle.rdx_forms.specs.OneForm.{Defines, Asks, IsPassedOver}
+use Rattle.rdx_query.specs.File.{Accepts, accepts_none, accepts_definition, accepts_query, accepts_passed, Refuses, refuses_here, refuses_behind_definition, refuses_behind_query, refuses_behind_passed, IsFile, IsFileRefusal}
+use Rattle.rdx_forms.specs.Before.{known_before}
+use Rattle.rdx_forms.specs.Answers.{IsFormFault}
 use Rattle.rdx_patterns.specs.Inside.Among.{AreAmong}
 use Rattle.rdx_query.specs.Inside.Steps.{Step, step_defines, step_asks, step_passes}
-use Rattle.rdx_query.specs.Known.{Known, nothing_in, with_definition}
+use Rattle.rdx_forms.specs.Known.{Known, nothing_in, with_definition}
 use Rattle.rdx_answer.specs.Queries.{Query}
 use Rattle.rdx_answer.specs.Views.{AllNamesKnown}
 use Rattle.rdx_query.specs.Views.{IsFileFault}

@@ -18,10 +18,10 @@ use Rattle.rdx_patterns.specs.Nonterminals.{names_of}
 use Rattle.rdx_patterns.proofs.Among.{is_among-names}
 use Rattle.rdx_patterns.proofs.KnownReadings.{in-known_ends, cross-there}
 use Rattle.rdx_patterns.specs.Ends.{known_ends, crossed_for}
-use Rattle.rdx_query.specs.Definitions.{language, metafunction, judgement, relation}
-use Rattle.rdx_query.specs.Inside.Fitting.{IsCrossedTo, AreCrossed, IsRelationOf, IsFitting}
-use Rattle.rdx_query.specs.Known.{Known, nothing_in, with_definition}
-use Rattle.rdx_query.proofs.FoundByName.{language-stays}
+use Rattle.rdx_forms.specs.Definitions.{language, metafunction, judgement, relation}
+use Rattle.rdx_forms.specs.Fitting.{IsCrossedTo, AreCrossed, IsRelationOf, IsFitting}
+use Rattle.rdx_forms.specs.Known.{Known, nothing_in, with_definition}
+use Rattle.rdx_forms.proofs.FoundByName.{language-stays}
 
 -- ---- the cross nonterminals of one language
 

@@ -3,14 +3,14 @@ use Rattle.std.proofs.Common.{◌≡◌, ◌++◌, List, [], ◌∷◌, Result, 
 use Rattle.std.proofs.lemmas.List.{map-append}
 use Rattle.rdx_sexp.specs.Sexp.{Sexp}
 use Rattle.rdx_patterns.specs.declared.shape.fault.DefFault.{DefFault}
-use Rattle.rdx_query.specs.File.{Asks}
-use Rattle.rdx_query.specs.Inside.KnownView.{known_of}
+use Rattle.rdx_forms.specs.OneForm.{Asks}
+use Rattle.rdx_forms.specs.KnownView.{known_of}
 use Rattle.rdx_query.specs.Inside.Steps.{Step, step_defines, step_asks, step_passes, StepsBy, IsAdded, AddsBy, PassesBy}
-use Rattle.rdx_query.specs.Known.{Known}
+use Rattle.rdx_forms.specs.Known.{Known}
 use Rattle.rdx_answer.specs.Queries as model
 use Rattle.rdx_answer.specs.Views.{query_of}
 use Rattle.rdx_answer.specs.declared.queries.Query.{Query}
-use Rattle.rdx_query.specs.declared.known.Known as code_known
+use Rattle.rdx_forms.specs.declared.known.Known as code_known
 
 -- what is added is a step
 added_step : (K J : Known) (qs : List model.Query) (d : Sexp) → IsAdded K d J → Step K qs d J qs

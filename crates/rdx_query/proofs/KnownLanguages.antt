@@ -18,17 +18,17 @@ use Rattle.rdx_grammar.specs.Refused.{shape_at, duplicate_at, bad_name_at, bad_p
 use Rattle.rdx_grammar.specs.Stands.{definitions_stand, form_stands}
 use Rattle.rdx_patterns.specs.Unbuilt.{unbuilt_at}
 use Rattle.rdx_patterns.specs.declared.shape.fault.DefKind.TheVariants.{BadPattern}
-use Rattle.rdx_query.specs.DefineForms.{defined_relation}
-use Rattle.rdx_query.specs.Definitions.{Defined, language, metafunction, judgement, relation}
-use Rattle.rdx_query.specs.File.{Defines}
-use Rattle.rdx_query.specs.FormKinds as kind
-use Rattle.rdx_query.specs.FormKinds.{FormKind, defines, asks, passes, to_come, form_kind}
-use Rattle.rdx_query.specs.Forms.{definition_by_kind, refusal_by_kind}
-use Rattle.rdx_query.specs.JudgementForms.{defined_judgement}
-use Rattle.rdx_query.specs.Known.{Known, or_empty}
-use Rattle.rdx_query.specs.LanguageForms.{base_name, named_base, unknown_at, taken_at, language_refusal, plain_language, extended_language}
-use Rattle.rdx_query.specs.MetafunctionForms.{defined_function}
-use Rattle.rdx_query.proofs.FoundByName.{language-among}
+use Rattle.rdx_forms.specs.DefineForms.{defined_relation}
+use Rattle.rdx_forms.specs.Definitions.{Defined, language, metafunction, judgement, relation}
+use Rattle.rdx_forms.specs.OneForm.{Defines}
+use Rattle.rdx_forms.specs.FormKinds as kind
+use Rattle.rdx_forms.specs.FormKinds.{FormKind, defines, asks, passes, to_come, form_kind}
+use Rattle.rdx_forms.specs.Forms.{definition_by_kind, refusal_by_kind}
+use Rattle.rdx_forms.specs.JudgementForms.{defined_judgement}
+use Rattle.rdx_forms.specs.Known.{Known, or_empty}
+use Rattle.rdx_forms.specs.LanguageForms.{base_name, named_base, unknown_at, taken_at, language_refusal, plain_language, extended_language}
+use Rattle.rdx_forms.specs.MetafunctionForms.{defined_function}
+use Rattle.rdx_forms.proofs.FoundByName.{language-among}
 
 -- each language speaks of its own nonterminals alone
 abbrev pub KnowAll : List Language → Type 0

@@ -26,10 +26,10 @@ use Rattle.rdx_grammar.specs.Languages.{definitions_of, written_over, language_o
 use Rattle.rdx_grammar.specs.Nonterminals.{names_in, all_names}
 use Rattle.rdx_patterns.specs.Nonterminals.{names_of}
 use Rattle.rdx_patterns.specs.Parts.{text_of}
-use Rattle.rdx_query.specs.Known.{Known, or_empty}
-use Rattle.rdx_query.specs.LanguageForms.{named_base}
+use Rattle.rdx_forms.specs.Known.{Known, or_empty}
+use Rattle.rdx_forms.specs.LanguageForms.{named_base}
 use Rattle.rdx_query.proofs.FittingKnown.{plain-before}
-use Rattle.rdx_query.proofs.FoundByName.{language-among}
+use Rattle.rdx_forms.proofs.FoundByName.{language-among}
 
 -- the nonterminals of a language, but for cross nonterminals, have names
 abbrev pub HasNames : Language → Type 0

@@ -33,28 +33,28 @@ use Rattle.rdx_relations.specs.RelationStands.{relation_stands}
 use Rattle.rdx_templates.specs.Scope.{Scope, mode_of}
 use Rattle.rdx_parts.specs.StandChecks.{shape_at, repeated_name_at, bad_name_at, bad_place_at, depth_fault_at, unknown_names, unknown_name_at, undriven_at, escape_at, mode_fault_at}
 use Rattle.rdx_parts.specs.Stands.{Stand, asked, misfits, arguments_stand, names_bound, premise_arguments, held_stands, bound_by_premise}
-use Rattle.rdx_query.specs.ClosureForms.{closed_relation, closure_names, closure_language_at, unknown_closed_at, closure_shape_at, no_nonterminal_at, context_refusal_by, context_relation_by, compatible_refusal_by, compatible_relation_by}
-use Rattle.rdx_query.specs.DefineForms.{define_refusal_by, defined_relation, kind_refusal, kind_relation, relation_by}
-use Rattle.rdx_query.specs.DefineParts.{DefineKind, by_cases, by_contexts, by_crosses, DefineParts, ClosureParts, define_parts, closure_parts, with_symbol}
-use Rattle.rdx_query.specs.Definitions.{Defined, language, metafunction, judgement, relation}
-use Rattle.rdx_query.specs.File.{Defines, Asks}
-use Rattle.rdx_query.specs.FormKinds as kind
-use Rattle.rdx_query.specs.FormKinds.{FormKind, defines, asks, passes, to_come, form_kind}
-use Rattle.rdx_query.specs.Forms.{refusal_by_kind, definition_by_kind, query_by_kind}
-use Rattle.rdx_query.specs.HoldsForms.{HoldsParts, holds_parts, asked_names, asked_unknown_at, lone_parts, asked_premise, holds_refusal, holds_refusal_over, holds_by, holds_over, holds_test_by}
-use Rattle.rdx_query.specs.HostForms.{host_of_datum, bad_host_at, undriven_host_at, host_escape_at}
-use Rattle.rdx_query.specs.JudgementForms.{form_name, form_names, judgement_refusal_by, judgement_by, defined_judgement}
-use Rattle.rdx_query.specs.Known.{Known, empty_program, extended_by, known_as, with_definition}
-use Rattle.rdx_query.specs.LanguageForms.{named_base, name_taken_at, unknown_at, unknown_by, plain_language, extended_language}
-use Rattle.rdx_query.specs.MatchForms.{QueryParts, query_parts, query_shape_at, checked_parts, query_host, bad_query_at, query_escape_at, query_refusal, query_over}
-use Rattle.rdx_query.specs.MetafunctionForms.{function_taken_at, defined_function}
+use Rattle.rdx_forms.specs.ClosureForms.{closed_relation, closure_names, closure_language_at, unknown_closed_at, closure_shape_at, no_nonterminal_at, context_refusal_by, context_relation_by, compatible_refusal_by, compatible_relation_by}
+use Rattle.rdx_forms.specs.DefineForms.{define_refusal_by, defined_relation, kind_refusal, kind_relation, relation_by}
+use Rattle.rdx_forms.specs.DefineParts.{DefineKind, by_cases, by_contexts, by_crosses, DefineParts, ClosureParts, define_parts, closure_parts, with_symbol}
+use Rattle.rdx_forms.specs.Definitions.{Defined, language, metafunction, judgement, relation}
+use Rattle.rdx_forms.specs.OneForm.{Defines, Asks}
+use Rattle.rdx_forms.specs.FormKinds as kind
+use Rattle.rdx_forms.specs.FormKinds.{FormKind, defines, asks, passes, to_come, form_kind}
+use Rattle.rdx_forms.specs.Forms.{refusal_by_kind, definition_by_kind, query_by_kind}
+use Rattle.rdx_forms.specs.HoldsForms.{HoldsParts, holds_parts, asked_names, asked_unknown_at, lone_parts, asked_premise, holds_refusal, holds_refusal_over, holds_by, holds_over, holds_test_by}
+use Rattle.rdx_forms.specs.HostForms.{host_of_datum, bad_host_at, undriven_host_at, host_escape_at}
+use Rattle.rdx_forms.specs.JudgementForms.{form_name, form_names, judgement_refusal_by, judgement_by, defined_judgement}
+use Rattle.rdx_forms.specs.Known.{Known, empty_program, extended_by, known_as, with_definition}
+use Rattle.rdx_forms.specs.LanguageForms.{named_base, name_taken_at, unknown_at, unknown_by, plain_language, extended_language}
+use Rattle.rdx_forms.specs.MatchForms.{QueryParts, query_parts, query_shape_at, checked_parts, query_host, bad_query_at, query_escape_at, query_refusal, query_over}
+use Rattle.rdx_forms.specs.MetafunctionForms.{function_taken_at, defined_function}
 use Rattle.rdx_answer.specs.Queries.{Query, matches, whether, splits, value, holds, reducts, tagged, stepper, test_equal, test_step, test_run, test_match, test_holds, test_results, KnowsRelation, KnowsJudgement, NamesKnown}
-use Rattle.rdx_query.specs.RelationForms.{define_shape_at, bad_relation_at, cases_refusal, relation_names, relation_language}
-use Rattle.rdx_query.specs.StepForms.{StepParts, step_parts, steps_shape_at, checked_steps, steps_host, unknown_relation_at, unknown_relation_by, steps_refusal}
-use Rattle.rdx_query.specs.TestForms.{EqualParts, LeadingParts, equal_parts, leading_parts, hosts_shape_at, bad_hosts_at, undriven_hosts_at, hosts_escape_at, unknown_tested_at, leading_refusal}
-use Rattle.rdx_query.proofs.ClosureChecks.{language-known, same-language}
+use Rattle.rdx_forms.specs.RelationForms.{define_shape_at, bad_relation_at, cases_refusal, relation_names, relation_language}
+use Rattle.rdx_forms.specs.StepForms.{StepParts, step_parts, steps_shape_at, checked_steps, steps_host, unknown_relation_at, unknown_relation_by, steps_refusal}
+use Rattle.rdx_forms.specs.TestForms.{EqualParts, LeadingParts, equal_parts, leading_parts, hosts_shape_at, bad_hosts_at, undriven_hosts_at, hosts_escape_at, unknown_tested_at, leading_refusal}
+use Rattle.rdx_forms.proofs.ClosureChecks.{language-known, same-language}
 use Rattle.rdx_query.proofs.DefinedJudgements.{judgements_in, mapped-some}
-use Rattle.rdx_query.proofs.FoundByName.{judgement-among}
+use Rattle.rdx_forms.proofs.FoundByName.{judgement-among}
 use Rattle.rdx_patterns.proofs.Firsts.{none_or}
 use Rattle.rdx_templates.proofs.EarliestPlaces.{earliest-none}
 

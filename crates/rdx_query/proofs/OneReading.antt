@@ -7,11 +7,12 @@ use Rattle.rdx_lang.specs.Patterns.{Language}
 use Rattle.rdx_lang.specs.declared.pattern.Ref.{Ref}
 use Rattle.rdx_patterns.specs.Refusal.{Refusal}
 use Rattle.rdx_grammar.specs.Refused.{recursion_at}
-use Rattle.rdx_query.specs.Definitions.{Defined, language, IsSound}
-use Rattle.rdx_query.specs.File.{Defines, Asks, IsPassedOver, IsRefusedForm, by_check, by_recursion, by_late_check, Accepts, accepts_none, accepts_definition, accepts_query, accepts_passed, Refuses, refuses_here, refuses_behind_definition, refuses_behind_query, refuses_behind_passed}
-use Rattle.rdx_query.specs.FormKinds.{FormKind, defines, asks, passes, to_come, form_kind}
-use Rattle.rdx_query.specs.Forms.{form_refusal, late_refusal, form_definition, form_query, definition_by_kind, query_by_kind, is_passed_kind}
-use Rattle.rdx_query.specs.Known.{Known, with_definition}
+use Rattle.rdx_forms.specs.Definitions.{Defined, language, IsSound}
+use Rattle.rdx_forms.specs.OneForm.{Defines, Asks, IsPassedOver, IsRefusedForm, by_check, by_recursion, by_late_check}
+use Rattle.rdx_query.specs.File.{Accepts, accepts_none, accepts_definition, accepts_query, accepts_passed, Refuses, refuses_here, refuses_behind_definition, refuses_behind_query, refuses_behind_passed}
+use Rattle.rdx_forms.specs.FormKinds.{FormKind, defines, asks, passes, to_come, form_kind}
+use Rattle.rdx_forms.specs.Forms.{form_refusal, late_refusal, form_definition, form_query, definition_by_kind, query_by_kind, is_passed_kind}
+use Rattle.rdx_forms.specs.Known.{Known, with_definition}
 use Rattle.rdx_answer.specs.Queries.{Query}
 use Rattle.rdx_lang.proofs.FirstRecursive.{first_recursive-same, first_recursive-free}
 

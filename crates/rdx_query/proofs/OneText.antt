@@ -33,8 +33,8 @@ use Rattle.rdx_run.specs.Runs.{RunEnd, Runs, most_steps}
 use Rattle.rdx_run.specs.Walks.{Walk, Walks}
 use Rattle.rdx_answer.specs.Answering.{HostValue, HostValues, Over, over_value, over_fault, OverEach, over_values, over_first_fault, IsValueAnswer, IsAnswer, AreAnswers, no_answers, more_answers, counts_behind}
 use Rattle.rdx_query.specs.Writing.{Writes}
-use Rattle.rdx_query.specs.Known.{Known}
-use Rattle.rdx_query.specs.File.{known_before}
+use Rattle.rdx_forms.specs.Known.{Known}
+use Rattle.rdx_forms.specs.Before.{known_before}
 use Rattle.rdx_answer.specs.HoldsAnswers.{FindsMet, WritesWhether, whether_found, question_faulted, IsHoldsAnswer, ValuesOf, values_of, bindings_faulted, WritesValues, values_found, values_faulted, IsValuesAnswer, IsPremiseAnswer}
 use Rattle.rdx_answer.specs.MatchAnswers.{Finds, FindsSplits, IsMatchesAnswer, IsWhetherAnswer, IsSplitsAnswer}
 use Rattle.rdx_answer.specs.Queries.{Query, matches, whether, splits, value, holds, reducts, tagged, stepper, test_equal, test_step, test_run, test_match, test_holds, test_results}

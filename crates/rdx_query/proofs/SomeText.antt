@@ -30,7 +30,7 @@ use Rattle.rdx_run.specs.Laws.{SomeRun, SomeWalk}
 use Rattle.rdx_run.specs.Runs as run
 use Rattle.rdx_run.specs.Runs.{RunEnd, most_steps}
 use Rattle.rdx_answer.specs.Answering.{HostValue, HostValues, Over, over_value, over_fault, OverEach, over_values, over_first_fault, IsValueAnswer, IsAnswer, AreAnswers, no_answers, more_answers, counts_behind}
-use Rattle.rdx_query.specs.File.{known_before}
+use Rattle.rdx_forms.specs.Before.{known_before}
 use Rattle.rdx_answer.specs.HoldsAnswers.{FindsMet, WritesWhether, whether_found, question_faulted, ValuesOf, values_of, bindings_faulted, WritesValues, values_found, values_faulted, IsPremiseAnswer}
 use Rattle.rdx_query.specs.Laws.{AreAccepted, AreRefused, DoWrite}
 use Rattle.rdx_answer.specs.MatchAnswers.{Finds, FindsSplits, IsMatchesAnswer, IsWhetherAnswer, IsSplitsAnswer}
@@ -43,7 +43,7 @@ use Rattle.rdx_answer.specs.Views.{AllNamesKnown}
 use Rattle.rdx_query.proofs.AcceptedOrRefused.{accepted_or_refused}
 use Rattle.rdx_query.proofs.AskedNames.{fit-before, can_answer}
 use Rattle.rdx_answer.proofs.Compared.{compares-some}
-use Rattle.rdx_query.proofs.FoundByName.{language-among}
+use Rattle.rdx_forms.proofs.FoundByName.{language-among}
 
 -- the bindings that are found
 record AreFound (P : Program) (name : List ℕ) (p : Pattern) (t : Tree) : Type 0 where

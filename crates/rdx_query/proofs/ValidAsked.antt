@@ -42,27 +42,27 @@ use Rattle.rdx_parts.specs.StandRefusal.{stands_refusal}
 use Rattle.rdx_parts.specs.Stands.{names_bound, bound_by_premise}
 use Rattle.rdx_defs.proofs.PassedForms.{question-valid}
 use Rattle.rdx_relations.proofs.PassedStands.{host-uses}
-use Rattle.rdx_query.specs.File.{Asks}
-use Rattle.rdx_query.specs.FormKinds as kind
-use Rattle.rdx_query.specs.FormKinds.{FormKind, defines, asks, passes, to_come, form_kind}
-use Rattle.rdx_query.specs.Forms.{refusal_by_kind, query_by_kind}
-use Rattle.rdx_query.specs.HoldsForms.{HoldsParts, holds_among, holds_parts, lone_among, lone_parts, asked_language, language_or_empty, asked_names, unfound, unfound_for, asked_unknown_at, holds_refusal, asked_premise, holds_over, holds_by, holds_test_by}
-use Rattle.rdx_query.specs.HostForms.{parts_of_host, host_of_datum, host_shape_at, bad_host_at, undriven_host_at, host_escape_at}
-use Rattle.rdx_query.specs.Inside.Fitting.{AreCrossed}
-use Rattle.rdx_query.specs.Known.{Known, judgement_language}
-use Rattle.rdx_query.specs.LanguageForms.{named_base, unknown_at}
-use Rattle.rdx_query.specs.MatchForms.{QueryParts, query_parts, checked_parts, query_shape_at, bad_query_at, query_refusal, query_over}
+use Rattle.rdx_forms.specs.OneForm.{Asks}
+use Rattle.rdx_forms.specs.FormKinds as kind
+use Rattle.rdx_forms.specs.FormKinds.{FormKind, defines, asks, passes, to_come, form_kind}
+use Rattle.rdx_forms.specs.Forms.{refusal_by_kind, query_by_kind}
+use Rattle.rdx_forms.specs.HoldsForms.{HoldsParts, holds_among, holds_parts, lone_among, lone_parts, asked_language, language_or_empty, asked_names, unfound, unfound_for, asked_unknown_at, holds_refusal, asked_premise, holds_over, holds_by, holds_test_by}
+use Rattle.rdx_forms.specs.HostForms.{parts_of_host, host_of_datum, host_shape_at, bad_host_at, undriven_host_at, host_escape_at}
+use Rattle.rdx_forms.specs.Fitting.{AreCrossed}
+use Rattle.rdx_forms.specs.Known.{Known, judgement_language}
+use Rattle.rdx_forms.specs.LanguageForms.{named_base, unknown_at}
+use Rattle.rdx_forms.specs.MatchForms.{QueryParts, query_parts, checked_parts, query_shape_at, bad_query_at, query_refusal, query_over}
 use Rattle.rdx_answer.specs.Queries.{Query, matches, whether, splits, value, reducts, tagged, stepper, test_equal, test_step, test_run, test_match, test_holds, test_results}
-use Rattle.rdx_query.specs.StepForms.{StepParts, step_parts, checked_steps, steps_shape_at, unknown_relation_at, unknown_relation_by, steps_refusal}
-use Rattle.rdx_query.specs.TestForms.{EqualParts, equal_parts, LeadingParts, leading_parts, hosts_shape_at, bad_hosts_at, undriven_hosts_at, unknown_tested_at, test_refusal_over, equal_refusal, leading_refusal}
+use Rattle.rdx_forms.specs.StepForms.{StepParts, step_parts, checked_steps, steps_shape_at, unknown_relation_at, unknown_relation_by, steps_refusal}
+use Rattle.rdx_forms.specs.TestForms.{EqualParts, equal_parts, LeadingParts, leading_parts, hosts_shape_at, bad_hosts_at, undriven_hosts_at, unknown_tested_at, test_refusal_over, equal_refusal, leading_refusal}
 use Rattle.rdx_query.specs.ValidQueries.{Askable, is_valid_host, is_valid_pattern, is_valid_premise, fits_behind, is_valid_query}
 use Rattle.rdx_query.proofs.AcceptedForms.{image-of}
-use Rattle.rdx_query.proofs.ClauseStands.{of_lone_premise}
-use Rattle.rdx_query.proofs.FormParts.{unbuilt_at-built, parts-built, query-items, parts-readable}
-use Rattle.rdx_query.proofs.FoundByName.{relation-found}
-use Rattle.rdx_query.proofs.GainingNothing.{parts-ask}
-use Rattle.rdx_query.proofs.HostChecks.{no_shallow}
-use Rattle.rdx_query.proofs.StandNumbers.{nameless-refusal}
+use Rattle.rdx_forms.proofs.ClauseStands.{of_lone_premise}
+use Rattle.rdx_forms.proofs.FormParts.{unbuilt_at-built, parts-built, query-items, parts-readable}
+use Rattle.rdx_forms.proofs.FoundByName.{relation-found}
+use Rattle.rdx_forms.proofs.GainingNothing.{parts-ask}
+use Rattle.rdx_forms.proofs.HostChecks.{no_shallow}
+use Rattle.rdx_forms.proofs.StandNumbers.{nameless-refusal}
 use Rattle.rdx_query.proofs.ValidDefinitions.{built, read-over, read-in}
 
 -- ---- what may be asked where a form stands

@@ -63,31 +63,31 @@ use Rattle.rdx_relations.proofs.RelationAsks.{relation-asks}
 use Rattle.rdx_relations.specs.Inside.BareForms as bare_stands
 use Rattle.rdx_relations.specs.RelationStands.{expanded_stands, shortcuts_stand}
 use Rattle.rdx_parts.specs.StandChecks.{bad_names}
-use Rattle.rdx_query.specs.ClosureForms.{closed_relation, closure_names, closure_language_at, unknown_closed_at, closure_shape_at, no_nonterminal_at, context_refusal_by, context_relation_by, compatible_refusal_by, compatible_relation_by}
-use Rattle.rdx_query.specs.DefineForms.{define_refusal_by, defined_relation, kind_refusal, kind_relation, relation_by}
-use Rattle.rdx_query.specs.DefineParts.{DefineKind, by_cases, by_contexts, by_crosses, DefineParts, ClosureParts, define_parts, closure_parts, with_symbol}
-use Rattle.rdx_query.specs.Definitions.{Defined, language, metafunction, judgement, relation}
-use Rattle.rdx_query.specs.Ends.{closure_ends, kind_ends, define_ends, form_ends}
-use Rattle.rdx_query.specs.File.{Defines}
-use Rattle.rdx_query.specs.FormKinds as kind
-use Rattle.rdx_query.specs.FormKinds.{FormKind, defines, asks, passes, to_come, form_kind}
-use Rattle.rdx_query.specs.Forms.{refusal_by_kind, definition_by_kind}
-use Rattle.rdx_query.specs.Inside.Fitting.{AreCrossed}
-use Rattle.rdx_query.specs.JudgementForms.{defined_judgement}
-use Rattle.rdx_query.specs.Known.{Known, is_taken, or_empty}
-use Rattle.rdx_query.specs.LanguageForms.{base_name, named_base, unknown_at, name_taken_at, plain_language, extended_language}
-use Rattle.rdx_query.specs.MetafunctionForms.{function_names, function_taken_at, defined_function}
-use Rattle.rdx_query.specs.RelationForms.{bad_relation_at, relation_language}
+use Rattle.rdx_forms.specs.ClosureForms.{closed_relation, closure_names, closure_language_at, unknown_closed_at, closure_shape_at, no_nonterminal_at, context_refusal_by, context_relation_by, compatible_refusal_by, compatible_relation_by}
+use Rattle.rdx_forms.specs.DefineForms.{define_refusal_by, defined_relation, kind_refusal, kind_relation, relation_by}
+use Rattle.rdx_forms.specs.DefineParts.{DefineKind, by_cases, by_contexts, by_crosses, DefineParts, ClosureParts, define_parts, closure_parts, with_symbol}
+use Rattle.rdx_forms.specs.Definitions.{Defined, language, metafunction, judgement, relation}
+use Rattle.rdx_forms.specs.Ends.{closure_ends, kind_ends, define_ends, form_ends}
+use Rattle.rdx_forms.specs.OneForm.{Defines}
+use Rattle.rdx_forms.specs.FormKinds as kind
+use Rattle.rdx_forms.specs.FormKinds.{FormKind, defines, asks, passes, to_come, form_kind}
+use Rattle.rdx_forms.specs.Forms.{refusal_by_kind, definition_by_kind}
+use Rattle.rdx_forms.specs.Fitting.{AreCrossed}
+use Rattle.rdx_forms.specs.JudgementForms.{defined_judgement}
+use Rattle.rdx_forms.specs.Known.{Known, is_taken, or_empty}
+use Rattle.rdx_forms.specs.LanguageForms.{base_name, named_base, unknown_at, name_taken_at, plain_language, extended_language}
+use Rattle.rdx_forms.specs.MetafunctionForms.{function_names, function_taken_at, defined_function}
+use Rattle.rdx_forms.specs.RelationForms.{bad_relation_at, relation_language}
 use Rattle.rdx_query.proofs.AcceptedForms.{image-of, IsLanguageOf, language-parts, IsFunctionOf, function-parts, IsJudgementOf, judgement-parts, cases-parts}
 use Rattle.rdx_query.proofs.BoundTexts.{NamesHave, RulesBind, rules-bind}
 use Rattle.rdx_query.proofs.ClosedValid.{closure-valid}
-use Rattle.rdx_query.proofs.ClosureChecks.{by-readable, by-asks, language-known, same-language}
+use Rattle.rdx_forms.proofs.ClosureChecks.{by-readable, by-asks, language-known, same-language}
 use Rattle.rdx_query.proofs.DefinedJudgements.{mapped-some}
 use Rattle.rdx_query.proofs.DistinctDefinitions.{over-name, defined_name, free-name}
-use Rattle.rdx_query.proofs.FormParts.{unbuilt_at-built, parts-built, define-items, closure-items}
-use Rattle.rdx_query.proofs.FoundByName.{language-found, language-among, relation-among}
+use Rattle.rdx_forms.proofs.FormParts.{unbuilt_at-built, parts-built, define-items, closure-items}
+use Rattle.rdx_forms.proofs.FoundByName.{language-found, language-among, relation-among}
 use Rattle.rdx_query.proofs.FreeContexts.{BindFew, free-contexts}
-use Rattle.rdx_query.proofs.GainingNothing.{crossed-same, data-asked, define-asked, body-asks}
+use Rattle.rdx_forms.proofs.GainingNothing.{crossed-same, data-asked, define-asked, body-asks}
 use Rattle.rdx_query.proofs.NamedNonterminals.{HasNames, HaveNames, over-names, base-names}
 use Rattle.rdx_query.proofs.SmallData.{SymbolsHave, AllSymbolsHave, IsSmall, SmallIn, small-parts, small-readable, limit, relation-small}
 

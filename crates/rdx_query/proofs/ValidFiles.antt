@@ -19,20 +19,21 @@ use Rattle.rdx_relations.proofs.PartsOfForms.{Each}
 use Rattle.rdx_templates.specs.Scope.{mode_of, callable}
 use Rattle.rdx_defs.specs.Scopes.{scope_in}
 use Rattle.rdx_reduce.specs.ClosureLaws.{LeavesAName}
-use Rattle.rdx_query.specs.Definitions.{Defined, language, metafunction, judgement, relation}
-use Rattle.rdx_query.specs.Ends.{form_ends, file_ends}
-use Rattle.rdx_query.specs.File.{Accepts, accepts_none, accepts_definition, accepts_query, accepts_passed, known_before, IsFile}
-use Rattle.rdx_query.specs.Inside.Fitting.{IsCrossedTo}
-use Rattle.rdx_query.specs.Known.{Known, with_definition, judgement_language}
+use Rattle.rdx_forms.specs.Definitions.{Defined, language, metafunction, judgement, relation}
+use Rattle.rdx_forms.specs.Ends.{form_ends, file_ends}
+use Rattle.rdx_query.specs.File.{Accepts, accepts_none, accepts_definition, accepts_query, accepts_passed, IsFile}
+use Rattle.rdx_forms.specs.Before.{known_before}
+use Rattle.rdx_forms.specs.Fitting.{IsCrossedTo}
+use Rattle.rdx_forms.specs.Known.{Known, with_definition, judgement_language}
 use Rattle.rdx_answer.specs.Queries.{Query, matches, whether, splits, value, holds, reducts, tagged, stepper, test_equal, test_step, test_run, test_match, test_holds, test_results}
 use Rattle.rdx_query.specs.ValidQueries.{Askable, is_valid_host, is_valid_pattern, is_valid_premise, fits_behind, is_valid_query, judged_language, askable_in, are_valid_queries}
 use Rattle.rdx_query.proofs.AcceptedScopes.{IsScopeIn, accepted-scope, scope-callable}
 use Rattle.rdx_query.proofs.ClosedValid.{HaveFreeContexts}
 use Rattle.rdx_query.proofs.DistinctDefinitions.{distinct-more}
 use Rattle.rdx_query.proofs.FittingKnown.{is_crossed}
-use Rattle.rdx_query.proofs.FoundByName.{language-stays}
+use Rattle.rdx_forms.proofs.FoundByName.{language-stays}
 use Rattle.rdx_query.proofs.FreeContexts.{free-contexts}
-use Rattle.rdx_query.proofs.GainingNothing.{data-asked}
+use Rattle.rdx_forms.proofs.GainingNothing.{data-asked}
 use Rattle.rdx_query.proofs.NamedNonterminals.{HasNames, crossed-names}
 use Rattle.rdx_query.proofs.ValidAsked.{named_language, askable, query-is_valid}
 use Rattle.rdx_query.proofs.ValidDefinitions.{IsValidRelation, IsValidDefinition, AreValidSoFar, few-more, definition-valid}

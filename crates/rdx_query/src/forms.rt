@@ -1,110 +1,28 @@
 // One form of a file.
 ghost use Rattle.std.specs.Prelude.{◌≡◌, OnOk, map};
-ghost use Rattle.rdx_lang.specs.Checked.{language_in};
-ghost use Rattle.rdx_lang.specs.ProgramView.{judgement_of, metafunction_of, relation_of};
 ghost use Rattle.rdx_patterns.specs.Inside.Among.{AreAmong};
 ghost use Rattle.rdx_patterns.specs.Readable.{IsReadable};
-ghost use Rattle.rdx_query.specs.Definitions as defined;
-ghost use Rattle.rdx_query.specs.Ends.{form_ends};
-ghost use Rattle.rdx_query.specs.FormKinds as forms;
-ghost use Rattle.rdx_query.specs.Inside.Fitting.{AreCrossed, IsFitting};
+ghost use Rattle.rdx_forms.specs.Ends.{form_ends};
+ghost use Rattle.rdx_forms.specs.FormKinds as forms;
+ghost use Rattle.rdx_forms.specs.Fitting.{AreCrossed, IsFitting};
 ghost use Rattle.rdx_query.specs.Inside.KindViews.{definition_kind_of, passed_kind_of, query_kind_of, test_kind_of};
-ghost use Rattle.rdx_query.specs.Inside.KnownView.{known_of};
+ghost use Rattle.rdx_forms.specs.KnownView.{known_of};
 ghost use Rattle.rdx_query.specs.Inside.Steps.{AddsBy, AsksQuery, PassesBy, StepsBy};
-ghost use Rattle.rdx_query.specs.Known.{with_definition};
 ghost use Rattle.rdx_answer.specs.Views.{query_of};
 
 use crate::Query;
-use crate::define_forms::define_relation;
-use crate::holds_forms::{read_holds, read_holds_test};
-use crate::host_forms::read_unbound;
-use crate::judgement_forms::define_judgement;
 use crate::kind::{DefinitionKind, FormKind, PassedKind, QueryKind, TestKind, form_kind};
-use crate::known::Known;
-use crate::language_forms::{define_extension, define_language};
-use crate::match_forms::{Asked, read_query};
-use crate::metafunction_forms::define_metafunction;
-use crate::passed_forms::{check_offers, check_wants};
-use crate::step_forms::{Stepping, read_steps};
-use crate::tables::{add_text, make_room};
-use crate::test_forms::{Leading, Same, check_results, read_equal, read_leading};
 use rdx_defs::ReadPremise;
-use rdx_lang::{CheckedLang, Judgement, Metafunction, Relation};
+use rdx_forms::{
+    Asked, Known, Leading, Same, Stepping, add_judgement, add_language, add_metafunction,
+    add_relation, check_offers, check_results, check_wants, define_extension, define_judgement,
+    define_language, define_metafunction, define_relation, read_equal, read_holds, read_holds_test,
+    read_leading, read_query, read_steps, read_unbound,
+};
 use rdx_patterns::refusal::unnamed;
-use rdx_patterns::{DefFault, DefKind, Names, add_crosses_for};
+use rdx_patterns::{DefFault, DefKind};
 use rdx_sexp::Datum;
-use rdx_term::NoMemory;
 use std::alloc::Global;
-
-// Adds the language, with the cross nonterminals for which the file asks.
-fn add_language(alloc: Global, known: &mut Known, mut language: CheckedLang) -> Result<(), NoMemory>
-    ensures added { OnOk result (known_of known.new
-        ≡ with_definition (known_of known.old) (defined.language (language_in language))) }
-{
-    add_crosses_for(alloc, &mut language, &known.ends)?;
-    let names = Names::of_language(alloc, &language)?;
-    known.program.languages.reserve(1)?;
-    known.tables.nonterminals.reserve(1)?;
-    let place = known.program.languages.len();
-    add_text(
-        alloc,
-        &mut known.tables.languages,
-        language.language().name.text(),
-        place,
-    )?;
-    known.tables.nonterminals.push_reserved(names);
-    known.program.languages.push_reserved(language);
-    Ok(())
-}
-
-// Adds the metafunction.
-fn add_metafunction(
-    alloc: Global,
-    known: &mut Known,
-    metafunction: Metafunction,
-) -> Result<(), NoMemory>
-    ensures added { OnOk result (known_of known.new
-        ≡ with_definition (known_of known.old) (defined.metafunction (metafunction_of metafunction))) }
-{
-    make_room(
-        alloc,
-        &mut known.program.metafunctions,
-        &mut known.tables.metafunctions,
-        metafunction.name.text(),
-    )?;
-    known.program.metafunctions.push_reserved(metafunction);
-    Ok(())
-}
-
-// Adds the judgement.
-fn add_judgement(alloc: Global, known: &mut Known, judgement: Judgement) -> Result<(), NoMemory>
-    ensures added { OnOk result (known_of known.new
-        ≡ with_definition (known_of known.old) (defined.judgement (judgement_of judgement))) }
-{
-    make_room(
-        alloc,
-        &mut known.program.judgements,
-        &mut known.tables.judgements,
-        judgement.name.text(),
-    )?;
-    known.program.judgements.push_reserved(judgement);
-    Ok(())
-}
-
-// Adds the relation.
-fn add_relation(alloc: Global, known: &mut Known, relation: Relation) -> Result<(), NoMemory>
-    ensures added { OnOk result (known_of known.new
-        ≡ with_definition (known_of known.old) (defined.relation (relation_of relation))) }
-{
-    make_room(
-        alloc,
-        &mut known.program.relations,
-        &mut known.tables.relations,
-        relation.name.text(),
-    )?;
-    known.program.relations.push_reserved(relation);
-    Ok(())
-}
 
 // Adds what a form of this kind defines.
 fn define(

@@ -1,6 +1,6 @@
 // What a form does, by its head.
 ghost use Rattle.std.specs.Prelude.{◌≡◌};
-ghost use Rattle.rdx_query.specs.FormKinds as forms;
+ghost use Rattle.rdx_forms.specs.FormKinds as forms;
 ghost use Rattle.rdx_query.specs.Inside.KindViews.{kind_of};
 
 use rdx_patterns::shape::items;

@@ -1,5 +1,5 @@
 -- What the kinds of the code stand for.
-use Rattle.rdx_query.specs.FormKinds as model
+use Rattle.rdx_forms.specs.FormKinds as model
 use Rattle.rdx_query.specs.declared.kind.DefinitionKind.{DefinitionKind}
 use Rattle.rdx_query.specs.declared.kind.DefinitionKind.TheVariants.{Language, Extension, Metafunction, Judgement, Relation}
 use Rattle.rdx_query.specs.declared.kind.FormKind.{FormKind}

@@ -2,12 +2,12 @@
 use Rattle.std.specs.Prelude.{◌≡◌, List, [], ◌∷◌, ◌++◌, Result, Ok, Err}
 use Rattle.rdx_sexp.specs.Sexp.{Sexp}
 use Rattle.rdx_patterns.specs.declared.shape.fault.DefFault.{DefFault}
-use Rattle.rdx_query.specs.Definitions.{Defined}
-use Rattle.rdx_query.specs.File.{Defines, Asks, IsPassedOver}
-use Rattle.rdx_query.specs.Known.{Known, with_definition}
+use Rattle.rdx_forms.specs.Definitions.{Defined}
+use Rattle.rdx_forms.specs.OneForm.{Defines, Asks, IsPassedOver}
+use Rattle.rdx_forms.specs.Known.{Known, with_definition}
 use Rattle.rdx_answer.specs.Queries.{Query}
 use Rattle.rdx_answer.specs.Views.{query_of}
-use Rattle.rdx_query.specs.Inside.Defining.{IsFormFault}
+use Rattle.rdx_forms.specs.Answers.{IsFormFault}
 use Rattle.rdx_answer.specs.declared.queries.Query as code_query
 
 -- behind K and the queries qs the form is accepted, and J and rs are those with what it adds

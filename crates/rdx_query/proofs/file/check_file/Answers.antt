@@ -1,11 +1,11 @@
 use Rattle.std.proofs.Common.{[], map, refl, sym, subst, arith}
 use Rattle.std.proofs.lemmas.Result.{err_from_is_err_and}
 use Rattle.rdx_defs.specs.Scopes.{languages_in, scope_in}
-use Rattle.rdx_query.specs.Ends.{file_ends}
-use Rattle.rdx_query.specs.File.{known_before}
-use Rattle.rdx_query.specs.Inside.Fitting.{IsFitting}
-use Rattle.rdx_query.specs.Inside.KnownView.{known_of}
-use Rattle.rdx_query.specs.Known.{Known}
+use Rattle.rdx_forms.specs.Ends.{file_ends}
+use Rattle.rdx_forms.specs.Before.{known_before}
+use Rattle.rdx_forms.specs.Fitting.{IsFitting}
+use Rattle.rdx_forms.specs.KnownView.{known_of}
+use Rattle.rdx_forms.specs.Known.{Known}
 use Rattle.rdx_answer.specs.Views.{query_of}
 use Rattle.rdx_query.proofs.FileRead.{SoFar, so_far-start, so_far-next, so_far-fault, so_far-end, file-named, form-readable, form-ends-among}
 use Rattle.rdx_query.proofs.FittingKnown.{fitting-nothing}

@@ -1,6 +1,6 @@
 use Rattle.std.proofs.Common.{drop, map}
-use Rattle.rdx_query.specs.Inside.Fitting.{IsFitting}
-use Rattle.rdx_query.specs.Inside.KnownView.{known_of}
+use Rattle.rdx_forms.specs.Fitting.{IsFitting}
+use Rattle.rdx_forms.specs.KnownView.{known_of}
 use Rattle.rdx_answer.specs.Views.{query_of}
 use Rattle.rdx_query.proofs.FileRead.{SoFar}
 use Rattle.rdx_query.proofs.file.check_file.Given as goal

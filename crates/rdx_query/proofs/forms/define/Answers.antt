@@ -1,11 +1,11 @@
 use Rattle.std.proofs.Common.{sym, subst}
 use Rattle.rdx_lang.specs.Checked.{language_in}
 use Rattle.rdx_lang.specs.ProgramView.{judgement_of, metafunction_of, relation_of}
-use Rattle.rdx_query.specs.Inside.Fitting.{IsRelationOf, IsFitting}
-use Rattle.rdx_query.specs.Inside.KnownView.{known_of}
-use Rattle.rdx_query.specs.Known.{Known}
+use Rattle.rdx_forms.specs.Fitting.{IsRelationOf, IsFitting}
+use Rattle.rdx_forms.specs.KnownView.{known_of}
+use Rattle.rdx_forms.specs.Known.{Known}
 use Rattle.rdx_query.proofs.FittingKnown.{fitting-judgement, fitting-language, fitting-metafunction, fitting-relation}
-use Rattle.rdx_query.proofs.GainingNothing.{data-asked}
+use Rattle.rdx_forms.proofs.GainingNothing.{data-asked}
 use Rattle.rdx_query.proofs.forms.define.Goals as goal
 
 pub define_metafunction-requires-clause-ends : goal.define_metafunction-requires-clause-ends

@@ -1,4 +1,4 @@
-use Rattle.rdx_query.proofs.GainingNothing.{data-asked}
+use Rattle.rdx_forms.proofs.GainingNothing.{data-asked}
 use Rattle.rdx_query.proofs.forms.question.Goals as goal
 
 pub read_query-requires-clause-ends : goal.read_query-requires-clause-ends

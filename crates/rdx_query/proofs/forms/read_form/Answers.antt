@@ -1,5 +1,5 @@
 use Rattle.std.proofs.Common.{map}
-use Rattle.rdx_query.specs.Inside.KnownView.{known_of}
+use Rattle.rdx_forms.specs.KnownView.{known_of}
 use Rattle.rdx_answer.specs.Views.{query_of}
 use Rattle.rdx_query.proofs.FormSteps.{adds_step, query_step, passes_step}
 use Rattle.rdx_query.proofs.forms.read_form.Goals as goal

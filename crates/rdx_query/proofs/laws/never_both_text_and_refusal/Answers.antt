@@ -1,4 +1,4 @@
-use Rattle.rdx_query.specs.File.{known_before}
+use Rattle.rdx_forms.specs.Before.{known_before}
 use Rattle.rdx_query.proofs.OneReading.{accepts-refuses}
 use Rattle.rdx_query.proofs.laws.never_both_text_and_refusal.Goals as goal
 

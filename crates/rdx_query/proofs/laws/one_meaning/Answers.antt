@@ -1,6 +1,6 @@
 use Rattle.std.proofs.Common.{ap}
-use Rattle.rdx_query.specs.File.{known_before}
-use Rattle.rdx_query.specs.Known.{Known}
+use Rattle.rdx_forms.specs.Before.{known_before}
+use Rattle.rdx_forms.specs.Known.{Known}
 use Rattle.rdx_query.proofs.OneReading.{accepts-one}
 use Rattle.rdx_query.proofs.laws.one_meaning.Goals as goal
 

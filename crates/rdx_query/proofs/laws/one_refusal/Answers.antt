@@ -1,4 +1,4 @@
-use Rattle.rdx_query.specs.File.{known_before}
+use Rattle.rdx_forms.specs.Before.{known_before}
 use Rattle.rdx_query.proofs.OneReading.{refuses-one}
 use Rattle.rdx_query.proofs.laws.one_refusal.Goals as goal
 

@@ -1,0 +1,220 @@
+-- Which check refuses a form that defines a relation by cases.
+use Rattle.std.proofs.Common.{◌≡◌, ℕ, Bool, true, false, List, [], ◌∷◌, Option, Some, None, Result, Ok, Err, IfOk, refl, sym, ◌∙◌, ap, subst, arith, if◌then◌else◌}
+use Rattle.std.proofs.lemmas.Bool.{and_parts, and_from}
+use Rattle.std.specs.List.{list_all}
+use Rattle.std.specs.Prelude.{◌&&◌, codes, option_map}
+use Rattle.rdx_sexp.specs.Sexp.{Sexp}
+use Rattle.rdx_lang.specs.Closures.{has_well_formed_patterns}
+use Rattle.rdx_lang.specs.Depths.{uses}
+use Rattle.rdx_lang.specs.Fitting.{fits}
+use Rattle.rdx_lang.specs.Modes.{Callable}
+use Rattle.rdx_lang.specs.Patterns.{Language}
+use Rattle.rdx_lang.specs.Programs as model
+use Rattle.rdx_lang.specs.Programs.{Rule, language_named}
+use Rattle.rdx_lang.specs.ProgramView.{relation_of}
+use Rattle.rdx_lang.specs.Scopes.{bound_by, case_uses}
+use Rattle.rdx_lang.specs.Valid.{are_valid_extras, is_valid_rule, is_valid_domain, is_valid_over}
+use Rattle.rdx_lang.specs.WellFormed.{is_well_formed_in}
+use Rattle.rdx_lang.specs.declared.program.Relation.{Relation}
+use Rattle.rdx_patterns.specs.Names.{is_bad_name}
+use Rattle.rdx_patterns.specs.Nonterminals.{names_of}
+use Rattle.rdx_patterns.specs.Parts.{parts, text_of}
+use Rattle.rdx_patterns.specs.Refusal.{Refusal, refusal_of, or_else, first_refusal}
+use Rattle.rdx_patterns.specs.Unbuilt.{has_word_to_come}
+use Rattle.rdx_patterns.specs.declared.shape.fault.DefFault.{DefFault}
+use Rattle.rdx_patterns.specs.declared.shape.fault.DefFault.TheVariants.{Refused, NoMemory}
+use Rattle.rdx_patterns.specs.declared.shape.fault.DefRefusal.{DefRefusal}
+use Rattle.rdx_relations.specs.Answers.{ReadsRelation}
+use Rattle.rdx_relations.specs.RelationForms.{RelationForm, is_keyword, may_name, relation_among, relation_over, relation_form}
+use Rattle.rdx_relations.specs.RelationReading.{relation_reading}
+use Rattle.rdx_relations.specs.RelationRefusal.{relation_refusal}
+use Rattle.rdx_relations.specs.RelationStands.{relation_stands}
+use Rattle.rdx_templates.specs.Scope.{Scope}
+use Rattle.rdx_parts.specs.StandRefusal.{stands_refusal}
+use Rattle.rdx_parts.specs.Stands.{Stand}
+use Rattle.rdx_forms.specs.DefineForms.{define_refusal, define_refusal_by, defined_relation, relation_by}
+use Rattle.rdx_forms.specs.DefineParts.{by_cases, define_parts}
+use Rattle.rdx_forms.specs.FormKinds as kind
+use Rattle.rdx_forms.specs.FormKinds.{defines, form_kind}
+use Rattle.rdx_forms.specs.Known.{Known}
+use Rattle.rdx_forms.specs.LanguageForms.{named_base, unknown_at, name_taken_at}
+use Rattle.rdx_forms.specs.RelationForms.{bad_relation_at}
+use Rattle.rdx_forms.specs.Inside.Defining.{parts_refusal, parts_relation, RelatesOver}
+use Rattle.rdx_forms.specs.Answers.{RelatesBy}
+use Rattle.rdx_forms.specs.Inside.Earlier.{earlier, IsUnless}
+use Rattle.rdx_forms.specs.Faults.{IsFaultAt, IsRefusedBy}
+use Rattle.rdx_forms.specs.Fitting.{IsRelationOf, language_at}
+use Rattle.rdx_forms.specs.Inside.PartViews.{second_among, may_name_item, language_item}
+use Rattle.rdx_patterns.proofs.Firsts.{none_of}
+use Rattle.rdx_forms.proofs.CheckNumbers.{or_none, Checks, AreChecks, refused, merge, merged}
+use Rattle.rdx_forms.proofs.DefineChecks.{bad-number, good_name, sole_parts, body-built, relates-by}
+use Rattle.rdx_forms.proofs.FormParts.{unbuilt_at-built}
+use Rattle.rdx_forms.proofs.FoundByName.{language-found}
+use Rattle.rdx_forms.proofs.LanguageChecks.{unknown-number, taken-number}
+use Rattle.rdx_forms.proofs.StandNumbers.{stand_checks, stand-checks}
+
+-- ---- the language's name
+
+-- the name, as a function
+abbrev language_of : RelationForm → Sexp
+language_of r = r.language
+
+-- it stands behind the head, whatever stands behind it
+over-language : (l : Sexp) (ds : List Sexp) → (relation_over l ds).language ≡ l
+over-language l [] = refl
+over-language l (k ∷ []) = refl
+over-language l (k ∷ p ∷ cs) = by_test (is_keyword (codes "domain") k)
+  where
+    by_test : (b : Bool) → language_of (if b then record { language = l; domain = Some p; cases = cs } else record { language = l; domain = None; cases = k ∷ p ∷ cs }) ≡ l
+    by_test true = refl
+    by_test false = refl
+
+-- among items
+language-among : (o : Option (List Sexp)) → option_map (λ (r : RelationForm). r.language) (relation_among o) ≡ may_name_item (second_among o)
+language-among None = refl
+language-among (Some []) = refl
+language-among (Some (h ∷ [])) = refl
+language-among (Some (h ∷ l ∷ ds)) = by_test (may_name l)
+  where
+    by_test : (b : Bool) → option_map (λ (r : RelationForm). r.language) (if b then Some (relation_over l ds) else None) ≡ (if b then Some l else None)
+    by_test true = ap Some (over-language l ds)
+    by_test false = refl
+
+-- of a list that says what a relation is
+language-item : (d : Sexp) → option_map (λ (r : RelationForm). r.language) (relation_form d) ≡ language_item d
+language-item d = language-among (parts d)
+
+-- ---- the checks of the names
+
+abbrev name_checks : Known → Option Sexp → Sexp → Checks
+name_checks K o x = (2, unknown_at K o) ∷ (3, name_taken_at K x) ∷ (4, bad_relation_at x) ∷ []
+
+name-checks : (K : Known) (o : Option Sexp) (x : Sexp) → AreChecks 0 (name_checks K o x)
+name-checks K o x =
+    (omega arith, (unknown-number K o, (omega arith, (taken-number K x, (omega arith, (bad-number (is_bad_name (text_of x)) x, tt))))))
+
+-- ---- what is read of the parts
+
+-- what is read of the list is refused so
+relation-refused : (S : Scope) (ns : List (List ℕ)) (y : List ℕ) (body : Sexp) (x : Result Relation DefFault) → ReadsRelation S ns y body x → IsRefusedBy (relation_refusal S ns body) x
+relation-refused S ns y body (Ok r) a = a.passes
+relation-refused S ns y body (Err (Refused r)) a = a
+relation-refused S ns y body (Err NoMemory) a = tt
+
+module _ (K : Known) (x body : Sexp) where
+  -- what is refused of the names
+  abbrev names_refusal : Option Refusal
+  names_refusal = first_refusal (unknown_at K (language_item body) ∷ name_taken_at K x ∷ bad_relation_at x ∷ [])
+
+  -- the nonterminals of the language
+  abbrev language_names : List (List ℕ)
+  language_names = names_of (named_base K (language_item body))
+
+  -- no name is refused
+  as_read : (y : List ℕ) (r : Result Relation DefFault) → names_refusal ≡ None → (is_bad_name (text_of x) ≡ false → y ≡ text_of x) → ReadsRelation K.scope language_names y body r → RelatesOver K x body r
+  as_read y (Ok r) e f a =
+      let late = (none_of (name_taken_at K x) (bad_relation_at x ∷ []) (none_of (unknown_at K (language_item body)) (name_taken_at K x ∷ bad_relation_at x ∷ []) e).1).1 in
+      let name : y ≡ text_of x = f (good_name (is_bad_name (text_of x)) x (none_of (bad_relation_at x) [] late).0) in (
+        λ i. earlier (e i) (a.passes i),
+        ap (λ z. option_map (relation_reading K.scope language_names z) (relation_form body)) (sym name) ∙ ap (option_map (relation_reading K.scope language_names y)) a.is_form ∙ ap Some (sym a.is_read),
+      )
+  as_read y (Err (Refused r)) e f a = ap (λ (o : Option Refusal). earlier o (relation_refusal K.scope language_names body)) e ∙ a
+  as_read y (Err NoMemory) e f a = tt
+
+  -- the answer, by what is said of the names
+  pub relates-over : (o : Option Sexp) (y : List ℕ) (t : Option DefRefusal) (r z : Result Relation DefFault) → o ≡ language_item body
+      → option_map refusal_of t ≡ first_refusal (unknown_at K o ∷ name_taken_at K x ∷ bad_relation_at x ∷ []) → (is_bad_name (text_of x) ≡ false → y ≡ text_of x)
+      → ReadsRelation K.scope (names_of (named_base K o)) y body r → IsUnless t r z → RelatesOver K x body z
+  relates-over o y t r z e f g a k =
+      by_names t z
+      (f ∙ ap (λ (l : Option Sexp). first_refusal (unknown_at K l ∷ name_taken_at K x ∷ bad_relation_at x ∷ [])) e)
+      (subst (λ (l : Option Sexp). ReadsRelation K.scope (names_of (named_base K l)) y body r) e a) k
+    where
+      by_names : (t : Option DefRefusal) (z : Result Relation DefFault) → option_map refusal_of t ≡ names_refusal → ReadsRelation K.scope language_names y body r → IsUnless t r z → RelatesOver K x body z
+      by_names None z f a k = subst (RelatesOver K x body) (sym k) (as_read y r (sym f) g a)
+      by_names (Some q) (Ok v) f a k = absurd k
+      by_names (Some q) (Err e) f a k =
+          subst (λ (o : Option Refusal). IsFaultAt (earlier o (relation_refusal K.scope language_names body)) e) f
+          (k (relation_refusal K.scope language_names body) (relation-refused K.scope language_names y body r a))
+
+-- ---- a form with these parts, behind which nothing stands
+
+module _ (K : Known) (d x body : Sexp) (e : define_parts d ≡ Some (sole_parts by_cases x body)) (b : has_word_to_come d ≡ false) where
+  -- the nonterminals of its language
+  abbrev names : List (List ℕ)
+  names = names_of (named_base K (language_item body))
+
+  -- what stands in the list
+  abbrev stands : List Stand
+  stands = relation_stands K.scope names body (relation_form body)
+
+  -- the list is refused by its checks
+  body-refusal : relation_refusal K.scope names body ≡ refused (stand_checks K.scope names stands)
+  body-refusal =
+      (λ i. or_else (unbuilt_at-built body (body-built d by_cases x body e b) i) (or_else (stands_refusal K.scope names stands) None))
+      ∙ or_none (refused (stand_checks K.scope names stands))
+
+  -- the form is refused by those of the names and of the list
+  chain : define_refusal K d ≡ refused (merge (name_checks K (language_item body) x) (stand_checks K.scope names stands))
+  chain =
+      ap (define_refusal_by K d) e
+      ∙ λ i. or_else (unbuilt_at-built d b i) (refused (merge (name_checks K (language-item body i) x)
+      (stand_checks K.scope (names_of (named_base K (language-item body i))) (relation_stands K.scope (names_of (named_base K (language-item body i))) body (relation_form body)))))
+
+  -- so the parts are
+  define-refusal : define_refusal K d ≡ parts_refusal K x body
+  define-refusal =
+      chain
+      ∙ merged 0 (name_checks K (language_item body) x) (stand_checks K.scope names stands) (name-checks K (language_item body) x) (stand-checks K.scope names stands)
+      ∙ ap (earlier (refused (name_checks K (language_item body) x))) (sym body-refusal)
+
+  -- the relation that the form defines
+  define-relation : defined_relation K d ≡ parts_relation K x body
+  define-relation =
+      ap (relation_by K) e
+      ∙ λ i. option_map (relation_reading K.scope (names_of (named_base K (language-item body i))) (text_of x)) (relation_form body)
+
+  -- what is said of its parts is said of the form
+  pub relates-cases : (y : Result Relation DefFault) → form_kind d ≡ defines kind.relation → RelatesOver K x body y → RelatesBy K d y
+  relates-cases y f a = relates-by K d (parts_refusal K x body) (parts_relation K x body) y f define-refusal define-relation a
+
+-- ---- the relation's patterns
+
+-- the pattern of each rule is well formed, where the rules are valid
+rules-formed : (C : Callable) (L : Language) (rs : List Rule) → list_all (is_valid_rule C L) rs ≡ true → list_all (λ r. is_well_formed_in L r.pattern) rs ≡ true
+rules-formed C L [] e = refl
+rules-formed C L (r ∷ rs) e =
+    let p = and_parts (is_valid_rule C L r) (list_all (is_valid_rule C L) rs) e in
+    and_from (is_well_formed_in L r.pattern) (list_all (λ q. is_well_formed_in L q.pattern) rs)
+    (and_parts (is_well_formed_in L r.pattern) (are_valid_extras C L (uses 0 r.pattern) r.extras && fits C.functions (bound_by (case_uses r.pattern r.extras)) 0 r.result) p.0).0
+    (rules-formed C L rs p.1)
+
+-- so are those of a valid relation
+pub valid-formed : (C : Callable) (L : Language) (R : model.Relation) → is_valid_over C (Some L) R ≡ true → has_well_formed_patterns L R ≡ true
+valid-formed C L R e = rules-formed C L R.rules (and_parts (is_valid_domain L R.domain) (list_all (is_valid_rule C L) R.rules) e).1
+
+-- a list that is read
+read-fits : (K : Known) (o : Option Sexp) (ns : List (List ℕ)) (y : List ℕ) (body : Sexp) (q : Relation) → o ≡ language_item body → unknown_at K o ≡ None → ReadsRelation K.scope ns y body (Ok q)
+    → ((L : Language) → language_at K o ≡ Some L → has_well_formed_patterns L (relation_of q) ≡ true) → IsRelationOf K.program (relation_of q)
+read-fits K o ns y body q e u a f =
+    let l : Sexp = a.parts.language in
+    let is : o ≡ Some l = e ∙ sym (language-item body) ∙ ap (option_map language_of) a.is_form in
+    let h = language-found (language_named K.program (text_of l)) l (ap (unknown_at K) (sym is) ∙ u) in
+    record {
+      language = h.value;
+      named = ap (λ (R : model.Relation). language_named K.program R.language) a.is_read ∙ h.is;
+      formed = f h.value (ap (language_at K) is ∙ h.is);
+    }
+
+-- the relation that is answered has a language that is known, in which its patterns are well formed
+pub fits-over : (K : Known) (o : Option Sexp) (ns : List (List ℕ)) (x : Sexp) (y : List ℕ) (body : Sexp) (t : Option DefRefusal) (r z : Result Relation DefFault) → o ≡ language_item body
+    → option_map refusal_of t ≡ first_refusal (unknown_at K o ∷ name_taken_at K x ∷ bad_relation_at x ∷ []) → ReadsRelation K.scope ns y body r
+    → IfOk r (λ q. (L : Language) → language_at K o ≡ Some L → has_well_formed_patterns L (relation_of q) ≡ true) → IsUnless t r z
+    → IfOk z (λ q. IsRelationOf K.program (relation_of q))
+fits-over K o ns x y body (Some q) r (Ok v) e g a f u = absurd u
+fits-over K o ns x y body t r (Err w) e g a f u = tt
+fits-over K o ns x y body None (Err w) (Ok v) e g a f u = absurd cc
+fits-over K o ns x y body None (Ok q) (Ok v) e g a f u =
+    let same : q ≡ v = cc in
+    subst (λ (p : Relation). IsRelationOf K.program (relation_of p)) same
+    (read-fits K o ns y body q e (none_of (unknown_at K o) (name_taken_at K x ∷ bad_relation_at x ∷ []) (sym g)).0 a f)

@@ -1,0 +1,15 @@
+use Rattle.std.proofs.Common.{◌≡◌, true, false, codes, refl, ap, ◌∙◌}
+use Rattle.std.specs.Rc.{rc_str_bytes}
+use Rattle.std.specs.Str.{chars}
+use Rattle.rdx_term.specs.Spelling.{is_name}
+use Rattle.rdx_forms.proofs.language_forms.some_name.Goals as goal
+
+none-name : is_name (codes "none") ≡ true
+unfolding chars
+none-name = refl
+
+pub unreachable-requires : goal.unreachable-requires
+unreachable-requires c =
+    let e : is_name (rc_str_bytes c.in_ok-from_str.field-0) ≡ false = c.in-None.ensures.none.0 refl in
+    let f : is_name (rc_str_bytes c.in_ok-from_str.field-0) ≡ true = ap is_name c.in_ok-from_str.ensures.ok ∙ none-name in
+    cc

@@ -1,0 +1,2 @@
+-- What ghost fields cite.
+pub mod Tabled

@@ -1,0 +1,95 @@
+// Forms that define languages.
+ghost use Rattle.std.specs.Prelude.{◌≡◌, [], Some, IfOk};
+ghost use Rattle.rdx_lang.specs.Checked.{language_in};
+ghost use Rattle.rdx_patterns.specs.Nonterminals.{names_of};
+ghost use Rattle.rdx_patterns.specs.Readable.{IsReadable};
+ghost use Rattle.rdx_forms.specs.FormKinds as forms;
+ghost use Rattle.rdx_forms.specs.Answers.{DefinesBy};
+ghost use Rattle.rdx_forms.specs.KnownView.{known_of};
+ghost use Rattle.rdx_forms.specs.LanguageForms.{base_name};
+
+use crate::earlier::{first_fault, unless};
+use crate::known::Known;
+use crate::lookup::place_named;
+use crate::parts::{base_name, second_item};
+use crate::refusals::{misshaped, refuse_taken};
+use rdx_grammar::{extend, read_language};
+use rdx_lang::{CheckedLang, Language, Ranks};
+use rdx_patterns::refusal::named;
+use rdx_patterns::shape::text;
+use rdx_patterns::{DefFault, DefKind};
+use rdx_sexp::Datum;
+use rdx_term::{Name, NoMemory};
+use std::alloc::Global;
+use std::rc::RcStr;
+
+/// Some name, for what needs one that nobody reads.
+pub(crate) fn some_name(alloc: Global) -> Result<Name, NoMemory> {
+    match Name::new(RcStr::from_str(alloc, "none")?) {
+        Some(name) => Ok(name),
+        None => unreachable!(),
+    }
+}
+
+/// A language without nonterminals.
+pub(crate) fn empty_language(alloc: Global) -> Result<CheckedLang, NoMemory>
+    ensures { IfOk result (λ l. names_of (language_in l) ≡ []) }
+{
+    let language = Language {
+        name: some_name(alloc)?,
+        nts: Vec::new(alloc),
+    };
+    Ok(CheckedLang::new(
+        language,
+        Ranks {
+            of: Vec::new(alloc),
+        },
+    ))
+}
+
+// What an extension is over the language that it names.
+fn extension(
+    alloc: Global,
+    known: &Known,
+    form: &Datum,
+    name: &Datum,
+) -> Result<CheckedLang, DefFault>
+    requires readable { IsReadable form.now }
+    requires base { base_name form.now ≡ Some name.now }
+    requires extension { forms.form_kind form.now ≡ forms.defines forms.extension }
+    ensures { DefinesBy (known_of known.now) form.now result }
+{
+    match place_named(known, text(name)) {
+        Some(place) => {
+            let taken = refuse_taken(alloc, known, second_item(form))?;
+            unless(taken, extend(alloc, &known.program.languages[place], form))
+        }
+        None => {
+            let unknown = named(alloc, DefKind::UnknownLanguage, name)?;
+            let read = extend(alloc, &empty_language(alloc)?, form);
+            Err(first_fault(unknown, read))
+        }
+    }
+}
+
+/// The language of a `define-extended-language` form, where this is known.
+pub fn define_extension(alloc: Global, known: &Known, form: &Datum) -> Result<CheckedLang, DefFault>
+    requires readable { IsReadable form.now }
+    requires extension { forms.form_kind form.now ≡ forms.defines forms.extension }
+    ensures { DefinesBy (known_of known.now) form.now result }
+{
+    match base_name(form) {
+        Some(name) => extension(alloc, known, form, name),
+        None => Err(DefFault::Refused(misshaped(form))),
+    }
+}
+
+/// The language of a `define-language` form, where this is known.
+pub fn define_language(alloc: Global, known: &Known, form: &Datum) -> Result<CheckedLang, DefFault>
+    requires readable { IsReadable form.now }
+    requires language { forms.form_kind form.now ≡ forms.defines forms.language }
+    ensures { DefinesBy (known_of known.now) form.now result }
+{
+    let taken = refuse_taken(alloc, known, second_item(form))?;
+    unless(taken, read_language(alloc, form))
+}
