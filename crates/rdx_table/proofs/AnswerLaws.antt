@@ -15,7 +15,7 @@ use Rattle.rdx_bind.specs.declared.asks.Ask.{Ask}
 use Rattle.rdx_bind.specs.declared.asks.Ask.TheVariants.{Nothing, Matches, Splits}
 use Rattle.rdx_bind.specs.declared.rows.Row.{Row}
 use Rattle.rdx_store.specs.Stored.{tree_by_id}
-use Rattle.rdx_table.specs.Inside.Nodes.{pattern_at}
+use Rattle.rdx_nodes.specs.Nodes.{pattern_at}
 use Rattle.rdx_table.specs.Inside.SameColumns.{IsSameColumn}
 use Rattle.rdx_table.specs.Inside.Tasks.{slots_in, items_in, IsRow, IsOneRow, IsColumnOf, IsAnswer, AreAnswers}
 use Rattle.rdx_table.specs.declared.task.Answer.{Answer}

@@ -22,9 +22,10 @@ use Rattle.rdx_bind.specs.Splitting.{NamesContext, GoesOn}
 use Rattle.rdx_bind.specs.declared.rows.Row.{Row}
 use Rattle.rdx_bind.proofs.Gathering.{exactly_as, exactly_added, exactly_listed, exactly_none, adds_as}
 use Rattle.rdx_bind.proofs.SplitRules.{MatchesOn, SplitsOn, exactly_nt, exactly_closed, exactly_named, exactly_in_hole, listing_in_hole}
+use Rattle.rdx_nodes.specs.Asked.{asked_where}
+use Rattle.rdx_nodes.specs.Nodes.{pattern_at, DoAsWell, AreBelow}
 use Rattle.rdx_table.specs.Inside.Looks.{language_of_look, patterns_of_look, aim_pattern, aim_tree, Meets}
-use Rattle.rdx_table.specs.Inside.Nodes.{pattern_at, DoAsWell, AreBelow}
-use Rattle.rdx_table.specs.Inside.Tasks.{asked_where, IsTask, AreTasks}
+use Rattle.rdx_table.specs.Inside.Tasks.{IsTask, AreTasks}
 use Rattle.rdx_table.specs.declared.look.Look.{Look}
 use Rattle.rdx_table.specs.declared.task.Goal.{Goal}
 use Rattle.rdx_table.specs.declared.task.Task.{Task}

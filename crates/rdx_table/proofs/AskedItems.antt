@@ -20,9 +20,9 @@ use Rattle.rdx_bind.specs.PartRows.{HaveSpots, IsSearched, part_matches}
 use Rattle.rdx_bind.specs.Rows.{SplitRow}
 use Rattle.rdx_bind.specs.Searching.{IsRowOf, row_matches, row_splits, row_fails}
 use Rattle.rdx_bind.specs.Spots.{SplitsAt, IsPlaced, PlacedAt}
+use Rattle.rdx_nodes.specs.Asked.{asked_where}
 use Rattle.rdx_table.proofs.FoundBehind.{some_of_row}
 use Rattle.rdx_table.specs.Inside.Cuts.{lacks_all}
-use Rattle.rdx_table.specs.Inside.Tasks.{asked_where}
 
 -- ---- lists that a loop goes along
 

@@ -15,14 +15,15 @@ use Rattle.rdx_bind.specs.declared.asks.Ask.{Ask}
 use Rattle.rdx_bind.specs.declared.rows.Row.{Row}
 use Rattle.rdx_bind.proofs.AskedRows.{exactly_placed}
 use Rattle.rdx_store.specs.Stored.{tree_by_id, trees_by_ids, AreIds}
+use Rattle.rdx_nodes.specs.Asked.{asked_where}
+use Rattle.rdx_nodes.specs.Nodes.{pattern_at}
+use Rattle.rdx_nodes.specs.Settings.{language_at, patterns_at_hand, trees_at_hand}
+use Rattle.rdx_nodes.specs.declared.setting.Setting.{Setting}
 use Rattle.rdx_table.specs.Inside.Cells.{AreReadable, IsCellGoal, IsCell, cell_id, AreCellsAt, AreFor}
 use Rattle.rdx_table.specs.Inside.Looks.{language_of_look, patterns_of_look, trees_of_look, IsAim, Meets, AreAsked}
-use Rattle.rdx_table.specs.Inside.Nodes.{pattern_at}
-use Rattle.rdx_table.specs.Inside.Settings.{language_at, patterns_at_hand, trees_at_hand}
-use Rattle.rdx_table.specs.Inside.Tasks.{asked_where, AreTasks, IsTask}
+use Rattle.rdx_table.specs.Inside.Tasks.{AreTasks, IsTask}
 use Rattle.rdx_table.specs.declared.cells.Cells.{Cells}
 use Rattle.rdx_table.specs.declared.look.Look.{Look}
-use Rattle.rdx_table.specs.declared.setting.Setting.{Setting}
 use Rattle.rdx_table.specs.declared.task.Goal.{Goal}
 use Rattle.rdx_table.specs.declared.task.Task.{Task}
 

@@ -20,9 +20,9 @@ use Rattle.rdx_bind.specs.declared.asks.Ask.TheVariants.{Nothing}
 use Rattle.rdx_bind.specs.declared.rows.Row.{Row}
 use Rattle.rdx_bind.proofs.AskedRows.{has-none, has-as}
 use Rattle.rdx_store.specs.Stored.{tree_by_id, trees_by_ids, AreIds}
-use Rattle.rdx_table.specs.Inside.Nodes.{slot_at, slots_at, IsEntry, AreEntries}
+use Rattle.rdx_nodes.specs.Nodes.{slot_at, slots_at, IsEntry, AreEntries}
+use Rattle.rdx_nodes.specs.declared.node.Entry.{Entry}
 use Rattle.rdx_table.specs.Inside.Tasks.{listed, items_in}
-use Rattle.rdx_table.specs.declared.node.Entry.{Entry}
 
 -- ---- terms
 

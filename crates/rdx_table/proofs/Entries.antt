@@ -7,11 +7,11 @@ use Rattle.rdx_lang.specs.Inside.Singles.{are_single}
 use Rattle.rdx_lang.specs.Patterns.{Pattern, wild, Language}
 use Rattle.rdx_lang.specs.PatternView.{just}
 use Rattle.rdx_store.specs.Stored.{tree_by_id, trees_by_ids, AreIds}
+use Rattle.rdx_nodes.specs.Nodes.{pattern_at, slots_at, AreEntries}
+use Rattle.rdx_nodes.specs.declared.node.Entry.{Entry}
+use Rattle.rdx_nodes.specs.declared.node.Entry.TheVariants as entry
 use Rattle.rdx_table.specs.Inside.Cuts.{are_ones, IsNumberAt}
-use Rattle.rdx_table.specs.Inside.Nodes.{pattern_at, slots_at, AreEntries}
 use Rattle.rdx_table.specs.Inside.Tasks.{AreTasks, IsTask}
-use Rattle.rdx_table.specs.declared.node.Entry.{Entry}
-use Rattle.rdx_table.specs.declared.node.Entry.TheVariants as entry
 use Rattle.rdx_table.specs.declared.task.Task.{Task}
 
 module _ (ps : List Pattern) where

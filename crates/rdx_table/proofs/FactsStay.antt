@@ -10,16 +10,17 @@ use Rattle.rdx_bind.specs.Rows.{split_row_of, split_rows_of}
 use Rattle.rdx_bind.specs.Spots.{SplitsAt}
 use Rattle.rdx_bind.specs.declared.rows.Row.{Row}
 use Rattle.rdx_store.specs.Stored.{tree_by_id}
+use Rattle.rdx_nodes.specs.Asked.{asked_where}
+use Rattle.rdx_nodes.specs.Doors.{doors_left}
+use Rattle.rdx_nodes.specs.Settings.{language_at, patterns_at_hand, trees_at_hand, Grows, IsReady}
+use Rattle.rdx_nodes.specs.declared.entry.Entry.{Entry}
+use Rattle.rdx_nodes.specs.declared.setting.Setting.{Setting}
+use Rattle.rdx_nodes.proofs.NodePatterns.{pattern_at-append}
 use Rattle.rdx_table.specs.Inside.Frames.{tasks_of, IsFrame, AreFrames}
 use Rattle.rdx_table.specs.Inside.Looks.{IsStop, Heeds, is_asked, is_opened}
 use Rattle.rdx_table.specs.Inside.Memos.{IsEntryAt, IsMemo}
-use Rattle.rdx_table.proofs.NodePatterns.{pattern_at-append}
-use Rattle.rdx_table.specs.Inside.Remaining.{doors_left}
-use Rattle.rdx_table.specs.Inside.Settings.{language_at, patterns_at_hand, trees_at_hand, Grows, IsReady}
-use Rattle.rdx_table.specs.Inside.Tasks.{slots_in, column_trees, asked_where, IsGoal, IsColumnTask, IsTask, AreTasks, IsRow, IsColumnOf, IsFound, AreAnswers}
-use Rattle.rdx_table.specs.declared.entry.Entry.{Entry}
+use Rattle.rdx_table.specs.Inside.Tasks.{slots_in, column_trees, IsGoal, IsColumnTask, IsTask, AreTasks, IsRow, IsColumnOf, IsFound, AreAnswers}
 use Rattle.rdx_table.specs.declared.frame.Frame.{Frame}
-use Rattle.rdx_table.specs.declared.setting.Setting.{Setting}
 use Rattle.rdx_table.specs.declared.task.Answer.{Answer}
 use Rattle.rdx_table.specs.declared.task.Column.{Column}
 use Rattle.rdx_table.specs.declared.task.Goal.{Goal}

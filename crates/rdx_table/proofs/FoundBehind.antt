@@ -14,8 +14,8 @@ use Rattle.rdx_bind.specs.PartRows.{PartSplits, HaveSpots}
 use Rattle.rdx_bind.specs.Parts.{Part}
 use Rattle.rdx_bind.specs.Rows.{SplitRow}
 use Rattle.rdx_bind.specs.Spots.{Spot}
+use Rattle.rdx_nodes.specs.Asked.{asked_where}
 use Rattle.rdx_table.specs.Inside.Cuts.{lacks_all, IsFoundBehind}
-use Rattle.rdx_table.specs.Inside.Tasks.{asked_where}
 
 -- ---- what a row has
 

@@ -20,9 +20,9 @@ use Rattle.rdx_bind.specs.Parts.{Part, CannotFit, IsCut, Unmatched}
 use Rattle.rdx_bind.specs.Rows.{SplitRow, SpotsAcross, all_matches, split_row_of}
 use Rattle.rdx_bind.specs.Spots.{SplitsAt}
 use Rattle.rdx_bind.specs.declared.rows.Row.{Row}
+use Rattle.rdx_nodes.specs.Asked.{asked_where}
 use Rattle.rdx_table.specs.Inside.Cuts.{IsFoundBehind}
 use Rattle.rdx_table.specs.Inside.Looks.{language_of_look, aim_pattern, aim_tree, Meets}
-use Rattle.rdx_table.specs.Inside.Tasks.{asked_where}
 use Rattle.rdx_table.specs.declared.look.Look.{Look}
 use Rattle.rdx_table.specs.declared.task.Goal.{Goal}
 

@@ -1,17 +1,17 @@
 -- The forms of the patterns that a look has at hand.
-use Rattle.std.proofs.Common.{◌≡◌, ℕ, ◌<◌, ◌≤◌, List, [], length, get_or, refl, sym, ◌∙◌, ap, subst, arith, append-nil}
-use Rattle.rdx_lang.specs.Patterns.{Pattern, Language}
-use Rattle.rdx_table.specs.Inside.ByTerm.{entries_in}
-use Rattle.rdx_table.specs.Inside.LookForms.{IsFormOf}
+use Rattle.std.proofs.Common.{◌≡◌, ℕ, ◌<◌, ◌≤◌, List, [], length, get_or, refl, sym, ◌∙◌, ap, subst, arith, append-nil, ◌∷◌}
+use Rattle.rdx_lang.specs.Patterns.{Pattern, Language, seq}
+use Rattle.rdx_lang.specs.PatternView.{Slot, just, repeated, items_of}
+use Rattle.rdx_nodes.specs.Nodes.{slots_at, pattern_at, pattern_by, AreEntries, IsForm}
+use Rattle.rdx_nodes.specs.declared.node.Entry.{Entry}
+use Rattle.rdx_nodes.specs.declared.node.Form.{Form}
+use Rattle.rdx_nodes.specs.declared.node.Form.TheVariants as form
+use Rattle.rdx_nodes.specs.declared.node.Node.{Node}
+use Rattle.rdx_nodes.proofs.NodePatterns.{entries-append, patterns_in-length, pattern_in-form, form-at}
+use Rattle.rdx_table.specs.Inside.LookForms.{entries_in, IsFormOf}
 use Rattle.rdx_table.specs.Inside.Looks.{IsLook, language_of_look, patterns_of_look}
-use Rattle.rdx_table.specs.Inside.Nodes.{slots_at, pattern_at, pattern_by, AreEntries, IsForm}
-use Rattle.rdx_table.specs.Inside.Tasks.{slots_in}
+use Rattle.rdx_table.specs.Inside.Tasks.{slots_in, slots_of}
 use Rattle.rdx_table.specs.declared.look.Look.{Look}
-use Rattle.rdx_table.specs.declared.node.Entry.{Entry}
-use Rattle.rdx_table.specs.declared.node.Form.{Form}
-use Rattle.rdx_table.specs.declared.node.Form.TheVariants as form
-use Rattle.rdx_table.specs.declared.node.Node.{Node}
-use Rattle.rdx_table.proofs.NodePatterns.{entries-append, slots_in-entries, patterns_in-length, pattern_in-form, form-at}
 
 -- the form of a node is that of its pattern
 pub form_of_node : (l : Look) (n : ℕ) (x : Node) → IsLook l → n < length (patterns_of_look l) → x ≡ get_or l.setting.now.nodes.items n x
@@ -47,6 +47,16 @@ entries_right L ps n m (form.InHole i j) h a = tt
 entries_right L ps n m (form.HideHole j) h a = tt
 entries_right L ps n m (form.Closed j) h a = tt
 entries_right L ps n m (form.Seq es) h a = entries_more ps n (length ps) es.items h h a
+
+-- items are those that a list pattern is made of
+pub slots_of-items : (xs : List Slot) → slots_of (items_of xs) ≡ xs
+slots_of-items [] = refl
+slots_of-items (just p ∷ xs) = ap (λ ys. just p ∷ ys) (slots_of-items xs)
+slots_of-items (repeated p n ∷ xs) = ap (λ ys. repeated p n ∷ ys) (slots_of-items xs)
+
+-- so are those of a list pattern's node
+pub slots_in-entries : (ps : List Pattern) (es : List Entry) → slots_in (seq (items_of (slots_at ps es))) ≡ slots_at ps es
+slots_in-entries ps es = slots_of-items (slots_at ps es)
 
 -- the items of a form are those of its entries
 pub slots_of_form : (ps : List Pattern) (f : Form) → slots_in (pattern_by ps f) ≡ slots_at ps (entries_in f)

@@ -14,9 +14,10 @@ use Rattle.rdx_bind.specs.Rows.{SplitRow, split_row_of}
 use Rattle.rdx_bind.specs.Spots.{Spot, spots_of, SplitsAt}
 use Rattle.rdx_bind.specs.declared.asks.Ask.TheVariants.{Matches, Splits}
 use Rattle.rdx_bind.specs.declared.rows.Row.{Row}
+use Rattle.rdx_nodes.specs.Asked.{asked_where}
+use Rattle.rdx_nodes.specs.declared.entry.Entry.{Entry}
 use Rattle.rdx_table.specs.Inside.Memos.{key_eq, IsEntryAt, IsMemo}
-use Rattle.rdx_table.specs.Inside.Tasks.{asked_where, goal_pattern, goal_tree, IsGoal, IsRow}
-use Rattle.rdx_table.specs.declared.entry.Entry.{Entry}
+use Rattle.rdx_table.specs.Inside.Tasks.{goal_pattern, goal_tree, IsGoal, IsRow}
 use Rattle.rdx_table.specs.declared.task.Goal.{Goal}
 
 -- ---- rows

@@ -1,14 +1,15 @@
 -- Each step of the loop leaves less to do.
 use Rattle.std.proofs.Common.{◌≡◌, ℕ, zero, suc, ◌+◌, ◌*◌, ◌-◌, ◌<◌, ◌≤◌, List, [], ◌∷◌, ◌++◌, length, refl, sym, ◌∙◌, ap, subst, arith, length-append}
 use Rattle.std.proofs.Math.Nat.{mul-le-mul}
-use Rattle.std.specs.Prelude.{Vec}
 use Rattle.rdx_term.specs.Tree.{Tree}
 use Rattle.rdx_lang.specs.Patterns.{Pattern, Language}
+use Rattle.rdx_nodes.specs.Doors.{doors_left, most}
+use Rattle.rdx_nodes.specs.declared.setting.Setting.{Setting}
+use Rattle.rdx_nodes.proofs.DoorsLeft.{fewer}
 use Rattle.rdx_table.specs.Inside.Frames.{TakesUp, is_answered, is_below}
 use Rattle.rdx_table.specs.Inside.Looks.{IsStop, Heeds, is_asked, is_opened}
-use Rattle.rdx_table.specs.Inside.Remaining.{doors_left, most, power, unit_at, answers_left, looks_left, top_left, waiting_left, below_left, all_left}
+use Rattle.rdx_table.specs.Inside.Remaining.{power, unit_at, answers_left, looks_left, top_left, waiting_left, below_left, all_left}
 use Rattle.rdx_table.specs.declared.frame.Frame.{Frame}
-use Rattle.rdx_table.specs.declared.setting.Setting.{Setting}
 use Rattle.rdx_table.specs.declared.task.Answer.{Answer}
 use Rattle.rdx_table.specs.declared.task.Stop.{Stop}
 use Rattle.rdx_table.specs.declared.task.Task.{Task}
@@ -44,13 +45,6 @@ pop-less x l m p n q h k i =
     let a : m * p ≤ l * p = mul-le-mul h (let j : p ≤ p = omega arith in j) in
     let b : 1 * 1 ≤ n * q = mul-le-mul k i in
     omega arith
-
--- ---- vectors
-
--- a vector has fewer items
-pub fewer : {A X : Type 0} (v : Vec A X) → length v.items < most
-unfolding most
-fewer v = omega (arith, v.ok.0, v.ok.1, v.small)
 
 -- a unit is not zero
 unit-some : (i : ℕ) → 1 ≤ unit_at i

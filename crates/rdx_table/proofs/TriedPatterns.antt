@@ -21,8 +21,8 @@ use Rattle.rdx_bind.specs.Splitting.{IsNameless}
 use Rattle.rdx_bind.specs.declared.rows.Row.{Row}
 use Rattle.rdx_bind.proofs.AtomListings.{listing_where}
 use Rattle.rdx_bind.proofs.Gathering.{exactly_as, exactly_added, exactly_listed, adds_exactly}
+use Rattle.rdx_nodes.specs.Nodes.{pattern_at, patterns_at}
 use Rattle.rdx_table.specs.Inside.Looks.{language_of_look, patterns_of_look, aim_tree, Meets}
-use Rattle.rdx_table.specs.Inside.Nodes.{pattern_at, patterns_at}
 use Rattle.rdx_table.specs.declared.look.Look.{Look}
 use Rattle.rdx_table.specs.declared.task.Goal.{Goal}
 use Rattle.rdx_table.proofs.AskedForms.{WhereAsked, MatchesAny, HasOfAny, not_asked, had_matches, had_spots, has_alone, has_both}

@@ -4,10 +4,10 @@ ghost use Rattle.std.specs.Prelude.{◌≡◌, ◌<◌, ◌≤◌, ◌+◌, ◌+
 ghost use Rattle.std.specs.Prelude.{IfNone, IfOk, IfSome, OnOk};
 ghost use Rattle.rdx_bind.specs.Columns.{carried};
 ghost use Rattle.rdx_bind.specs.Rows.{split_row_of, split_rows_of};
+ghost use Rattle.rdx_nodes.specs.Settings.{language_at, patterns_at_hand, trees_at_hand};
 ghost use Rattle.rdx_table.specs.Inside.Cells.{AddsGoal, AreCellsAt, AreFor, AreReadable};
 ghost use Rattle.rdx_table.specs.Inside.Cells.{IsCell, IsCellGoal};
 ghost use Rattle.rdx_table.specs.Inside.Looks.{IsAim, IsLook, IsStop, Meets, Stops};
-ghost use Rattle.rdx_table.specs.Inside.Settings.{language_at, patterns_at_hand, trees_at_hand};
 ghost use Rattle.rdx_table.specs.Inside.Tasks.{IsTask};
 
 use crate::look::Look;

@@ -5,21 +5,21 @@ ghost use Rattle.rdx_lang.specs.Names.{names};
 ghost use Rattle.rdx_lang.specs.PatternView.{just, repeated};
 ghost use Rattle.rdx_bind.specs.Rows.{split_rows_of};
 ghost use Rattle.rdx_store.specs.Stored.{trees_by_ids, AreIds};
+ghost use Rattle.rdx_nodes.specs.Nodes.{pattern_at, slots_at, AreEntries};
 ghost use Rattle.rdx_table.specs.Inside.Cells.{BeginsWith, IsBehind};
 ghost use Rattle.rdx_table.specs.Inside.Looks.{language_of_look, patterns_of_look, trees_of_look};
 ghost use Rattle.rdx_table.specs.Inside.Looks.{IsLook, MeetsColumn, Stops};
-ghost use Rattle.rdx_table.specs.Inside.Nodes.{pattern_at, slots_at, AreEntries};
 ghost use Rattle.rdx_table.specs.Inside.Tasks.{column_trees, slots_in, IsColumnTask};
 
 use crate::cells::{Cells, ask_for};
 use crate::look::Look;
-use crate::node::{Entry, Turns};
 use crate::task::{Column, Stop, Task};
 use rdx_bind::asks::Ask;
 use rdx_bind::columns::{asks_behind, empty_rows, end_column, nothing_asked, one_column};
 use rdx_bind::repetition::Repetition;
 use rdx_bind::rows::Row;
 use rdx_bind::turns::turns_column;
+use rdx_nodes::node::{Entry, Turns};
 use rdx_store::TermId;
 
 impl<'s, 'a> Look<'s, 'a> {

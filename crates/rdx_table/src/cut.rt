@@ -4,13 +4,13 @@ ghost use Rattle.std.specs.Prelude.{◌≡◌, ◌<◌, ◌≤◌, ◌+◌, true
 ghost use Rattle.rdx_bind.specs.Parts as model;
 ghost use Rattle.rdx_bind.specs.Parts.{IsCut};
 ghost use Rattle.rdx_store.specs.Stored.{tree_by_id};
+ghost use Rattle.rdx_nodes.specs.Nodes.{slots_at, AreEntries};
+ghost use Rattle.rdx_nodes.specs.Settings.{patterns_at_hand, trees_at_hand};
 ghost use Rattle.rdx_table.specs.Inside.Cuts as spec;
 ghost use Rattle.rdx_table.specs.Inside.Cuts.{are_ones, part_at, IsPart};
-ghost use Rattle.rdx_table.specs.Inside.Nodes.{slots_at, AreEntries};
-ghost use Rattle.rdx_table.specs.Inside.Settings.{patterns_at_hand, trees_at_hand};
 
-use crate::node::Entry;
-use crate::setting::Setting;
+use rdx_nodes::node::Entry;
+use rdx_nodes::setting::Setting;
 use rdx_store::TermId;
 use rdx_term::Term;
 

@@ -12,21 +12,21 @@ ghost use Rattle.rdx_bind.specs.PartRows.{IsSearched, HaveSpots, found_split_row
 ghost use Rattle.rdx_bind.specs.Parts.{AreSingles};
 ghost use Rattle.rdx_bind.specs.Rows.{SpotsAcross, all_matches, split_row_of, split_rows_of};
 ghost use Rattle.rdx_bind.specs.Spots.{IsPlaced, spots_of};
+ghost use Rattle.rdx_nodes.specs.Asked as tasks;
+ghost use Rattle.rdx_nodes.specs.Nodes.{slots_at, AreEntries};
 ghost use Rattle.rdx_table.specs.Inside.Cuts.{lacks_all, part_in, IsColumnAt, IsFoundBehind};
 ghost use Rattle.rdx_table.specs.Inside.Cuts.{IsGoalAt, IsNumberAt, IsPartIn, IsWithin};
 ghost use Rattle.rdx_table.specs.Inside.Looks.{language_of_look, patterns_of_look, trees_of_look};
 ghost use Rattle.rdx_table.specs.Inside.Looks.{aim_pattern, IsAim, IsLook, IsStop, Meets, Stops};
-ghost use Rattle.rdx_table.specs.Inside.Nodes.{slots_at, AreEntries};
-ghost use Rattle.rdx_table.specs.Inside.Tasks as tasks;
 ghost use Rattle.rdx_table.specs.Inside.Tasks.{AreTasks, IsColumnTask};
 
 use crate::cut::{Part, parts_of};
 use crate::look::Look;
-use crate::node::Entry;
 use crate::task::{Column, Goal, Stop, Task};
 use rdx_bind::asks::Ask;
 use rdx_bind::columns::{asked_first, empty_row};
 use rdx_bind::rows::{Row, matches_across, placed, shared_bindings, shared_spots, spots_across};
+use rdx_nodes::node::Entry;
 use rdx_term::NoMemory;
 use std::alloc::Global;
 

@@ -1,25 +1,15 @@
-//! The matcher with a memo.
+//! The matcher with a memo. What it works on, the nodes of patterns and the ids of terms, is in `rdx_nodes`.
 #![tactic(auto)]
 
-mod by_term;
 mod cells;
 mod columns;
 mod cut;
-mod entry;
 mod forms;
 mod frame;
-mod index;
-mod interned;
 mod items;
 mod look;
 mod memo;
-mod node;
-mod numbering;
-mod once;
-mod places;
-mod setting;
 mod solve;
-mod splitting;
 mod table;
 mod task;
 

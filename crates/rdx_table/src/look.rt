@@ -1,20 +1,19 @@
 // A look at a task: what is found for it, once what it asks for was found.
 ghost use Rattle.std.specs.Prelude.{◌≡◌, ◌∷◌, [], ◌<◌, IfOk, IfSome, IsTrue, None, length};
 ghost use Rattle.rdx_bind.specs.Rows.{split_row_of};
-ghost use Rattle.rdx_table.specs.Inside.ByTerm.{entries_in, has_parts};
-ghost use Rattle.rdx_table.specs.Inside.LookForms.{IsFormOf};
+ghost use Rattle.rdx_nodes.specs.ByTerm.{has_parts};
+ghost use Rattle.rdx_nodes.specs.Settings.{language_at, patterns_at_hand, trees_at_hand, IsReady};
+ghost use Rattle.rdx_table.specs.Inside.LookForms.{entries_in, IsFormOf};
 ghost use Rattle.rdx_table.specs.Inside.Looks.{patterns_of_look, IsAim, IsLook};
 ghost use Rattle.rdx_table.specs.Inside.Looks.{Meets, MeetsColumn, Stops};
 ghost use Rattle.rdx_table.specs.Inside.SameColumns.{IsSameColumn};
-ghost use Rattle.rdx_table.specs.Inside.Settings.{language_at, patterns_at_hand};
-ghost use Rattle.rdx_table.specs.Inside.Settings.{trees_at_hand, IsReady};
 ghost use Rattle.rdx_table.specs.Inside.Tasks.{AreAnswers, IsFound, IsTask};
 
-use crate::by_term::row_by_term;
-use crate::node::{Entry, Form};
-use crate::setting::Setting;
 use crate::task::{Answer, Column, Goal, Stop, Task};
 use rdx_bind::rows::{Row, shared_bindings, shared_spots};
+use rdx_nodes::by_term::row_by_term;
+use rdx_nodes::node::{Entry, Form};
+use rdx_nodes::setting::Setting;
 use rdx_term::NoMemory;
 use std::alloc::Global;
 

@@ -1,13 +1,13 @@
 // What was found for kept nodes.
 ghost use Rattle.std.specs.Prelude.{◌≡◌, ◌∷◌, [], IfOk, IfSome, OnOk};
+ghost use Rattle.rdx_nodes.specs.Settings.{language_at, patterns_at_hand, trees_at_hand};
 ghost use Rattle.rdx_table.specs.Inside.Memos.{IsMemo};
-ghost use Rattle.rdx_table.specs.Inside.Settings.{language_at, patterns_at_hand, trees_at_hand};
 ghost use Rattle.rdx_table.specs.Inside.Tasks.{IsFound, IsGoal, IsRow, IsTask};
 
-use crate::entry::Entry;
-use crate::setting::Setting;
 use crate::task::{Goal, Task};
 use rdx_bind::rows::Row;
+use rdx_nodes::entry::Entry;
+use rdx_nodes::setting::Setting;
 use rdx_term::NoMemory;
 use std::alloc::Global;
 use std::collections::HashMap;

@@ -1,22 +1,17 @@
 // The loop over what is pending.
 ghost use Rattle.std.specs.Prelude.{◌≡◌, ◌∷◌, [], IfOk, OnOk, length};
+ghost use Rattle.rdx_nodes.specs.Settings.{language_at, patterns_at_hand, trees_at_hand, IsReady};
 ghost use Rattle.rdx_table.specs.Inside.Frames.{TakesUp};
 ghost use Rattle.rdx_table.specs.Inside.Looks.{Heeds, IsStop};
 ghost use Rattle.rdx_table.specs.Inside.Memos.{IsMemo};
-ghost use Rattle.rdx_table.specs.Inside.Settings.{
-  language_at,
-  patterns_at_hand,
-  trees_at_hand,
-  IsReady,
-};
 ghost use Rattle.rdx_table.specs.Inside.Tasks.{IsGoal, IsRow, IsTask};
 
 use crate::frame::Frame;
 use crate::look::look_at;
 use crate::memo::{Memo, recall, remember};
-use crate::setting::Setting;
 use crate::task::{Goal, Stop, Task};
 use rdx_bind::rows::Row;
+use rdx_nodes::setting::Setting;
 use rdx_term::NoMemory;
 use std::collections::HashMap;
 

@@ -6,18 +6,18 @@ ghost use Rattle.rdx_lang.specs.Rules.{Match};
 ghost use Rattle.rdx_bind.specs.Columns.{HasAsked};
 ghost use Rattle.rdx_bind.specs.Rows.{split_row_of};
 ghost use Rattle.rdx_bind.specs.Spots.{SplitsAt};
-ghost use Rattle.rdx_table.specs.Inside.Interned.{tree_in};
-ghost use Rattle.rdx_table.specs.Inside.Tasks.{asked_where};
+ghost use Rattle.rdx_nodes.specs.Asked.{asked_where};
+ghost use Rattle.rdx_nodes.specs.Interned.{tree_in};
 
-use crate::interned::Interned;
-use crate::places::Places;
-use crate::setting::Setting;
 use crate::solve::solve;
-use crate::splitting::sorted_splits;
 use crate::task::Goal;
 use rdx_bind::listing;
 use rdx_bind::rows::Row;
 use rdx_lang::{Binding, CheckedLang, CheckedPat, Matcher, Split};
+use rdx_nodes::interned::Interned;
+use rdx_nodes::places::Places;
+use rdx_nodes::setting::Setting;
+use rdx_nodes::splitting::sorted_splits;
 use rdx_term::{NoMemory, Term};
 use std::alloc::Global;
 

@@ -9,13 +9,14 @@ use Rattle.rdx_bind.specs.Rows.{SplitRow}
 use Rattle.rdx_bind.specs.Spots.{PlacedAt}
 use Rattle.rdx_bind.specs.declared.asks.Ask.{Ask}
 use Rattle.rdx_store.specs.Stored.{tree_by_id, trees_by_ids, AreIds}
+use Rattle.rdx_nodes.specs.Asked.{asked_where}
+use Rattle.rdx_nodes.specs.Nodes.{pattern_at}
+use Rattle.rdx_nodes.specs.Settings.{language_at, patterns_at_hand, trees_at_hand}
+use Rattle.rdx_nodes.specs.declared.setting.Setting.{Setting}
 use Rattle.rdx_table.specs.Inside.Looks.{language_of_look, patterns_of_look, trees_of_look, IsLook}
-use Rattle.rdx_table.specs.Inside.Nodes.{pattern_at}
-use Rattle.rdx_table.specs.Inside.Settings.{language_at, patterns_at_hand, trees_at_hand}
-use Rattle.rdx_table.specs.Inside.Tasks.{asked_where, slots_in, column_slots, column_trees, AreTasks, IsGoal}
+use Rattle.rdx_table.specs.Inside.Tasks.{slots_in, column_slots, column_trees, AreTasks, IsGoal}
 use Rattle.rdx_table.specs.declared.cells.Cells.{Cells}
 use Rattle.rdx_table.specs.declared.look.Look.{Look}
-use Rattle.rdx_table.specs.declared.setting.Setting.{Setting}
 use Rattle.rdx_table.specs.declared.task.Column.{Column}
 use Rattle.rdx_table.specs.declared.task.Goal.{Goal}
 use Rattle.rdx_table.specs.declared.task.Task.{Task}

@@ -11,13 +11,13 @@ use Rattle.rdx_bind.specs.Parts.{Part}
 use Rattle.rdx_bind.specs.Rows.{SplitRow}
 use Rattle.rdx_bind.specs.declared.asks.Ask.{Ask}
 use Rattle.rdx_store.specs.Stored.{tree_by_id, trees_by_ids, AreIds}
+use Rattle.rdx_nodes.specs.Nodes.{pattern_at, slots_at, AreEntries}
+use Rattle.rdx_nodes.specs.declared.node.Entry.{Entry}
+use Rattle.rdx_nodes.specs.declared.node.Entry.TheVariants as entry
 use Rattle.rdx_table.specs.Inside.Looks.{language_of_look, patterns_of_look, trees_of_look, aim_pattern, aim_tree}
-use Rattle.rdx_table.specs.Inside.Nodes.{pattern_at, slots_at, AreEntries}
 use Rattle.rdx_table.specs.Inside.Tasks.{slots_in, items_in, column_slots, column_trees}
 use Rattle.rdx_table.specs.declared.cut.Part as code
 use Rattle.rdx_table.specs.declared.look.Look.{Look}
-use Rattle.rdx_table.specs.declared.node.Entry.{Entry}
-use Rattle.rdx_table.specs.declared.node.Entry.TheVariants as entry
 use Rattle.rdx_table.specs.declared.task.Column.{Column}
 use Rattle.rdx_table.specs.declared.task.Goal.{Goal}
 

@@ -4,15 +4,15 @@ use Rattle.std.specs.declared.alloc.Global.{Global}
 use Rattle.std.specs.declared.result.Result.TheVariants.{Ok, Err}
 use Rattle.rdx_term.specs.Tree.{Tree}
 use Rattle.rdx_lang.specs.Patterns.{Pattern, Language}
-use Rattle.rdx_table.specs.Inside.Remaining.{doors_left}
-use Rattle.rdx_table.specs.Inside.Settings.{language_at, patterns_at_hand, trees_at_hand, Grows, IsReady, IsClosedDoor}
+use Rattle.rdx_nodes.specs.Doors.{doors_left}
+use Rattle.rdx_nodes.specs.Settings.{language_at, patterns_at_hand, trees_at_hand, Grows, IsReady, IsClosedDoor}
 use Rattle.rdx_table.specs.Inside.Tasks.{IsGoal, goal_pattern, goal_tree, AreTasks, IsRow, IsColumnOf, AreAnswers}
 use Rattle.rdx_bind.specs.declared.rows.Row.{Row}
+use Rattle.rdx_nodes.specs.declared.setting.Setting.{Setting}
 use Rattle.rdx_table.specs.declared.frame.Frame.{Frame}
 use Rattle.rdx_table.specs.declared.task.Column.{Column}
 use Rattle.rdx_table.specs.declared.task.Goal.{Goal}
 use Rattle.rdx_table.specs.declared.look.Look.{Look}
-use Rattle.rdx_table.specs.declared.setting.Setting.{Setting}
 use Rattle.rdx_table.specs.declared.task.Stop.{Stop}
 use Rattle.rdx_table.specs.declared.task.Stop.TheVariants.{Asks, Opens, NoMemory}
 use Rattle.rdx_table.specs.declared.task.Task.{Task}

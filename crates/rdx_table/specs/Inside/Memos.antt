@@ -3,8 +3,8 @@ use Rattle.std.specs.Prelude.{◌≡◌, ℕ, Bool, ◌&&◌, nat_eq, ◌<◌, L
 use Rattle.std.specs.HashMap.{HashMap, get}
 use Rattle.rdx_term.specs.Tree.{Tree}
 use Rattle.rdx_lang.specs.Patterns.{Pattern, Language}
+use Rattle.rdx_nodes.specs.declared.entry.Entry.{Entry}
 use Rattle.rdx_table.specs.Inside.Tasks.{IsRow}
-use Rattle.rdx_table.specs.declared.entry.Entry.{Entry}
 use Rattle.rdx_table.specs.declared.task.Goal.{Goal}
 
 -- the keys are equal

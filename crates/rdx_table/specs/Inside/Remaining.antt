@@ -1,14 +1,9 @@
 -- What is left to do. No vector has as many items as `most`, so a task gets fewer answers than that, fewer tasks than that stand on one
 -- another, and fewer nodes are made: so each step of the loop leaves less to do, and nothing has to be known of the language.
-use Rattle.std.specs.Prelude.{ℕ, zero, suc, ◌+◌, ◌*◌, ◌-◌, ◌^◌, List, [], ◌∷◌, length}
-use Rattle.rdx_table.specs.Inside.Settings.{closed_doors}
+use Rattle.std.specs.Prelude.{ℕ, zero, suc, ◌+◌, ◌*◌, ◌-◌, List, [], ◌∷◌, length}
+use Rattle.rdx_nodes.specs.Doors.{most}
 use Rattle.rdx_table.specs.declared.frame.Frame.{Frame}
-use Rattle.rdx_table.specs.declared.setting.Setting.{Setting}
 use Rattle.rdx_table.specs.declared.task.Task.{Task}
-
--- more than a vector may have items
-unfoldable pub most : ℕ
-most = 2 ^ 63
 
 -- b, n times multiplied
 abbrev pub power : ℕ → ℕ → ℕ
@@ -44,7 +39,3 @@ below_left i (f ∷ fs) = waiting_left f * unit_at i + below_left (suc i) fs
 -- at all frames
 abbrev pub all_left : List Frame → Frame → ℕ
 all_left fs f = below_left 0 fs + top_left f * unit_at (length fs)
-
--- how often alternatives may still get nodes: once for each nonterminal that lacks them, and for each node that may still be made
-abbrev pub doors_left : Setting → ℕ
-doors_left s = closed_doors s + (most - length s.nodes.items)

@@ -1,5 +1,5 @@
 -- What is to be found, and what was found.
-use Rattle.std.specs.Prelude.{◌≡◌, ◌+◌, ◌-◌, ◌<◌, ◌≤◌, Bool, true, false, List, [], ◌∷◌, length, take, drop}
+use Rattle.std.specs.Prelude.{◌≡◌, ◌+◌, ◌-◌, ◌<◌, ◌≤◌, List, [], ◌∷◌, length, take, drop}
 use Rattle.rdx_term.specs.Items.{tree_items}
 use Rattle.rdx_term.specs.Tree.{Tree, Trees, cons, trees}
 use Rattle.rdx_term.specs.Tree.{nil as no_trees}
@@ -9,21 +9,15 @@ use Rattle.rdx_lang.specs.Rules.{Match}
 use Rattle.rdx_bind.specs.Columns.{HasAsked, IsColumn}
 use Rattle.rdx_bind.specs.Rows.{split_row_of, split_rows_of}
 use Rattle.rdx_bind.specs.Spots.{SplitsAt}
-use Rattle.rdx_bind.specs.declared.asks.Ask.{Ask}
-use Rattle.rdx_bind.specs.declared.asks.Ask.TheVariants.{Matches, Splits}
 use Rattle.rdx_bind.specs.declared.rows.Row.{Row}
 use Rattle.rdx_store.specs.Stored.{tree_by_id}
-use Rattle.rdx_table.specs.Inside.Nodes.{pattern_at}
+use Rattle.rdx_nodes.specs.Asked.{asked_where}
+use Rattle.rdx_nodes.specs.Nodes.{pattern_at}
 use Rattle.rdx_table.specs.declared.task.Answer.{Answer}
 use Rattle.rdx_table.specs.declared.task.Column.{Column}
 use Rattle.rdx_table.specs.declared.task.Goal.{Goal}
 use Rattle.rdx_table.specs.declared.task.Task.{Task}
 use Rattle.rdx_table.specs.declared.task.Task.TheVariants as task
-
--- what is asked: splits besides matches, or matches alone
-abbrev pub asked_where : Bool → Ask
-asked_where true = Splits
-asked_where false = Matches
 
 -- the items of a list pattern, one by one; none of another pattern
 abbrev pub slots_of : Items → List Slot

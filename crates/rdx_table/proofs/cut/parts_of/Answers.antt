@@ -9,11 +9,11 @@ use Rattle.rdx_lang.specs.PatternView.{Slot}
 use Rattle.rdx_bind.specs.Parts.{CannotFit}
 use Rattle.rdx_bind.proofs.Cuts.{of_parts, too_few, too_many, no_length}
 use Rattle.rdx_store.specs.Stored.{tree_by_id, trees_by_ids, AreIds}
+use Rattle.rdx_nodes.specs.Nodes.{slot_at, slots_at, AreEntries}
+use Rattle.rdx_nodes.specs.Settings.{patterns_at_hand, trees_at_hand}
+use Rattle.rdx_nodes.specs.declared.node.Entry.{Entry}
 use Rattle.rdx_table.proofs.Entries.{ones_single, first_entries, other_entries, first_ids, other_ids, list_of_items}
-use Rattle.rdx_table.specs.Inside.Nodes.{slot_at, slots_at, AreEntries}
 use Rattle.rdx_table.specs.Inside.Cuts.{are_ones}
-use Rattle.rdx_table.specs.Inside.Settings.{patterns_at_hand, trees_at_hand}
-use Rattle.rdx_table.specs.declared.node.Entry.{Entry}
 use Rattle.rdx_table.proofs.cut.parts_of.Goals as goal
 
 pub returns-then-ids-singles-clause-none : goal.returns-then-ids-singles-clause-none

@@ -1,9 +1,9 @@
 use Rattle.std.proofs.Common.{arith}
-use Rattle.rdx_table.specs.Inside.Settings.{language_at, patterns_at_hand, trees_at_hand}
+use Rattle.rdx_nodes.specs.Settings.{language_at, patterns_at_hand, trees_at_hand}
+use Rattle.rdx_nodes.specs.declared.entry.Entry.{Entry}
+use Rattle.rdx_nodes.specs.declared.setting.Setting.{Setting}
+use Rattle.rdx_nodes.proofs.NodePatterns.{patterns_in-length}
 use Rattle.rdx_table.proofs.MemoLaws.{entry_kept, memo-put}
-use Rattle.rdx_table.proofs.NodePatterns.{patterns_in-length}
-use Rattle.rdx_table.specs.declared.entry.Entry.{Entry}
-use Rattle.rdx_table.specs.declared.setting.Setting.{Setting}
 use Rattle.rdx_table.proofs.memo.keep.Goals as goal
 
 pub index-requires : goal.index-requires

@@ -1,9 +1,9 @@
 use Rattle.std.proofs.Common.{sym, arith}
 use Rattle.std.proofs.lemmas.Grind.{common_steps}
-use Rattle.rdx_table.specs.Inside.Settings.{language_at, patterns_at_hand, trees_at_hand}
-use Rattle.rdx_table.proofs.NodePatterns.{patterns_in-length}
+use Rattle.rdx_nodes.specs.Settings.{language_at, patterns_at_hand, trees_at_hand}
+use Rattle.rdx_nodes.specs.declared.setting.Setting.{Setting}
+use Rattle.rdx_nodes.proofs.NodePatterns.{patterns_in-length}
 use Rattle.rdx_table.proofs.MemoLaws.{row_known}
-use Rattle.rdx_table.specs.declared.setting.Setting.{Setting}
 use Rattle.rdx_table.proofs.memo.known.Goals as goal
 
 pub index-requires : goal.index-requires

@@ -1,8 +1,8 @@
 use Rattle.std.proofs.Common.{sym, subst}
 use Rattle.std.specs.Prelude.{IfSome}
-use Rattle.rdx_table.specs.Inside.Settings.{language_at, patterns_at_hand, trees_at_hand}
+use Rattle.rdx_nodes.specs.Settings.{language_at, patterns_at_hand, trees_at_hand}
+use Rattle.rdx_nodes.specs.declared.setting.Setting.{Setting}
 use Rattle.rdx_table.specs.Inside.Tasks.{IsRow, IsFound}
-use Rattle.rdx_table.specs.declared.setting.Setting.{Setting}
 use Rattle.rdx_table.specs.declared.task.Goal.{Goal}
 use Rattle.rdx_table.specs.declared.task.Task.{Task}
 use Rattle.rdx_table.proofs.memo.recall.Goals as goal

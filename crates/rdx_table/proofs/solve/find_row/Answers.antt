@@ -2,15 +2,16 @@ use Rattle.std.proofs.Common.{◌≡◌, ℕ, ◌+◌, ◌<◌, List, [], ◌∷
 use Rattle.std.proofs.lemmas.Grind.{common_steps}
 use Rattle.rdx_term.specs.Tree.{Tree}
 use Rattle.rdx_lang.specs.Patterns.{Pattern, Language}
+use Rattle.rdx_nodes.specs.Doors.{doors_left}
+use Rattle.rdx_nodes.specs.Settings.{language_at, patterns_at_hand, trees_at_hand, Grows}
+use Rattle.rdx_nodes.specs.declared.setting.Setting.{Setting}
+use Rattle.rdx_nodes.proofs.DoorsLeft.{fewer}
 use Rattle.rdx_table.specs.Inside.Frames.{lowest, IsFrame, AreFrames}
-use Rattle.rdx_table.specs.Inside.Remaining.{doors_left}
-use Rattle.rdx_table.specs.Inside.Settings.{language_at, patterns_at_hand, trees_at_hand, Grows}
 use Rattle.rdx_table.specs.Inside.Tasks.{IsTask, AreTasks, IsFound}
 use Rattle.rdx_table.proofs.FactsStay.{grows-then, frames-grow, memo-grows, row-before, heeds-ready, heeds-grows, heeds-frame, heeds-task}
 use Rattle.rdx_table.proofs.FrameLaws.{frame-takes, row_alone, frame-answered, frames-pop, taken-up, lowest-push, lowest-taken}
-use Rattle.rdx_table.proofs.StepsLeft.{fewer, left-heeded, left-popped, left-taken}
+use Rattle.rdx_table.proofs.StepsLeft.{left-heeded, left-popped, left-taken}
 use Rattle.rdx_table.specs.declared.frame.Frame.{Frame}
-use Rattle.rdx_table.specs.declared.setting.Setting.{Setting}
 use Rattle.rdx_table.specs.declared.task.Answer.{Answer}
 use Rattle.rdx_table.specs.declared.task.Goal.{Goal}
 use Rattle.rdx_table.specs.declared.task.Task.{Task}

@@ -1,8 +1,9 @@
 use Rattle.std.proofs.Common.{◌≡◌, ◌+◌}
+use Rattle.rdx_nodes.specs.Doors.{doors_left}
+use Rattle.rdx_nodes.specs.Settings.{language_at, patterns_at_hand, trees_at_hand, Grows, IsReady}
 use Rattle.rdx_table.specs.Inside.Frames.{lowest, IsFrame, AreFrames}
 use Rattle.rdx_table.specs.Inside.Memos.{IsMemo}
-use Rattle.rdx_table.specs.Inside.Remaining.{all_left, doors_left}
-use Rattle.rdx_table.specs.Inside.Settings.{language_at, patterns_at_hand, trees_at_hand, Grows, IsReady}
+use Rattle.rdx_table.specs.Inside.Remaining.{all_left}
 use Rattle.rdx_table.specs.declared.task.Task.TheVariants as task
 use Rattle.rdx_table.proofs.solve.find_row.Given as goal
 

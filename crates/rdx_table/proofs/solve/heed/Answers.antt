@@ -1,7 +1,7 @@
 use Rattle.std.proofs.Common.{OnOk, sym, subst}
+use Rattle.rdx_nodes.specs.declared.setting.Setting.{Setting}
 use Rattle.rdx_table.specs.Inside.Looks.{Heeds, is_asked}
 use Rattle.rdx_table.specs.declared.frame.Frame.{Frame}
-use Rattle.rdx_table.specs.declared.setting.Setting.{Setting}
 use Rattle.rdx_table.proofs.FactsStay.{opened-heeds}
 use Rattle.rdx_table.proofs.solve.heed.Goals as goal
 

@@ -2,8 +2,8 @@ use Rattle.std.proofs.Common.{List, subst}
 use Rattle.std.specs.Prelude.{IfSome}
 use Rattle.rdx_term.specs.Tree.{Tree}
 use Rattle.rdx_lang.specs.Patterns.{Pattern, Language}
+use Rattle.rdx_nodes.specs.Settings.{language_at, patterns_at_hand, trees_at_hand}
 use Rattle.rdx_table.specs.Inside.Frames.{is_below}
-use Rattle.rdx_table.specs.Inside.Settings.{language_at, patterns_at_hand, trees_at_hand}
 use Rattle.rdx_table.specs.Inside.Tasks.{IsFound}
 use Rattle.rdx_table.specs.declared.task.Task.{Task}
 use Rattle.rdx_table.proofs.FrameLaws.{answered-taken}

@@ -9,11 +9,11 @@ use Rattle.rdx_bind.specs.Columns.{HasAsked}
 use Rattle.rdx_bind.specs.Rows.{split_row_of}
 use Rattle.rdx_bind.specs.Spots.{SplitsAt}
 use Rattle.rdx_store.specs.Stored.{tree_by_id}
-use Rattle.rdx_table.proofs.RowLaws.{row_as_well}
-use Rattle.rdx_table.specs.Inside.Interned.{tree_in}
-use Rattle.rdx_table.specs.Inside.Nodes.{pattern_at}
-use Rattle.rdx_table.specs.Inside.Settings.{language_at, patterns_at_hand, trees_at_hand, DoesAsWell, Grows}
-use Rattle.rdx_table.specs.Inside.Tasks.{asked_where}
+use Rattle.rdx_nodes.specs.Asked.{asked_where}
+use Rattle.rdx_nodes.specs.Interned.{tree_in}
+use Rattle.rdx_nodes.specs.Nodes.{pattern_at}
+use Rattle.rdx_nodes.specs.Settings.{language_at, patterns_at_hand, trees_at_hand, DoesAsWell, Grows}
+use Rattle.rdx_nodes.proofs.RowLaws.{row_as_well}
 use Rattle.rdx_table.proofs.table.row_of.Goals as goal
 
 pub returns : goal.returns

@@ -1,7 +1,7 @@
 use Rattle.std.proofs.Common.{◌≡◌, ◌++◌, List, [], ◌∷◌, sym, subst, arith}
 use Rattle.std.proofs.lemmas.Grind.{common_steps}
+use Rattle.rdx_nodes.specs.Settings.{language_at, patterns_at_hand, trees_at_hand}
 use Rattle.rdx_table.specs.Inside.Cells.{AreFor}
-use Rattle.rdx_table.specs.Inside.Settings.{language_at, patterns_at_hand, trees_at_hand}
 use Rattle.rdx_table.specs.declared.task.Task.{Task}
 use Rattle.rdx_table.specs.declared.task.Task.TheVariants as task
 use Rattle.rdx_table.proofs.CellGoals.{tasks-push}

@@ -3,8 +3,8 @@ use Rattle.std.proofs.lemmas.List.{take_rest}
 use Rattle.std.specs.Prelude.{not}
 use Rattle.rdx_bind.specs.Spots.{Spot, spots_of}
 use Rattle.rdx_bind.specs.declared.rows.Row.{Row}
+use Rattle.rdx_nodes.specs.Nodes.{AreBelow}
 use Rattle.rdx_table.specs.Inside.Looks.{patterns_of_look, Meets}
-use Rattle.rdx_table.specs.Inside.Nodes.{AreBelow}
 use Rattle.rdx_table.specs.declared.look.Look.{Look}
 use Rattle.rdx_table.specs.declared.task.Goal.{Goal}
 use Rattle.rdx_table.proofs.AskedForms.{below-at, below-rest}

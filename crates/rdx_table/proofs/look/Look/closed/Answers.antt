@@ -1,8 +1,8 @@
 use Rattle.std.proofs.Common.{◌≡◌, List, [], ◌∷◌, ap}
 use Rattle.std.proofs.lemmas.Result.{IfOk-weaker}
 use Rattle.rdx_lang.specs.Patterns.{Pattern}
+use Rattle.rdx_nodes.specs.Nodes.{pattern_at, patterns_at}
 use Rattle.rdx_table.specs.Inside.Looks.{patterns_of_look}
-use Rattle.rdx_table.specs.Inside.Nodes.{pattern_at, patterns_at}
 use Rattle.rdx_table.proofs.AskedForms.{asked_closed, meets_by}
 use Rattle.rdx_table.proofs.look.Look.closed.Goals as goal
 

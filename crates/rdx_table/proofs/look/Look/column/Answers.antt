@@ -9,12 +9,12 @@ use Rattle.rdx_bind.specs.Rows.{SplitRow, split_rows_of}
 use Rattle.rdx_bind.specs.declared.asks.Ask.{Ask}
 use Rattle.rdx_bind.proofs.AskedRows.{all-nothing}
 use Rattle.rdx_store.specs.Stored.{tree_by_id}
+use Rattle.rdx_nodes.specs.Nodes.{pattern_at, slot_at, IsEntry}
+use Rattle.rdx_nodes.specs.declared.node.Entry.{Entry}
+use Rattle.rdx_nodes.specs.declared.node.Entry.TheVariants as entry
 use Rattle.rdx_table.specs.Inside.Cells.{slots_behind}
 use Rattle.rdx_table.specs.Inside.Looks.{language_of_look, patterns_of_look, trees_of_look}
-use Rattle.rdx_table.specs.Inside.Nodes.{pattern_at, slot_at, IsEntry}
 use Rattle.rdx_table.specs.Inside.Tasks.{column_slots, column_trees, items_in, slots_in}
-use Rattle.rdx_table.specs.declared.node.Entry.{Entry}
-use Rattle.rdx_table.specs.declared.node.Entry.TheVariants as entry
 use Rattle.rdx_table.proofs.ColumnTrees.{part-length, empty-column, last-column, first-entry, first-slot}
 use Rattle.rdx_table.proofs.look.Look.column.Goals as goal
 

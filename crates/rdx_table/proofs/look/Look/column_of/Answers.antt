@@ -6,8 +6,8 @@ use Rattle.rdx_bind.proofs.AskedRows.{nothings-length}
 use Rattle.rdx_bind.specs.Ones.{nothings}
 use Rattle.rdx_bind.specs.declared.asks.Ask.{Ask}
 use Rattle.rdx_store.specs.Stored.{tree_by_id, trees_by_ids}
+use Rattle.rdx_nodes.specs.Nodes.{slot_at, slots_at}
 use Rattle.rdx_table.specs.Inside.Looks.{patterns_of_look, trees_of_look, aim_pattern, aim_tree}
-use Rattle.rdx_table.specs.Inside.Nodes.{slot_at, slots_at}
 use Rattle.rdx_table.specs.Inside.Tasks.{slots_in, items_in}
 use Rattle.rdx_table.proofs.look.Look.column_of.Goals as goal
 

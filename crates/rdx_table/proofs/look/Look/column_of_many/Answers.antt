@@ -16,9 +16,9 @@ use Rattle.rdx_bind.specs.declared.asks.Ask.TheVariants.{Nothing}
 use Rattle.rdx_bind.proofs.AskedRows.{cells-length, cells-bind, column-length}
 use Rattle.rdx_bind.proofs.TurnColumns.{IsAsked, carried-asked, turns-column}
 use Rattle.rdx_store.specs.Stored.{tree_by_id, trees_by_ids}
+use Rattle.rdx_nodes.specs.Nodes.{pattern_at}
 use Rattle.rdx_table.specs.Inside.Cells.{cells_trees, slots_behind}
 use Rattle.rdx_table.specs.Inside.Looks.{language_of_look, patterns_of_look, trees_of_look}
-use Rattle.rdx_table.specs.Inside.Nodes.{pattern_at}
 use Rattle.rdx_table.specs.Inside.Tasks.{column_trees}
 use Rattle.rdx_table.proofs.CellGoals.{cells-found}
 use Rattle.rdx_table.proofs.ColumnTrees.{cells-count}

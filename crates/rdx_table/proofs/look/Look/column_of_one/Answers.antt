@@ -11,9 +11,9 @@ use Rattle.rdx_bind.specs.declared.asks.Ask.TheVariants.{Nothing}
 use Rattle.rdx_bind.proofs.AskedRows.{asked-length, cells-length, column-length}
 use Rattle.rdx_bind.proofs.OneColumns.{ones-column}
 use Rattle.rdx_store.specs.Stored.{trees_by_ids}
+use Rattle.rdx_nodes.specs.Nodes.{pattern_at}
 use Rattle.rdx_table.specs.Inside.Cells.{slots_behind}
 use Rattle.rdx_table.specs.Inside.Looks.{language_of_look, patterns_of_look, trees_of_look}
-use Rattle.rdx_table.specs.Inside.Nodes.{pattern_at}
 use Rattle.rdx_table.specs.Inside.Tasks.{column_trees}
 use Rattle.rdx_table.proofs.CellGoals.{cells-found}
 use Rattle.rdx_table.proofs.look.Look.column_of_one.Goals as goal

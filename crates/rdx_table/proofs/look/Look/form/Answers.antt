@@ -1,8 +1,8 @@
 use Rattle.std.proofs.Common.{◌≡◌, ◌<◌, length, arith}
 use Rattle.std.proofs.lemmas.Grind.{common_steps}
+use Rattle.rdx_nodes.proofs.NodePatterns.{patterns_in-length}
 use Rattle.rdx_table.specs.Inside.Looks.{patterns_of_look}
 use Rattle.rdx_table.proofs.LookForms.{form_of_node}
-use Rattle.rdx_table.proofs.NodePatterns.{patterns_in-length}
 use Rattle.rdx_table.proofs.look.Look.form.Goals as goal
 
 pub index-requires : goal.index-requires

@@ -1,8 +1,8 @@
 use Rattle.std.proofs.Common.{◌<◌, length, arith}
 use Rattle.std.proofs.lemmas.List.{length-map}
 use Rattle.rdx_store.specs.Stored.{tree_by_id}
+use Rattle.rdx_nodes.specs.Nodes.{slot_at}
 use Rattle.rdx_table.specs.Inside.Looks.{patterns_of_look, trees_of_look}
-use Rattle.rdx_table.specs.Inside.Nodes.{slot_at}
 use Rattle.rdx_table.proofs.Entries.{number_below, slot_by_number, id_below, tree_by_place}
 use Rattle.rdx_table.proofs.look.Look.goal_at.Goals as goal
 

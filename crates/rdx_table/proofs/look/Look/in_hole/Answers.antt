@@ -13,8 +13,8 @@ use Rattle.rdx_bind.proofs.SplitRules.{MatchesOn}
 use Rattle.rdx_bind.specs.Rows.{split_row_of}
 use Rattle.rdx_bind.specs.Spots.{Spot, spot_of, spots_of}
 use Rattle.rdx_bind.specs.declared.rows.Row.{Row}
+use Rattle.rdx_nodes.specs.Nodes.{pattern_at}
 use Rattle.rdx_table.specs.Inside.Looks.{language_of_look, patterns_of_look, aim_tree, Meets}
-use Rattle.rdx_table.specs.Inside.Nodes.{pattern_at}
 use Rattle.rdx_table.specs.declared.look.Look.{Look}
 use Rattle.rdx_table.specs.declared.task.Goal.{Goal}
 use Rattle.rdx_table.proofs.AskedForms.{HasOf, SplitsOnWhere, had_matches, had_splits, had_spots, meets_by, met_by}

@@ -6,8 +6,8 @@ use Rattle.rdx_lang.specs.Patterns.{Pattern}
 use Rattle.rdx_lang.specs.Shown.{bindings_of}
 use Rattle.rdx_bind.proofs.SplitRules.{MatchesOn}
 use Rattle.rdx_bind.specs.Spots.{Spot, spots_of}
+use Rattle.rdx_nodes.specs.Nodes.{pattern_at}
 use Rattle.rdx_table.specs.Inside.Looks.{language_of_look, patterns_of_look, aim_tree}
-use Rattle.rdx_table.specs.Inside.Nodes.{pattern_at}
 use Rattle.rdx_table.proofs.AskedForms.{SplitsOnWhere}
 use Rattle.rdx_table.proofs.look.Look.in_hole.Given as goal
 

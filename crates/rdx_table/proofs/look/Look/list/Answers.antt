@@ -5,11 +5,11 @@ use Rattle.rdx_bind.proofs.SpotRows.{split_rows_are_maps}
 use Rattle.rdx_bind.specs.Parts.{Part}
 use Rattle.rdx_bind.specs.PartRows.{HaveSpots, IsSearched, found_split_rows}
 use Rattle.rdx_bind.specs.Rows.{SplitRow, split_row_of, split_rows_of}
+use Rattle.rdx_nodes.specs.Nodes.{slots_at}
 use Rattle.rdx_table.proofs.ListRows.{meets_list, list_cannot_fit, first_part_fails, last_part_fails, middle_part_fails, parts_have}
 use Rattle.rdx_table.proofs.WithinLists.{cut_within}
 use Rattle.rdx_table.specs.Inside.Cuts.{part_in, IsFoundBehind}
 use Rattle.rdx_table.specs.Inside.Looks.{language_of_look, patterns_of_look}
-use Rattle.rdx_table.specs.Inside.Nodes.{slots_at}
 use Rattle.rdx_table.proofs.look.Look.list.Goals as goal
 
 pub returns-in_default-clause-found : goal.returns-in_default-clause-found

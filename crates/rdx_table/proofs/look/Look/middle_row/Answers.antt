@@ -5,11 +5,11 @@ use Rattle.rdx_bind.proofs.AcrossRows.{bindings_are_maps}
 use Rattle.rdx_bind.proofs.AskedRows.{column-length}
 use Rattle.rdx_bind.proofs.SpotRows.{IsMapRow, spots_are_maps}
 use Rattle.rdx_bind.specs.Rows.{SplitRow, split_row_of, split_rows_of}
+use Rattle.rdx_nodes.specs.Nodes.{slots_at}
 use Rattle.rdx_table.proofs.FoundBehind.{HasPart, behind_no_items, behind_none, behind_row}
 use Rattle.rdx_table.proofs.WithinLists.{first_of_column}
 use Rattle.rdx_table.specs.Inside.Cuts.{part_in, IsFoundBehind}
 use Rattle.rdx_table.specs.Inside.Looks.{language_of_look, patterns_of_look}
-use Rattle.rdx_table.specs.Inside.Nodes.{slots_at}
 use Rattle.rdx_table.proofs.look.Look.middle_row.Goals as goal
 
 pub returns-then-is_empty-clause-found : goal.returns-then-is_empty-clause-found

@@ -2,8 +2,8 @@ use Rattle.std.proofs.Common.{ℕ, List, length, sym, subst}
 use Rattle.std.proofs.lemmas.Result.{IfOk-weaker}
 use Rattle.rdx_lang.specs.Patterns.{Pattern, Language}
 use Rattle.rdx_lang.specs.PatternView.{patterns_of}
+use Rattle.rdx_nodes.specs.Nodes.{made, patterns_at, AreBelow, AreOpened, DoAsWell}
 use Rattle.rdx_table.specs.Inside.Looks.{language_of_look, patterns_of_look}
-use Rattle.rdx_table.specs.Inside.Nodes.{made, patterns_at, AreBelow, AreOpened, DoAsWell}
 use Rattle.rdx_table.proofs.AskedForms.{asked_nt, meets_by}
 use Rattle.rdx_table.proofs.look.Look.nonterminal.Goals as goal
 

@@ -5,9 +5,9 @@ use Rattle.rdx_lang.specs.Rules.{Match}
 use Rattle.rdx_bind.specs.Columns.{HasAsked}
 use Rattle.rdx_bind.specs.Rows.{split_row_of}
 use Rattle.rdx_bind.specs.Spots.{SplitsAt}
+use Rattle.rdx_nodes.specs.Asked.{asked_where}
+use Rattle.rdx_nodes.specs.Nodes.{pattern_by}
 use Rattle.rdx_table.specs.Inside.Looks.{language_of_look, patterns_of_look, aim_tree}
-use Rattle.rdx_table.specs.Inside.Nodes.{pattern_by}
-use Rattle.rdx_table.specs.Inside.Tasks.{asked_where}
 use Rattle.rdx_table.proofs.look.Look.row_at_once.Goals as goal
 
 pub returns-clause-row : goal.returns-clause-row

@@ -1,9 +1,9 @@
 use Rattle.std.proofs.Common.{List, length, ap, sym, ◌∙◌, subst, arith}
 use Rattle.rdx_lang.specs.Patterns.{Pattern}
-use Rattle.rdx_table.specs.Inside.ByTerm.{entries_in}
+use Rattle.rdx_nodes.specs.Nodes.{AreEntries}
+use Rattle.rdx_nodes.specs.declared.node.Entry.{Entry}
+use Rattle.rdx_table.specs.Inside.LookForms.{entries_in}
 use Rattle.rdx_table.specs.Inside.Looks.{language_of_look, patterns_of_look}
-use Rattle.rdx_table.specs.Inside.Nodes.{AreEntries}
-use Rattle.rdx_table.specs.declared.node.Entry.{Entry}
 use Rattle.rdx_table.proofs.LookForms.{entries_right}
 use Rattle.rdx_table.proofs.look.Look.row_by_parts.Goals as goal
 

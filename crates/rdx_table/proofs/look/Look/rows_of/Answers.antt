@@ -12,12 +12,12 @@ use Rattle.rdx_bind.specs.Rows.{SplitRow, split_row_of, split_rows_of}
 use Rattle.rdx_bind.specs.Searching.{IsRowOf}
 use Rattle.rdx_bind.specs.Spots.{SplitsAt, PlacedAt}
 use Rattle.rdx_store.specs.Stored.{tree_by_id}
+use Rattle.rdx_nodes.specs.Asked.{asked_where}
+use Rattle.rdx_nodes.specs.Nodes.{pattern_at}
 use Rattle.rdx_table.proofs.AskedItems.{next_taken, all_taken, asked_placed, matches_there, no_row, asked_none, asked_next}
 use Rattle.rdx_table.proofs.FoundBehind.{no_matches, no_spots}
 use Rattle.rdx_table.specs.Inside.Cuts.{part_in}
 use Rattle.rdx_table.specs.Inside.Looks.{language_of_look, patterns_of_look, trees_of_look, Meets}
-use Rattle.rdx_table.specs.Inside.Nodes.{pattern_at}
-use Rattle.rdx_table.specs.Inside.Tasks.{asked_where}
 use Rattle.rdx_table.proofs.look.Look.rows_of.Goals as goal
 
 pub loop-i-init : goal.loop-i-init

@@ -4,7 +4,7 @@ use Rattle.rdx_lang.specs.Checked.{language_in, pattern_in}
 use Rattle.rdx_lang.specs.Inside.Collecting.{HasExactly}
 use Rattle.rdx_bind.proofs.SplitRules.{splits_listing}
 use Rattle.rdx_bind.specs.Spots.{SplitsAt, spots_of}
-use Rattle.rdx_table.proofs.RowLaws.{row_spots}
+use Rattle.rdx_nodes.proofs.RowLaws.{row_spots}
 use Rattle.rdx_table.proofs.table.TableMatcher.splits.Goals as goal
 
 pub returns : goal.returns

@@ -1,0 +1,15 @@
+pub mod ItemIds
+pub mod RowLaws
+pub mod ForgettingBindings
+pub mod ForgettingNames
+pub mod ForgettingRepetitions
+pub mod ForgettingForth
+pub mod ForgettingBack
+pub mod Forgetting
+pub mod NodePatterns
+pub mod OnceTold
+pub mod IndexNumbers
+pub mod Adding
+pub mod Numbered
+pub mod DoorsLeft
+pub mod NonterminalNodes

@@ -1,0 +1,16 @@
+use Rattle.std.proofs.Common.{[], List, vec_len}
+use Rattle.rdx_lang.proofs.Collecting.{Collects}
+use Rattle.rdx_lang.specs.Decompositions.{Decomposition}
+use Rattle.rdx_lang.specs.Shown.{decompositions_of}
+use Rattle.rdx_term.specs.View.{tree_of}
+use Rattle.rdx_bind.specs.Spots.{spots_of}
+use Rattle.rdx_bind.specs.Splitting.{IsSplitAt}
+use Rattle.rdx_nodes.proofs.splitting.sorted_splits.Given as goal
+
+abbrev pub invariant-loop-spot : goal.invariant-loop-spot
+invariant-loop-spot l =
+    let nothing : List Decomposition = [] in
+    Collects (IsSplitAt (tree_of l.t)) (spots_of l.fn.spots.items) (spots_of l.rest.items) nothing (decompositions_of l.found.items)
+
+abbrev pub decreases-loop-spot : goal.decreases-loop-spot
+decreases-loop-spot l = vec_len l.rest

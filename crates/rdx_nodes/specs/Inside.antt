@@ -1,0 +1,4 @@
+pub mod Forgetting
+pub mod PlainRows
+pub mod Once
+pub mod Numbering

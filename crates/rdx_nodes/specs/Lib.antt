@@ -1,0 +1,9 @@
+pub mod Numbers
+pub mod Nodes
+pub mod Index
+pub mod Settings
+pub mod Doors
+pub mod Interned
+pub mod Asked
+pub mod ByTerm
+pub mod Inside

@@ -1,6 +1,0 @@
-use Rattle.std.proofs.Common.{take}
-use Rattle.rdx_table.specs.Inside.Once.{bytes_of, Tells}
-use Rattle.rdx_table.proofs.once.Once.among.Given as goal
-
-abbrev pub invariant-loop-place : goal.invariant-loop-place
-invariant-loop-place l = Tells l.told (bytes_of (take l.place-index l.places))
