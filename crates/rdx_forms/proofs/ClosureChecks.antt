@@ -45,7 +45,7 @@ use Rattle.rdx_forms.specs.Answers.{RelatesBy}
 use Rattle.rdx_forms.specs.Inside.Earlier.{earlier, IsFirstFault}
 use Rattle.rdx_forms.specs.Faults.{IsFaultAt}
 use Rattle.rdx_patterns.specs.Ends.{ends_in}
-use Rattle.rdx_patterns.specs.Inside.Among.{AreAmong}
+use Rattle.rdx_patterns.specs.Among.{AreAmong}
 use Rattle.rdx_forms.specs.Fitting.{IsFitting, IsRelationOf}
 use Rattle.rdx_term.specs.Spelling.{is_name}
 use Rattle.rdx_patterns.proofs.Among.{is_among-names}

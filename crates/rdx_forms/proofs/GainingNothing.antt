@@ -14,7 +14,7 @@ use Rattle.rdx_lang.specs.declared.pattern.Ref.TheVariants.{Nt}
 use Rattle.rdx_lang.proofs.MemberLaws.{append-left, append-right}
 use Rattle.rdx_patterns.proofs.Among.{is_among-names}
 use Rattle.rdx_patterns.specs.Ends.{end_of, ends_in, ends_among, known_ends, crossed_for, Gained}
-use Rattle.rdx_patterns.specs.Inside.Among.{AreAmong}
+use Rattle.rdx_patterns.specs.Among.{AreAmong}
 use Rattle.rdx_patterns.specs.Kinds as kinds
 use Rattle.rdx_patterns.specs.Nonterminals.{names_of}
 use Rattle.rdx_patterns.specs.Parts.{listed, parts}

@@ -23,7 +23,7 @@ use Rattle.rdx_templates.specs.TemplateReading.{template_reading}
 use Rattle.rdx_parts.specs.Stands.{Stand, names_bound, bound_by_premise}
 use Rattle.rdx_defs.specs.declared.judgements.premises.ReadPremise.{ReadPremise}
 use Rattle.rdx_patterns.specs.Ends.{ends_in}
-use Rattle.rdx_patterns.specs.Inside.Among.{AreAmong}
+use Rattle.rdx_patterns.specs.Among.{AreAmong}
 use Rattle.rdx_forms.specs.HoldsForms.{HoldsParts, holds_parts, holds_among, lone_parts, lone_among, asked_names, unfound, unfound_for, asked_unknown_at, holds_refusal, asked_premise, holds_by, holds_over, holds_test_by}
 use Rattle.rdx_forms.specs.Known.{Known, judgement_language}
 use Rattle.rdx_answer.specs.Queries.{holds, test_holds}

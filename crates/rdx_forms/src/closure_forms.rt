@@ -12,7 +12,7 @@ ghost use Rattle.rdx_patterns.specs.Answers.{ReadsPattern};
 ghost use Rattle.rdx_patterns.specs.Nonterminals.{names_of};
 ghost use Rattle.rdx_patterns.specs.Parts.{is_symbol, text_of};
 ghost use Rattle.rdx_patterns.specs.Ends.{ends_in};
-ghost use Rattle.rdx_patterns.specs.Inside.Among.{AreAmong};
+ghost use Rattle.rdx_patterns.specs.Among.{AreAmong};
 ghost use Rattle.rdx_patterns.specs.Readable.{IsReadable};
 ghost use Rattle.rdx_patterns.specs.Refusal.{first_refusal, refusal_of};
 ghost use Rattle.rdx_sexp.specs.Size.{IsSpelledSexp};

@@ -1,7 +1,7 @@
 // Forms that define a relation.
 ghost use Rattle.std.specs.Prelude.{◌≡◌, IfOk};
 ghost use Rattle.rdx_lang.specs.ProgramView.{relation_of};
-ghost use Rattle.rdx_patterns.specs.Inside.Among.{AreAmong};
+ghost use Rattle.rdx_patterns.specs.Among.{AreAmong};
 ghost use Rattle.rdx_patterns.specs.Readable.{IsReadable};
 ghost use Rattle.rdx_forms.specs.Ends.{form_ends};
 ghost use Rattle.rdx_forms.specs.FormKinds as forms;

@@ -10,7 +10,7 @@ ghost use Rattle.rdx_patterns.specs.Readable.{IsReadable};
 ghost use Rattle.rdx_patterns.specs.Refusal.{refusal_of};
 ghost use Rattle.rdx_forms.specs.HoldsForms.{asked_names, asked_unknown_at};
 ghost use Rattle.rdx_patterns.specs.Ends.{ends_in};
-ghost use Rattle.rdx_patterns.specs.Inside.Among.{AreAmong};
+ghost use Rattle.rdx_patterns.specs.Among.{AreAmong};
 ghost use Rattle.rdx_forms.specs.Fitting.{AreCrossed};
 ghost use Rattle.rdx_forms.specs.Answers.{HoldsAskedBy, HoldsTestedBy};
 ghost use Rattle.rdx_forms.specs.Inside.Asking.{HoldsFitsBy};

@@ -6,7 +6,7 @@ ghost use Rattle.rdx_patterns.specs.Answers.{ReadsPattern};
 ghost use Rattle.rdx_patterns.specs.Nonterminals.{names_of};
 ghost use Rattle.rdx_patterns.specs.Readable.{IsReadable};
 ghost use Rattle.rdx_patterns.specs.Ends.{ends_in};
-ghost use Rattle.rdx_patterns.specs.Inside.Among.{AreAmong};
+ghost use Rattle.rdx_patterns.specs.Among.{AreAmong};
 ghost use Rattle.rdx_forms.specs.Fitting.{AreCrossed};
 ghost use Rattle.rdx_forms.specs.Inside.Asking.{FitsBy};
 ghost use Rattle.rdx_forms.specs.Answers.{AsksBy};

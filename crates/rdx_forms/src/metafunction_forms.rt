@@ -6,7 +6,7 @@ ghost use Rattle.rdx_patterns.specs.Nonterminals.{names_of};
 ghost use Rattle.rdx_patterns.specs.Readable.{IsReadable};
 ghost use Rattle.rdx_forms.specs.FormKinds as forms;
 ghost use Rattle.rdx_patterns.specs.Ends.{ends_in};
-ghost use Rattle.rdx_patterns.specs.Inside.Among.{AreAmong};
+ghost use Rattle.rdx_patterns.specs.Among.{AreAmong};
 ghost use Rattle.rdx_forms.specs.Fitting.{AreCrossed};
 ghost use Rattle.rdx_forms.specs.Answers.{FunctionsBy};
 ghost use Rattle.rdx_forms.specs.KnownView.{known_of};

@@ -12,7 +12,7 @@ ghost use Rattle.rdx_patterns.specs.Parts.{is_symbol, text_of};
 ghost use Rattle.rdx_patterns.specs.Readable.{IsReadable};
 ghost use Rattle.rdx_patterns.specs.Refusal.{first_refusal, refusal_of};
 ghost use Rattle.rdx_sexp.specs.Size.{IsSpelledSexp};
-ghost use Rattle.rdx_patterns.specs.Inside.Among.{AreAmong};
+ghost use Rattle.rdx_patterns.specs.Among.{AreAmong};
 ghost use Rattle.rdx_forms.specs.Fitting.{AreCrossed, IsRelationOf, language_at};
 ghost use Rattle.rdx_forms.specs.Inside.Defining.{RelatesOver};
 ghost use Rattle.rdx_forms.specs.LanguageForms.{name_taken_at, named_base, unknown_at};

@@ -16,7 +16,7 @@ use Rattle.rdx_lang.proofs.MemberLaws.{in-append, append-left, append-right}
 use Rattle.rdx_lang.proofs.WellFormedCrosses.{defined-stays}
 use Rattle.rdx_patterns.specs.Ends.{end_of, ends_in, ends_among, known_ends, crossed_for}
 use Rattle.rdx_patterns.specs.Heads.{patterns}
-use Rattle.rdx_patterns.specs.Inside.Among.{AreAmong}
+use Rattle.rdx_patterns.specs.Among.{AreAmong}
 use Rattle.rdx_patterns.specs.Kinds.{is_among}
 use Rattle.rdx_patterns.specs.Nonterminals.{ref_names, names_of}
 use Rattle.rdx_patterns.specs.Occurrences.{occurrences, occurrences_among}

@@ -5,6 +5,7 @@ pub mod Unbuilt
 pub mod Heads
 pub mod HeadView
 pub mod Occurrences
+pub mod Among
 pub mod Kinds
 pub mod Found
 pub mod PatternChecks

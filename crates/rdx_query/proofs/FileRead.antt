@@ -17,7 +17,7 @@ use Rattle.rdx_forms.specs.OneForm.{Defines, Asks, IsPassedOver}
 use Rattle.rdx_query.specs.File.{Accepts, accepts_none, accepts_definition, accepts_query, accepts_passed, Refuses, refuses_here, refuses_behind_definition, refuses_behind_query, refuses_behind_passed, IsFile, IsFileRefusal}
 use Rattle.rdx_forms.specs.Before.{known_before}
 use Rattle.rdx_forms.specs.Answers.{IsFormFault}
-use Rattle.rdx_patterns.specs.Inside.Among.{AreAmong}
+use Rattle.rdx_patterns.specs.Among.{AreAmong}
 use Rattle.rdx_query.specs.Inside.Steps.{Step, step_defines, step_asks, step_passes}
 use Rattle.rdx_forms.specs.Known.{Known, nothing_in, with_definition}
 use Rattle.rdx_answer.specs.Queries.{Query}

@@ -9,7 +9,7 @@ use Rattle.rdx_lang.specs.Members.{In, here, there}
 use Rattle.rdx_lang.specs.Programs.{Rule}
 use Rattle.rdx_lang.specs.Variants.{variant, first_from, first_variant}
 use Rattle.rdx_patterns.proofs.Booleans.{unless_true, not_either_way}
-use Rattle.rdx_patterns.specs.Inside.Among.{AreAmong}
+use Rattle.rdx_patterns.specs.Among.{AreAmong}
 use Rattle.rdx_query.proofs.ClosedValid.{HaveFreeContexts, or-second}
 
 -- ---- members by the test

@@ -15,7 +15,7 @@ use Rattle.rdx_patterns.proofs.Booleans.{and_both, and_true}
 use Rattle.rdx_patterns.proofs.Firsts.{none_or}
 use Rattle.rdx_patterns.proofs.KnownReadings.{pattern_well_formed}
 use Rattle.rdx_patterns.specs.Ends.{ends_in, crossed_for}
-use Rattle.rdx_patterns.specs.Inside.Among.{AreAmong}
+use Rattle.rdx_patterns.specs.Among.{AreAmong}
 use Rattle.rdx_patterns.specs.Nonterminals.{names_of}
 use Rattle.rdx_patterns.specs.Occurrences.{occurrences}
 use Rattle.rdx_patterns.specs.Parts.{parts, text_of, is_symbol}

@@ -22,7 +22,7 @@ use Rattle.rdx_grammar.proofs.NamedForms.{AreNamedIn-passed}
 use Rattle.rdx_grammar.proofs.SpelledParts.{AreSpelledIn-language, AreSpelledIn-extension}
 use Rattle.rdx_patterns.specs.Ends.{ends_in, crossed_for}
 use Rattle.rdx_grammar.specs.Forms.{GrammarForm, language_form, extension_form}
-use Rattle.rdx_patterns.specs.Inside.Among.{AreAmong}
+use Rattle.rdx_patterns.specs.Among.{AreAmong}
 use Rattle.rdx_grammar.specs.Inside.CheckedForms.{AreSpelledIn}
 use Rattle.rdx_patterns.specs.Kinds.{is_among}
 use Rattle.rdx_grammar.specs.Languages.{empty_language}

@@ -13,7 +13,7 @@ use Rattle.rdx_lang.specs.Programs.{Metafunction, Judgement, Relation, Rule, Pre
 use Rattle.rdx_lang.specs.Valid.{is_valid_metafunction, is_valid_judgement, is_valid_over, callable_in, is_valid_beside, is_valid_metafunction_of, is_valid_judgement_of, are_distinct, defined_names, is_valid}
 use Rattle.rdx_patterns.proofs.Booleans.{and_both, and_true}
 use Rattle.rdx_patterns.specs.Ends.{crossed_for}
-use Rattle.rdx_patterns.specs.Inside.Among.{AreAmong}
+use Rattle.rdx_patterns.specs.Among.{AreAmong}
 use Rattle.rdx_patterns.specs.Readable.{IsReadable}
 use Rattle.rdx_relations.proofs.PartsOfForms.{Each}
 use Rattle.rdx_templates.specs.Scope.{mode_of, callable}

@@ -1,6 +1,6 @@
 // One form of a file.
 ghost use Rattle.std.specs.Prelude.{◌≡◌, OnOk, map};
-ghost use Rattle.rdx_patterns.specs.Inside.Among.{AreAmong};
+ghost use Rattle.rdx_patterns.specs.Among.{AreAmong};
 ghost use Rattle.rdx_patterns.specs.Readable.{IsReadable};
 ghost use Rattle.rdx_forms.specs.Ends.{form_ends};
 ghost use Rattle.rdx_forms.specs.FormKinds as forms;

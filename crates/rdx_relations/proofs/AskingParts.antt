@@ -3,7 +3,7 @@ use Rattle.std.proofs.Common.{◌≡◌, ℕ, List, [], ◌∷◌}
 use Rattle.rdx_base.specs.declared.place.Span.{Span}
 use Rattle.rdx_sexp.specs.Sexp.{Sexp, Sexps, list, nil, cons, sexps}
 use Rattle.rdx_patterns.specs.Ends.{ends_in, ends_among}
-use Rattle.rdx_patterns.specs.Inside.Among.{AreAmong}
+use Rattle.rdx_patterns.specs.Among.{AreAmong}
 use Rattle.rdx_patterns.specs.Parts.{listed}
 use Rattle.rdx_patterns.specs.PatternChecks.{bad_binders}
 use Rattle.rdx_patterns.specs.Readable.{IsReadable}

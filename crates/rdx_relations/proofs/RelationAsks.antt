@@ -4,7 +4,7 @@ use Rattle.std.specs.Prelude.{flat_map}
 use Rattle.rdx_sexp.specs.Sexp.{Sexp}
 use Rattle.rdx_lang.proofs.MemberLaws.{append-left, append-right}
 use Rattle.rdx_patterns.specs.Ends.{ends_in}
-use Rattle.rdx_patterns.specs.Inside.Among.{AreAmong}
+use Rattle.rdx_patterns.specs.Among.{AreAmong}
 use Rattle.rdx_patterns.specs.Readable.{IsReadable}
 use Rattle.rdx_relations.specs.Inside.FormOutlines.{domain_patterns}
 use Rattle.rdx_relations.specs.RelationEnds.{domain_ends, expanded_ends}

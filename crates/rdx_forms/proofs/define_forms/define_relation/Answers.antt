@@ -1,5 +1,5 @@
 use Rattle.std.proofs.Common.{◌≡◌, Option, Some, ap, sym, subst, ◌∙◌}
-use Rattle.rdx_patterns.specs.Inside.Among.{AreAmong}
+use Rattle.rdx_patterns.specs.Among.{AreAmong}
 use Rattle.rdx_forms.specs.DefineParts.{DefineParts, by_cases, by_contexts, by_crosses, define_parts}
 use Rattle.rdx_forms.specs.Ends.{define_ends}
 use Rattle.rdx_forms.specs.declared.parts.DefineKind as code
