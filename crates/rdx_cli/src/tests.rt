@@ -1,6 +1,8 @@
 // What no proof shows: that files are answered where there is memory, how calls of a source and a
 // sink are made, that the machine's stack suffices, and what words the program is given. The tests
 // of what no file reaches stand in `rdx_tests`.
+ghost use Rattle.std.specs.Prelude.{◌<◌};
+
 use crate::top::{Status, run};
 use crate::writing::write_text;
 use crate::{status_without_words, words_of};
@@ -14,12 +16,11 @@ use std::alloc::{AllocError, Global};
 use std::env::{Env, FillError};
 use std::process::Abort;
 use std::str::from_utf8;
-use std::test::Fail;
 
 // ---- runs over memory
 
 // The table of host operations.
-fn host_table<R: Abort + AllocGlobal>(rt: &R) -> Result<HostTable, Fail> {
+fn host_table<R: Abort + AllocGlobal>(rt: &R) -> HostTable {
     let entries = Vec::from_array(
         rt.alloc(),
         [
@@ -40,13 +41,7 @@ fn host_table<R: Abort + AllocGlobal>(rt: &R) -> Result<HostTable, Fail> {
             HostEntry::new(HostOp::Not, host_not),
         ],
     );
-    let Ok(entries) = entries else {
-        panic!(rt; "no entries")
-    };
-    match HostTable::new(entries) {
-        Ok(table) => Ok(table),
-        Err(_) => panic!(rt; "no table"),
-    }
+    HostTable::new(entries.expect(rt, "entries")).expect(rt, "a table")
 }
 
 // How many bytes a call moves at most, and the call that fails, if one does.
@@ -83,6 +78,36 @@ fn words_in(alloc: Global, words: &[&str]) -> Result<Vec<String>, AllocError> {
     Ok(owned)
 }
 
+fn source<R: Abort + AllocGlobal>(rt: &R, bytes: &[u8], takes: Plan) -> MemSource
+    requires { 0 < takes.piece }
+{
+    let failing = failing_calls(rt.alloc(), takes).expect(rt, "a plan");
+    let bytes = bytes.to_vec(rt.alloc()).expect(rt, "a file");
+    MemSource::new(bytes, takes.piece, failing)
+}
+
+fn sink<R: Abort + AllocGlobal>(rt: &R, puts: Plan) -> MemSink
+    requires { 0 < puts.piece }
+{
+    let failing = failing_calls(rt.alloc(), puts).expect(rt, "a plan");
+    MemSink::new(puts.piece, failing)
+}
+
+// A run over these words and bytes has ended so, and has written this.
+fn has_ended(
+    rt: &impl Abort,
+    (words, bytes): (&[&str], &[u8]),
+    (ended, written): (Status, &[u8]),
+    (status, text): (Status, &[u8]),
+) {
+    let file = from_utf8(bytes);
+    assert_eq!(rt;
+        (ended, from_utf8(written)),
+        (status, from_utf8(text)),
+        "at {words:?} and the file {file:?}"
+    );
+}
+
 // A run over these words and bytes ends so, and writes this.
 fn run_on<R: Abort + AllocGlobal>(
     rt: &R,
@@ -90,27 +115,20 @@ fn run_on<R: Abort + AllocGlobal>(
     bytes: &[u8],
     takes: Plan,
     puts: Plan,
-    (status, text): (Status, &[u8]),
-) -> Result<(), Fail> {
-    let alloc = rt.alloc();
-    let owned = words_in(alloc, words)?;
+    wanted: (Status, &[u8]),
+) {
     assert!(rt; takes.piece > 0 && puts.piece > 0);
-    let mut source = MemSource::new(
-        bytes.to_vec(alloc)?,
-        takes.piece,
-        failing_calls(alloc, takes)?,
-    );
-    let mut sink = MemSink::new(puts.piece, failing_calls(alloc, puts)?);
-    let table = host_table(rt)?;
-    let ended = run(alloc, &owned, &mut source, &mut sink, &table);
-    let (file, written) = (from_utf8(bytes), from_utf8(sink.written()));
-    assert_eq!(rt; ended, status, "at {words:?} and the file {file:?}");
-    assert_eq!(rt;
-        written,
-        from_utf8(text),
-        "at {words:?} and the file {file:?}"
-    );
-    Ok(())
+    let table = host_table(rt);
+    let mut source = source(rt, bytes, takes);
+    let mut sink = sink(rt, puts);
+    let owned = words_in(rt.alloc(), words).expect(rt, "words");
+    let ended = run(rt.alloc(), &owned, &mut source, &mut sink, &table);
+    has_ended(rt, (words, bytes), (ended, sink.written()), wanted);
+}
+
+// How a run has ended and what it has written are these.
+fn has_written(rt: &impl Abort, run: (Status, &[u8]), wanted: (Status, &[u8])) {
+    assert_eq!(rt; run, wanted);
 }
 
 // ---- whole files
@@ -302,85 +320,91 @@ const REFUSED: [(&str, &str); 23] = [
     ("(term ,(list 1))", "refused S10 RacketEscape at 1:8\n"),
 ];
 
-#[test]
-fn files_have_their_transcripts(rt: HostRuntime) -> Result<(), Fail> {
-    for (status, rows) in [
-        (Status::Done, ANSWERED.as_slice()),
-        (Status::Unmet, UNMET.as_slice()),
-        (Status::Refused, REFUSED.as_slice()),
-    ] {
-        for (file, text) in rows {
-            let wanted = (status, text.as_bytes());
-            run_on(&rt, &["run"], file.as_bytes(), STEADY, STEADY, wanted)?;
-        }
+fn have_their_transcripts<R: Abort + AllocGlobal>(rt: &R, status: Status, rows: &[(&str, &str)]) {
+    for (file, text) in rows {
+        let wanted = (status, text.as_bytes());
+        run_on(rt, &["run"], file.as_bytes(), STEADY, STEADY, wanted);
     }
-    Ok(())
+}
+
+#[test]
+fn answered_files_have_their_transcripts(rt: HostRuntime) {
+    have_their_transcripts(&rt, Status::Done, &ANSWERED);
+}
+
+#[test]
+fn unmet_files_have_their_transcripts(rt: HostRuntime) {
+    have_their_transcripts(&rt, Status::Unmet, &UNMET);
+}
+
+#[test]
+fn refused_files_have_their_transcripts(rt: HostRuntime) {
+    have_their_transcripts(&rt, Status::Refused, &REFUSED);
+}
+
+// A run over so many spaces ends so, and writes this.
+fn run_on_spaces<R: Abort + AllocGlobal>(rt: &R, size: usize, wanted: (Status, &[u8])) {
+    let table = host_table(rt);
+    let words = words_in(rt.alloc(), &["run"]).expect(rt, "words");
+    let spaces = vec![in rt.alloc(); b' '; size].expect(rt, "spaces");
+    let mut source = SteadySource::new(spaces, 2_000_000);
+    let mut sink = MemSink::new(5, Vec::new(rt.alloc()));
+    let ended = run(rt.alloc(), &words, &mut source, &mut sink, &table);
+    has_written(rt, (ended, sink.written()), wanted);
 }
 
 // A file of as many bytes as a file may have, and one of one more.
 #[test]
-fn a_longer_file_is_refused(rt: HostRuntime) -> Result<(), Fail> {
-    let alloc = rt.alloc();
-    let words = words_in(alloc, &["run"])?;
-    let table = host_table(&rt)?;
-    let rows = [
-        (1_048_576, Status::Done, b"".as_slice()),
-        (
-            1_048_577,
-            Status::Refused,
-            b"refused F9 TooLong\n".as_slice(),
-        ),
-    ];
-    for (size, status, text) in rows {
-        let spaces = vec![in alloc; b' '; size]?;
-        let mut source = SteadySource::new(spaces, 2_000_000);
-        let mut sink = MemSink::new(5, Vec::new(alloc));
-        let ended = run(alloc, &words, &mut source, &mut sink, &table);
-        assert_eq!(rt; ended, status);
-        assert_eq!(rt; sink.written(), text);
+fn a_longer_file_is_refused(rt: HostRuntime) {
+    run_on_spaces(&rt, 1_048_576, (Status::Done, b""));
+    let refused = b"refused F9 TooLong\n";
+    run_on_spaces(&rt, 1_048_577, (Status::Refused, refused));
+}
+
+const OPENS: [u8; 498] = [b'('; 498];
+
+const CLOSES: [u8; 498] = [b')'; 498];
+
+const DEEP_FILE: [&[u8]; 10] = [
+    b"(define-language L (e (e) ())) (redex-match L ",
+    &OPENS,
+    &CLOSES,
+    b" (term ",
+    &OPENS,
+    &CLOSES,
+    b")) (redex-match L e (term ",
+    &OPENS,
+    &CLOSES,
+    b"))",
+];
+
+const DEEP_TEXT: [&[u8]; 4] = [b"match 1\n  -\nmatch 1\n  e = ", &OPENS, &CLOSES, b"\n"];
+
+fn joined(alloc: Global, pieces: &[&[u8]]) -> Result<Vec<u8>, AllocError> {
+    let mut bytes = Vec::new(alloc);
+    for piece in pieces {
+        bytes.extend_from_slice(piece)?;
     }
-    Ok(())
+    Ok(bytes)
 }
 
 // Data that nest 500 deep are read, and the deepest terms and patterns in them are matched and
-// printed. One bracket more is refused.
+// printed.
 #[test]
-fn deep_files_fit_the_stack(rt: HostRuntime) -> Result<(), Fail> {
-    let alloc = rt.alloc();
-    let opens = [b'('; 498];
-    let closes = [b')'; 498];
-    let mut file = Vec::new(alloc);
-    for piece in [
-        b"(define-language L (e (e) ())) (redex-match L ".as_slice(),
-        &opens,
-        &closes,
-        b" (term ",
-        &opens,
-        &closes,
-        b")) (redex-match L e (term ",
-        &opens,
-        &closes,
-        b"))",
-    ] {
-        file.extend_from_slice(piece)?;
-    }
-    let mut text = Vec::new(alloc);
-    for piece in [
-        b"match 1\n  -\nmatch 1\n  e = ".as_slice(),
-        &opens,
-        &closes,
-        b"\n",
-    ] {
-        text.extend_from_slice(piece)?;
-    }
+fn deep_files_fit_the_stack(rt: HostRuntime) {
+    let file = joined(rt.alloc(), &DEEP_FILE).expect(&rt, "a file");
+    let text = joined(rt.alloc(), &DEEP_TEXT).expect(&rt, "a text");
     let wanted = (Status::Done, text.as_slice());
-    run_on(&rt, &["run"], &file, STEADY, STEADY, wanted)?;
+    run_on(&rt, &["run"], &file, STEADY, STEADY, wanted);
+}
 
+// One bracket more is refused.
+#[test]
+fn a_deeper_file_is_refused(rt: HostRuntime) {
     let brackets = [b'('; 501];
     let line = b"refused F8 TooDeep at 1:501\n".as_slice();
     let wanted = (Status::Refused, line);
-    run_on(&rt, &["run"], &brackets, STEADY, STEADY, wanted)?;
-    Ok(())
+    run_on(&rt, &["run"], &brackets, STEADY, STEADY, wanted);
 }
 
 // ---- the other rows of the table
@@ -410,28 +434,24 @@ const STEPPED: [(&[&str], Status, &str); 5] = [
 ];
 
 #[test]
-fn walks_go_by_the_choices(rt: HostRuntime) -> Result<(), Fail> {
-    for (words, status, text) in STEPPED {
-        let wanted = (status, text.as_bytes());
-        run_on(&rt, words, STEPS.as_bytes(), STEADY, STEADY, wanted)?;
+fn walks_go_by_the_choices(rt: HostRuntime) {
+    for (words, status, text) in &STEPPED {
+        let wanted = (*status, text.as_bytes());
+        run_on(&rt, words, STEPS.as_bytes(), STEADY, STEADY, wanted);
     }
-    Ok(())
 }
 
 // The first call of the source fails, and is still to come behind the run.
 #[test]
-fn the_workload_takes_nothing(rt: HostRuntime) -> Result<(), Fail> {
-    let alloc = rt.alloc();
-    let words = words_in(alloc, &["workload", "3"])?;
-    let mut source = MemSource::new(b"(a)".to_vec(alloc)?, 1, failing_calls(alloc, BROKEN)?);
-    let mut sink = MemSink::new(10_000, Vec::new(alloc));
-    let table = host_table(&rt)?;
-    let ended = run(alloc, &words, &mut source, &mut sink, &table);
+fn the_workload_takes_nothing(rt: HostRuntime) {
+    let table = host_table(&rt);
+    let words = words_in(rt.alloc(), &["workload", "3"]).expect(&rt, "words");
+    let mut source = source(&rt, b"(a)", BROKEN);
+    let mut sink = MemSink::new(10_000, Vec::new(rt.alloc()));
+    let ended = run(rt.alloc(), &words, &mut source, &mut sink, &table);
     let text = b"workload 3\ntests 3 passed 3 failed 0\n".as_slice();
-    assert_eq!(rt; ended, Status::Done);
-    assert_eq!(rt; sink.written(), text);
+    has_written(&rt, (ended, sink.written()), (Status::Done, text));
     assert_eq!(rt; source.take(&mut [0u8]), Taken::Failed);
-    Ok(())
 }
 
 // ---- calls of the source and the sink
@@ -455,17 +475,16 @@ const UNFIT: [&[&str]; 15] = [
 ];
 
 #[test]
-fn words_that_fit_no_row_take_and_put_nothing(rt: HostRuntime) -> Result<(), Fail> {
-    for words in UNFIT {
-        run_on(&rt, words, b"(a)", BROKEN, BROKEN, (Status::Usage, b""))?;
+fn words_that_fit_no_row_take_and_put_nothing(rt: HostRuntime) {
+    for words in &UNFIT {
+        run_on(&rt, words, b"(a)", BROKEN, BROKEN, (Status::Usage, b""));
     }
-    Ok(())
 }
 
 // 79 bytes come in five pieces of 16 at most, and then the end. Whichever of these six calls fails,
 // it is the last, although a call behind it would go through.
 #[test]
-fn a_failed_take_ends_a_run(rt: HostRuntime) -> Result<(), Fail> {
+fn a_failed_take_ends_a_run(rt: HostRuntime) {
     for call in 0..7 {
         let takes = Plan {
             piece: 16,
@@ -476,14 +495,13 @@ fn a_failed_take_ends_a_run(rt: HostRuntime) -> Result<(), Fail> {
         } else {
             (Status::Done, PAIRS_MATCHED.as_bytes())
         };
-        run_on(&rt, &["run"], PAIRS.as_bytes(), takes, STEADY, wanted)?;
+        run_on(&rt, &["run"], PAIRS.as_bytes(), takes, STEADY, wanted);
     }
-    Ok(())
 }
 
 // 31 bytes are put in eight pieces of 4 at most. Whichever of these calls fails, it is the last.
 #[test]
-fn a_failed_put_ends_a_run(rt: HostRuntime) -> Result<(), Fail> {
+fn a_failed_put_ends_a_run(rt: HostRuntime) {
     for call in 0..9 {
         let puts = Plan {
             piece: 4,
@@ -494,14 +512,13 @@ fn a_failed_put_ends_a_run(rt: HostRuntime) -> Result<(), Fail> {
             Some(front) => (Status::WriteFault, front),
             None => (Status::Done, text),
         };
-        run_on(&rt, &["run"], PAIRS.as_bytes(), STEADY, puts, wanted)?;
+        run_on(&rt, &["run"], PAIRS.as_bytes(), STEADY, puts, wanted);
     }
-    Ok(())
 }
 
 // A file of 5,000 bytes is taken as 4,096 bytes, 904 bytes and the end, so there are three takes.
 #[test]
-fn takes_ask_for_a_piece_or_the_rest(rt: HostRuntime) -> Result<(), Fail> {
+fn takes_ask_for_a_piece_or_the_rest(rt: HostRuntime) {
     for call in 0..4 {
         let takes = Plan {
             piece: 10_000,
@@ -515,28 +532,26 @@ fn takes_ask_for_a_piece_or_the_rest(rt: HostRuntime) -> Result<(), Fail> {
                 b"refused S10 RacketEscape at 1:1\n".as_slice(),
             )
         };
-        run_on(&rt, &["run"], &[b'x'; 5000], takes, STEADY, wanted)?;
+        run_on(&rt, &["run"], &[b'x'; 5000], takes, STEADY, wanted);
     }
-    Ok(())
+}
+
+// Of a text of 9,000 bytes, where this put fails, all or not all is written, and so many bytes are.
+fn is_put<R: Abort + AllocGlobal>(rt: &R, failing: usize, wanted: (bool, usize)) {
+    let failing = vec![in rt.alloc(); failing].expect(rt, "a plan");
+    let mut sink = MemSink::new(10_000, failing);
+    let whole = write_text(&mut sink, &[b'x'; 9000]);
+    assert_eq!(rt; (whole, sink.written().len()), wanted);
 }
 
 // A text of 9,000 bytes is put as 4,096 bytes, 4,096 bytes and 808 bytes: each put is the first that
 // fails, and then none is.
 #[test]
-fn puts_offer_a_piece_or_the_rest(rt: HostRuntime) -> Result<(), Fail> {
-    let alloc = rt.alloc();
-    let rows = [
-        (0, false, 0),
-        (1, false, 4096),
-        (2, false, 8192),
-        (3, true, 9000),
-    ];
-    for (failing, whole, written) in rows {
-        let mut sink = MemSink::new(10_000, vec![in alloc; failing]?);
-        assert_eq!(rt; write_text(&mut sink, &[b'x'; 9000]), whole);
-        assert_eq!(rt; sink.written().len(), written);
-    }
-    Ok(())
+fn puts_offer_a_piece_or_the_rest(rt: HostRuntime) {
+    is_put(&rt, 0, (false, 0));
+    is_put(&rt, 1, (false, 4096));
+    is_put(&rt, 2, (false, 8192));
+    is_put(&rt, 3, (true, 9000));
 }
 
 // ---- the words of the program
@@ -566,18 +581,28 @@ impl Env for CommandLine<'_> {
     }
 }
 
+const TWO_WORDS: [&[u8]; 3] = [b"redex", b"run", b""];
+
 #[test]
-fn words_stand_behind_the_program(rt: HostRuntime) -> Result<(), Fail> {
-    let line = [b"redex".as_slice(), b"run".as_slice(), b"".as_slice()];
-    let words = words_of(&(CommandLine(&line), rt.alloc()))?;
+fn words_stand_behind_the_program(rt: HostRuntime) {
+    let words = words_of(&(CommandLine(&TWO_WORDS), rt.alloc())).expect(&rt, "words");
     assert_eq!(rt; words.len(), 2);
     assert_eq!(rt; words[0].as_str(), "run");
     assert_eq!(rt; words[1].as_str(), "");
+}
 
-    let line = [b"redex".as_slice(), b"\xff".as_slice()];
-    match words_of(&(CommandLine(&line), rt.alloc())) {
-        Ok(_) => assert!(rt; false),
-        Err(error) => assert_eq!(rt; status_without_words(&error), Status::Usage),
+const NO_TEXT: [&[u8]; 2] = [b"redex", b"\xff"];
+
+// How the program ends at these words, where they can't be made.
+fn status_without(alloc: Global, words: CommandLine) -> Option<Status> {
+    match words_of(&(words, alloc)) {
+        Ok(_) => None,
+        Err(error) => Some(status_without_words(&error)),
     }
-    Ok(())
+}
+
+#[test]
+fn words_that_are_no_text_are_unfit(rt: HostRuntime) {
+    let status = status_without(rt.alloc(), CommandLine(&NO_TEXT));
+    assert_eq!(rt; status, Some(Status::Usage));
 }

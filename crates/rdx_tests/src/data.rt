@@ -1,18 +1,32 @@
 // Data that were read, printed.
-use rdx_sexp::{datum_text, read_all};
-use std::test::Fail;
+use rdx_sexp::{Datum, datum_text, read_all};
+use rdx_term::NoMemory;
+use std::alloc::Global;
+use std::process::Abort;
 
 const TEXT: &[u8] = b"[a {b \"c\\n\\t\\\"\"} 'd #:k -01 #true () ,@`e]";
 
 const PRINTED: &str =
     "(a (b \"c\\n\\t\\\"\") (quote d) #:k -1 #t () (unquote-splicing (quasiquote e)))";
 
+fn printed(alloc: Global, datum: &Datum) -> Result<Vec<u8>, NoMemory> {
+    let mut text = Vec::new(alloc);
+    datum_text(datum, &mut text)?;
+    Ok(text)
+}
+
+fn read<R: Abort + AllocGlobal>(rt: &R) -> Vec<Datum> {
+    read_all(rt.alloc(), TEXT).expect(rt, "data")
+}
+
+fn prints<R: Abort + AllocGlobal>(rt: &R, datum: &Datum, wanted: &str) {
+    let text = printed(rt.alloc(), datum).expect(rt, "a text");
+    assert_eq!(rt; text.as_slice(), wanted.as_bytes());
+}
+
 #[test]
-fn data_are_printed(rt: HostRuntime) -> Result<(), Fail> {
-    let data = read_all(rt.alloc(), TEXT)?;
+fn data_are_printed(rt: HostRuntime) {
+    let data = read(&rt);
     assert_eq!(rt; data.len(), 1);
-    let mut text = Vec::new(rt.alloc());
-    datum_text(&data[0], &mut text)?;
-    assert_eq!(rt; text.as_slice(), PRINTED.as_bytes());
-    Ok(())
+    prints(&rt, &data[0], PRINTED);
 }

@@ -5,7 +5,6 @@ use rdx_base::{
 use std::io;
 use std::io::{Read, Write};
 use std::process::Abort;
-use std::test::Fail;
 
 // Gives `a` at its first read, fails at the second, and is then at its end.
 #[derive(Drop)]
@@ -52,8 +51,10 @@ fn takes<S: Source>(rt: &impl Abort, source: &mut S, rows: &[(Taken, &[u8])]) {
     let mut buffer = [0u8; 4];
     for (wanted, bytes) in rows {
         let taken = source.take(&mut buffer);
-        assert_eq!(rt; taken, *wanted);
-        assert!(rt; buffer.starts_with(bytes), "in {buffer:?}");
+        assert!(rt;
+            taken == *wanted && buffer.starts_with(bytes),
+            "{taken:?} and not {wanted:?}, or not in {buffer:?}"
+        );
     }
 }
 
@@ -66,82 +67,102 @@ fn puts<K: Sink>(rt: &impl Abort, sink: &mut K, rows: &[(&[u8], Put)]) {
     }
 }
 
-#[test]
-fn sources_give_their_bytes(rt: HostRuntime) -> Result<(), Fail> {
-    let alloc = rt.alloc();
-    let whole = [
-        (Taken::Got(4), b"abcd".as_slice()),
-        (Taken::Got(1), b"e".as_slice()),
-        (Taken::End, b"".as_slice()),
-    ];
-    takes(&rt, &mut StdSource::new(b"abcde".as_slice()), &whole);
-    takes(
-        &rt,
-        &mut SteadySource::new(b"abcde".to_vec(alloc)?, 9),
-        &whole,
-    );
+fn has_got(rt: &impl Abort, got: &[u8], wanted: &[u8]) {
+    assert_eq!(rt; got, wanted);
+}
 
-    let failing = vec![in alloc; 1usize]?;
-    let planned = [
-        (Taken::Got(3), b"abc".as_slice()),
-        (Taken::Failed, b"".as_slice()),
-        (Taken::Got(2), b"de".as_slice()),
-        (Taken::End, b"".as_slice()),
-    ];
-    takes(
-        &rt,
-        &mut MemSource::new(b"abcde".to_vec(alloc)?, 3, failing),
-        &planned,
-    );
-    Ok(())
+const WHOLE: [(Taken, &[u8]); 3] = [
+    (Taken::Got(4), b"abcd"),
+    (Taken::Got(1), b"e"),
+    (Taken::End, b""),
+];
+
+#[test]
+fn readers_give_their_bytes(rt: HostRuntime) {
+    takes(&rt, &mut StdSource::new(b"abcde".as_slice()), &WHOLE);
 }
 
 #[test]
-fn sinks_take_their_bytes(rt: HostRuntime) -> Result<(), Fail> {
+fn steady_sources_give_their_bytes(rt: HostRuntime) {
+    let bytes = b"abcde".to_vec(rt.alloc()).expect(&rt, "five bytes");
+    takes(&rt, &mut SteadySource::new(bytes, 9), &WHOLE);
+}
+
+// The second call fails.
+const PLANNED_TAKES: [(Taken, &[u8]); 4] = [
+    (Taken::Got(3), b"abc"),
+    (Taken::Failed, b""),
+    (Taken::Got(2), b"de"),
+    (Taken::End, b""),
+];
+
+#[test]
+fn planned_sources_give_their_bytes(rt: HostRuntime) {
     let alloc = rt.alloc();
+    let failing = vec![in alloc; 1usize].expect(&rt, "a plan");
+    let bytes = b"abcde".to_vec(alloc).expect(&rt, "five bytes");
+    takes(&rt, &mut MemSource::new(bytes, 3, failing), &PLANNED_TAKES);
+}
+
+// The room for three bytes takes two, then one, and a write of none is a fault.
+const SHORT: [(&[u8], Put); 3] = [
+    (b"ab", Put::Took(2)),
+    (b"cd", Put::Took(1)),
+    (b"d", Put::Failed),
+];
+
+#[test]
+fn writers_take_their_bytes(rt: HostRuntime) {
     let mut bytes = [0u8; 3];
-    // The room for three bytes takes two, then one, and a write of none is a fault.
-    let short = [
-        (b"ab".as_slice(), Put::Took(2)),
-        (b"cd".as_slice(), Put::Took(1)),
-        (b"d".as_slice(), Put::Failed),
-    ];
-    puts(&rt, &mut StdSink::new(bytes.as_mut_slice()), &short);
-    assert_eq!(rt; bytes.as_slice(), b"abc".as_slice());
-
-    let mut planned = MemSink::new(3, vec![in alloc; 1usize]?);
-    let rows = [
-        (b"abcd".as_slice(), Put::Took(3)),
-        (b"d".as_slice(), Put::Failed),
-        (b"de".as_slice(), Put::Took(2)),
-    ];
-    puts(&rt, &mut planned, &rows);
-    assert_eq!(rt; planned.written(), b"abcde".as_slice());
-
-    let mut steady = SteadySink::new(9, Vec::with_capacity(alloc, 3)?);
-    let rows = [
-        (b"abc".as_slice(), Put::Took(3)),
-        (b"de".as_slice(), Put::Took(2)),
-    ];
-    puts(&rt, &mut steady, &rows);
-    assert_eq!(rt; steady.kept(), b"abc".as_slice());
-    Ok(())
+    puts(&rt, &mut StdSink::new(bytes.as_mut_slice()), &SHORT);
+    has_got(&rt, &bytes, b"abc");
 }
 
-#[test]
-fn errors_of_std_are_faults(rt: HostRuntime) {
-    let taken = [
-        (Taken::Got(1), b"a".as_slice()),
-        (Taken::Failed, b"".as_slice()),
-        (Taken::End, b"".as_slice()),
-    ];
-    takes(&rt, &mut StdSource::new(Halting { reads: 0 }), &taken);
+const PLANNED_PUTS: [(&[u8], Put); 3] = [
+    (b"abcd", Put::Took(3)),
+    (b"d", Put::Failed),
+    (b"de", Put::Took(2)),
+];
 
-    // Each put flushes once, and fails where its flush does.
-    let put = [
-        (b"ab".as_slice(), Put::Took(2)),
-        (b"c".as_slice(), Put::Failed),
-        (b"d".as_slice(), Put::Took(1)),
-    ];
-    puts(&rt, &mut StdSink::new(Clogged { flushes: 0 }), &put);
+#[test]
+fn planned_sinks_take_their_bytes(rt: HostRuntime) {
+    let failing = vec![in rt.alloc(); 1usize].expect(&rt, "a plan");
+    let mut planned = MemSink::new(3, failing);
+    puts(&rt, &mut planned, &PLANNED_PUTS);
+    has_got(&rt, planned.written(), b"abcde");
+}
+
+const STEADY_PUTS: [(&[u8], Put); 2] = [(b"abc", Put::Took(3)), (b"de", Put::Took(2))];
+
+#[test]
+fn steady_sinks_take_their_bytes(rt: HostRuntime) {
+    let room = Vec::with_capacity(rt.alloc(), 3).expect(&rt, "room for three bytes");
+    let mut steady = SteadySink::new(9, room);
+    puts(&rt, &mut steady, &STEADY_PUTS);
+    has_got(&rt, steady.kept(), b"abc");
+}
+
+const HALTING_TAKES: [(Taken, &[u8]); 3] = [
+    (Taken::Got(1), b"a"),
+    (Taken::Failed, b""),
+    (Taken::End, b""),
+];
+
+#[test]
+fn errors_of_readers_are_faults(rt: HostRuntime) {
+    let mut source = StdSource::new(Halting { reads: 0 });
+    takes(&rt, &mut source, &HALTING_TAKES);
+}
+
+// Each put flushes once, and fails where its flush does.
+const CLOGGED_PUTS: [(&[u8], Put); 3] = [
+    (b"ab", Put::Took(2)),
+    (b"c", Put::Failed),
+    (b"d", Put::Took(1)),
+];
+
+#[test]
+fn errors_of_writers_are_faults(rt: HostRuntime) {
+    let mut sink = StdSink::new(Clogged { flushes: 0 });
+    puts(&rt, &mut sink, &CLOGGED_PUTS);
 }

@@ -1,15 +1,29 @@
 // Both matchers side by side, and what an engine with a matcher is asked by name.
+ghost use Rattle.std.specs.Prelude.{◌≤◌, length};
+
 use crate::operations::host_table;
+use rdx_delta::HostTable;
 use rdx_eval::Engine;
-use rdx_lang::{Binding, CheckedPat, HostExpr};
+use rdx_lang::{Binding, CheckedLang, CheckedPat, HostExpr};
 use rdx_match::Plain;
-use rdx_query::{Query, check_file};
+use rdx_query::{CheckedFile, Query, check_file};
 use rdx_sexp::read_all;
 use rdx_table::Table;
-use rdx_term::{Name, NoMemory, Term, list};
+use rdx_term::{Build, Name, NoMemory, Term, list};
 use std::alloc::Global;
+use std::process::Abort;
 use std::rc::RcStr;
-use std::test::Fail;
+
+fn checked<R: Abort + AllocGlobal>(rt: &R, bytes: &[u8]) -> CheckedFile
+    requires { length bytes.now ≤ 1_048_576 }
+{
+    let data = read_all(rt.alloc(), bytes).expect(rt, "data");
+    check_file(rt.alloc(), &data).expect(rt, "a file that is accepted")
+}
+
+fn name(alloc: Global, text: &str) -> Result<Name, NoMemory> {
+    Name::new(RcStr::from_str(alloc, text)?).ok_or(NoMemory)
+}
 
 // Names, contexts, repetitions with and without length names, and what matches in several ways.
 const QUERIES: &[u8] = b"(define-language A (e (+ e e) n) (n number) (E hole (+ E e) (+ n E)))
@@ -26,62 +40,105 @@ const QUERIES: &[u8] = b"(define-language A (e (+ e e) n) (n number) (E hole (+ 
 (redex-match H (in-hole C hole) (term (hole hole)))
 (redex-match H ((in-hole C hole) (in-hole C 1)) (term ((hole hole) (hole 1))))";
 
+// What the host expression makes, where it is no fault.
+fn made(alloc: Global, table: &mut Engine<Table>, host: &HostExpr) -> Option<Box<Term>> {
+    let term = table.host(host, &Binding::new(Vec::new(alloc))).ok()?;
+    Box::new(alloc, term).ok()
+}
+
+fn match_the_same(
+    plain: &mut Engine<Plain>,
+    table: &mut Engine<Table>,
+    language: &CheckedLang,
+    pat: &CheckedPat,
+    t: &Term,
+) -> Result<bool, NoMemory> {
+    Ok(plain.matches(language, pat, t)? == table.matches(language, pat, t)?)
+}
+
+fn split_the_same(
+    plain: &mut Engine<Plain>,
+    table: &mut Engine<Table>,
+    language: &CheckedLang,
+    pat: &CheckedPat,
+    t: &Term,
+) -> Result<bool, NoMemory> {
+    Ok(plain.splits(language, pat, t)? == table.splits(language, pat, t)?)
+}
+
 // Whether both matchers list the same of the pattern and what the host expression makes, twice.
 fn agree(
     alloc: Global,
     plain: &mut Engine<Plain>,
     table: &mut Engine<Table>,
-    name: &Name,
-    pat: &CheckedPat,
-    host: &HostExpr,
+    (name, pat, host): (&Name, &CheckedPat, &HostExpr),
 ) -> Result<bool, NoMemory> {
     let Some(language) = plain.language(name)? else {
         return Ok(false);
     };
-    let Ok(t) = table.host(host, &Binding::new(Vec::new(alloc))) else {
+    let Some(t) = made(alloc, table, host) else {
         return Ok(false);
     };
     let mut same = true;
     for _ in 0..2 {
-        same &= plain.matches(language, pat, &t)? == table.matches(language, pat, &t)?;
-        same &= plain.splits(language, pat, &t)? == table.splits(language, pat, &t)?;
+        same &= match_the_same(plain, table, language, pat, &t)?;
+        same &= split_the_same(plain, table, language, pat, &t)?;
     }
     Ok(same)
 }
 
-#[test]
-fn both_matchers_agree(rt: HostRuntime) -> Result<(), Fail> {
-    let alloc = rt.alloc();
-    let data = read_all(alloc, QUERIES)?;
-    let file = check_file(alloc, &data).expect(&rt, "a file that is accepted");
-    let operations = host_table(&rt)?;
-    let mut plain = Engine::new(alloc, &file.program, &operations, Plain::new(alloc));
-    let mut table = Engine::new(alloc, &file.program, &operations, Table::new(alloc)?);
-    assert_eq!(rt; file.queries.len(), 10);
-    for query in &file.queries {
-        match query {
-            Query::Match(name, pat, host)
-            | Query::Whether(name, pat, host)
-            | Query::Decompose(name, pat, host)
-            | Query::TestMatch(name, pat, host, _) => {
-                let same = agree(alloc, &mut plain, &mut table, name, pat, host)?;
-                assert!(rt; same);
-            }
-            Query::Value(_)
-            | Query::Holds(_, _)
-            | Query::Reducts(_, _)
-            | Query::Tagged(_, _)
-            | Query::Stepper(_, _)
-            | Query::TestEqual(_, _)
-            | Query::TestStep(_, _, _)
-            | Query::TestRun(_, _, _)
-            | Query::TestHolds(_)
-            | Query::TestResults => {
-                assert!(rt; false, "no pattern");
-            }
-        }
+// The language, the pattern and the host expression of a query about a pattern.
+fn pattern_in(query: &Query) -> Option<(&Name, &CheckedPat, &HostExpr)> {
+    match query {
+        Query::Match(name, pat, host)
+        | Query::Whether(name, pat, host)
+        | Query::Decompose(name, pat, host)
+        | Query::TestMatch(name, pat, host, _) => Some((name, pat, host)),
+        Query::Value(_)
+        | Query::Holds(_, _)
+        | Query::Reducts(_, _)
+        | Query::Tagged(_, _)
+        | Query::Stepper(_, _)
+        | Query::TestEqual(_, _)
+        | Query::TestStep(_, _, _)
+        | Query::TestRun(_, _, _)
+        | Query::TestHolds(_)
+        | Query::TestResults => None,
     }
-    Ok(())
+}
+
+fn all_agree<R: Abort + AllocGlobal>(
+    rt: &R,
+    plain: &mut Engine<Plain>,
+    table: &mut Engine<Table>,
+    queries: &[Query],
+) {
+    for query in queries {
+        let asked = pattern_in(query).expect(rt, "a pattern");
+        let same = agree(rt.alloc(), plain, table, asked).expect(rt, "listings");
+        assert!(rt; same);
+    }
+}
+
+fn with_table<'a, R: Abort + AllocGlobal>(
+    rt: &R,
+    file: &'a CheckedFile,
+    operations: &'a HostTable,
+) -> Box<Engine<'a, Table>> {
+    let table = Table::new(rt.alloc()).expect(rt, "a table");
+    let engine = Engine::new(rt.alloc(), &file.program, operations, table);
+    Box::new(rt.alloc(), engine).ok().expect(rt, "an engine")
+}
+
+#[test]
+fn both_matchers_agree(rt: HostRuntime) {
+    let alloc = rt.alloc();
+    let file = checked(&rt, QUERIES);
+    assert_eq!(rt; file.queries.len(), 10);
+    let operations = host_table(&rt);
+    let mut table = with_table(&rt, &file, &operations);
+    let mut plain = Engine::new(alloc, &file.program, &operations, Plain::new(alloc));
+    all_agree(&rt, &mut plain, &mut table, &file.queries);
 }
 
 // A judgement with two outputs for a number, and none for anything else, and a metafunction.
@@ -90,34 +147,46 @@ const NAMED: &[u8] = b"(define-language L (n number))
 (define-metafunction L [(f n) (n n)])";
 
 // The list of this term alone.
-fn alone(alloc: Global, t: Term) -> Result<Term, NoMemory> {
-    let mut items = Vec::new(alloc);
-    items.push(t)?;
-    match list(alloc, items) {
-        Ok(list) => Ok(list),
-        Err(_) => Err(NoMemory),
-    }
+fn alone(alloc: Global, t: Term) -> Result<Box<Term>, Build> {
+    let items = Vec::from_array(alloc, [t])?;
+    Ok(Box::new(alloc, list(alloc, items)?)?)
+}
+
+fn has_outputs(engine: &mut Engine<Table>, judgement: &Name, inputs: &Term, wanted: usize) -> bool {
+    let outputs = engine.judge(judgement, inputs).ok();
+    outputs.is_some_and(|outputs| outputs.len() == wanted)
+}
+
+fn holds(engine: &mut Engine<Table>, judgement: &Name, inputs: &Term) -> Option<bool> {
+    engine.holds(judgement, inputs).ok()
+}
+
+fn nodes_of_call(engine: &mut Engine<Table>, f: &Name, args: &Term) -> Option<u32> {
+    let value = engine.call(f, args).ok()?;
+    Some(value.nodes())
+}
+
+fn judgements_are_asked<R: Abort + AllocGlobal>(rt: &R, engine: &mut Engine<Table>) {
+    let j = name(rt.alloc(), "J").expect(rt, "a name");
+    let number = alone(rt.alloc(), Term::Int(1)).expect(rt, "a term");
+    let truth = alone(rt.alloc(), Term::Bool(true)).expect(rt, "a term");
+    assert!(rt; has_outputs(engine, &j, &number, 2));
+    assert!(rt; matches!(holds(engine, &j, &number), Some(true)));
+    assert!(rt; matches!(holds(engine, &j, &truth), Some(false)));
+}
+
+fn metafunctions_are_asked<R: Abort + AllocGlobal>(rt: &R, engine: &mut Engine<Table>) {
+    let f = name(rt.alloc(), "f").expect(rt, "a name");
+    let number = alone(rt.alloc(), Term::Int(1)).expect(rt, "a term");
+    assert!(rt; matches!(nodes_of_call(engine, &f, &number), Some(3)));
 }
 
 #[test]
-fn judgements_and_metafunctions_are_asked(rt: HostRuntime) -> Result<(), Fail> {
-    let alloc = rt.alloc();
-    let data = read_all(alloc, NAMED)?;
-    let file = check_file(alloc, &data).expect(&rt, "a file that is accepted");
-    let operations = host_table(&rt)?;
-    let mut engine = Engine::new(alloc, &file.program, &operations, Table::new(alloc)?);
+fn judgements_and_metafunctions_are_asked(rt: HostRuntime) {
+    let file = checked(&rt, NAMED);
+    let operations = host_table(&rt);
+    let mut engine = with_table(&rt, &file, &operations);
     assert_eq!(rt; engine.program().judgements.len(), 1);
-    let name = Name::new(RcStr::from_str(alloc, "J")?).expect(&rt, "a name");
-    let (number, truth) = (alone(alloc, Term::Int(1))?, alone(alloc, Term::Bool(true))?);
-    let outputs = engine.judge(&name, &number);
-    assert!(rt; outputs.is_ok_and(|outputs| outputs.len() == 2));
-    assert!(rt; matches!(engine.holds(&name, &number), Ok(true)));
-    assert!(rt; matches!(engine.holds(&name, &truth), Ok(false)));
-    let f = Name::new(RcStr::from_str(alloc, "f")?).expect(&rt, "a name");
-    assert!(rt;
-        engine
-            .call(&f, &number)
-            .is_ok_and(|value| value.nodes() == 3)
-    );
-    Ok(())
+    judgements_are_asked(&rt, &mut engine);
+    metafunctions_are_asked(&rt, &mut engine);
 }

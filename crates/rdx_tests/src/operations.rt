@@ -5,13 +5,13 @@ use rdx_delta::{
     host_sub1,
 };
 use rdx_lang::HostOp;
+use std::alloc::{AllocFailed, Global};
 use std::process::Abort;
-use std::test::Fail;
 
-// The table of the functions of `rdx_delta`.
-pub(crate) fn host_table<R: Abort + AllocGlobal>(rt: &R) -> Result<HostTable, Fail> {
-    let entries = Vec::from_array(
-        rt.alloc(),
+// The functions of `rdx_delta`.
+fn entries(alloc: Global) -> Result<Vec<HostEntry>, AllocFailed<[HostEntry; 15]>> {
+    Vec::from_array(
+        alloc,
         [
             HostEntry::new(HostOp::Add, host_add),
             HostEntry::new(HostOp::Sub, host_sub),
@@ -29,29 +29,30 @@ pub(crate) fn host_table<R: Abort + AllocGlobal>(rt: &R) -> Result<HostTable, Fa
             HostEntry::new(HostOp::Equal, host_equal),
             HostEntry::new(HostOp::Not, host_not),
         ],
-    );
-    let Ok(entries) = entries else {
-        panic!(rt; "no entries")
-    };
-    match HostTable::new(entries) {
-        Ok(table) => Ok(table),
-        Err(_) => panic!(rt; "no table"),
-    }
+    )
+}
+
+// Their table.
+pub(crate) fn host_table<R: Abort + AllocGlobal>(rt: &R) -> HostTable {
+    let entries = entries(rt.alloc()).expect(rt, "entries");
+    HostTable::new(entries).expect(rt, "a table")
 }
 
 #[test]
-fn no_entry(rt: HostRuntime) -> Result<(), Fail> {
+fn no_entry(rt: HostRuntime) {
     let refused = HostTable::new(Vec::new(rt.alloc())).err();
     assert!(rt; refused == Some(TableRefusal::Missing(HostOp::Add)));
-    Ok(())
 }
 
 #[test]
-fn two_entries_of_one_operation(rt: HostRuntime) -> Result<(), Fail> {
-    let mut entries = Vec::new(rt.alloc());
-    entries.push(HostEntry::new(HostOp::Add, host_add))?;
-    entries.push(HostEntry::new(HostOp::Add, host_add))?;
-    let refused = HostTable::new(entries).err();
+fn two_entries_of_one_operation(rt: HostRuntime) {
+    let entries = Vec::from_array(
+        rt.alloc(),
+        [
+            HostEntry::new(HostOp::Add, host_add),
+            HostEntry::new(HostOp::Add, host_add),
+        ],
+    );
+    let refused = HostTable::new(entries.expect(&rt, "two entries")).err();
     assert!(rt; refused == Some(TableRefusal::Twice(HostOp::Add)));
-    Ok(())
 }

@@ -4,8 +4,8 @@ use rdx_lang::{Item, Kind, Language, Pat, Ranks, Ref};
 use rdx_leftrec::{LeftRec, check};
 use rdx_term::{Name, NoMemory};
 use std::alloc::Global;
+use std::process::Abort;
 use std::rc::RcStr;
-use std::test::Fail;
 
 // A pattern: `any`, `hole`, a nonterminal, `in-hole`, `hide-hole`, a closed one, or a list of one item.
 #[derive(Clone, Copy)]
@@ -62,41 +62,54 @@ fn name(alloc: Global, text: &str) -> Result<Name, NoMemory> {
     Name::new(text).ok_or(NoMemory)
 }
 
+fn boxed(alloc: Global, made: Result<Pat, NoMemory>) -> Result<Box<Pat>, NoMemory> {
+    Ok(Box::new(alloc, made?)?)
+}
+
+fn one_item(alloc: Global, made: Result<Pat, NoMemory>) -> Result<Vec<Item>, NoMemory> {
+    let mut items = Vec::new(alloc);
+    items.push(Item::One(made?))?;
+    Ok(items)
+}
+
 fn pattern(alloc: Global, shape: &Shape) -> Result<Pat, NoMemory> {
     match shape {
         Any => Ok(Pat::Kind(Kind::Any)),
         Hole => Ok(Pat::Hole),
         To(text) => Ok(Pat::Nt(Ref::Nt(name(alloc, text)?))),
         InHole(left, right) => {
-            let left = pattern(alloc, left)?;
-            let right = pattern(alloc, right)?;
-            Ok(Pat::InHole(Box::new(alloc, left)?, Box::new(alloc, right)?))
+            let left = boxed(alloc, pattern(alloc, left))?;
+            let right = boxed(alloc, pattern(alloc, right))?;
+            Ok(Pat::InHole(left, right))
         }
-        HideHole(inner) => {
-            let inner = pattern(alloc, inner)?;
-            Ok(Pat::HideHole(Box::new(alloc, inner)?))
-        }
-        Closed(inner) => {
-            let inner = pattern(alloc, inner)?;
-            Ok(Pat::Closed(Box::new(alloc, inner)?))
-        }
-        List(item) => {
-            let item = pattern(alloc, item)?;
-            let mut items = Vec::new(alloc);
-            items.push(Item::One(item))?;
-            Ok(Pat::Seq(items))
-        }
+        HideHole(inner) => Ok(Pat::HideHole(boxed(alloc, pattern(alloc, inner))?)),
+        Closed(inner) => Ok(Pat::Closed(boxed(alloc, pattern(alloc, inner))?)),
+        List(item) => Ok(Pat::Seq(one_item(alloc, pattern(alloc, item))?)),
     }
+}
+
+fn alternatives(alloc: Global, shapes: &[Shape]) -> Result<Vec<Pat>, NoMemory> {
+    let mut alternatives = Vec::new(alloc);
+    for shape in shapes {
+        alternatives.push(pattern(alloc, shape)?)?;
+    }
+    Ok(alternatives)
+}
+
+fn push_rule(
+    alloc: Global,
+    nts: &mut Vec<(Ref, Vec<Pat>)>,
+    (text, shapes): (&str, &[Shape]),
+) -> Result<(), NoMemory> {
+    let alternatives = alternatives(alloc, shapes)?;
+    nts.push((Ref::Nt(name(alloc, text)?), alternatives))?;
+    Ok(())
 }
 
 fn language(alloc: Global, rules: &[(&str, &[Shape])]) -> Result<Language, NoMemory> {
     let mut nts = Vec::new(alloc);
-    for (text, shapes) in rules {
-        let mut alternatives = Vec::new(alloc);
-        for shape in *shapes {
-            alternatives.push(pattern(alloc, shape)?)?;
-        }
-        nts.push((Ref::Nt(name(alloc, text)?), alternatives))?;
+    for rule in rules {
+        push_rule(alloc, &mut nts, *rule)?;
     }
     let name = name(alloc, "L")?;
     Ok(Language { name, nts })
@@ -111,21 +124,28 @@ fn is_named(found: &Result<Ranks, LeftRec>, expected: Option<&str>) -> bool {
     }
 }
 
-// Whether the check answers what the row says, of a language that is well formed.
-fn agrees(alloc: Global, row: Row) -> Result<bool, NoMemory> {
-    let (rules, expected) = row;
-    let language = language(alloc, rules)?;
+// Whether the check answers so of a language that is well formed.
+fn answers(alloc: Global, language: &Language, expected: Option<&str>) -> Result<bool, NoMemory> {
     if !language.is_well_formed(alloc)? {
         return Ok(false);
     }
-    let found = check(alloc, &language);
+    let found = check(alloc, language);
     Ok(is_named(&found, expected))
 }
 
-#[test]
-fn first_recursive_nonterminals(rt: HostRuntime) -> Result<(), Fail> {
-    for row in ROWS {
-        assert!(rt; agrees(rt.alloc(), row)?);
+// Whether the check answers what the row says, of a language that is well formed.
+fn agrees(alloc: Global, row: &Row) -> Result<bool, NoMemory> {
+    let (rules, expected) = row;
+    answers(alloc, &language(alloc, rules)?, *expected)
+}
+
+fn all_agree<R: Abort + AllocGlobal>(rt: &R, rows: &[Row]) {
+    for row in rows {
+        assert!(rt; agrees(rt.alloc(), row).expect(rt, "a language"));
     }
-    Ok(())
+}
+
+#[test]
+fn first_recursive_nonterminals(rt: HostRuntime) {
+    all_agree(&rt, &ROWS);
 }

@@ -1,20 +1,37 @@
 // The limits of depth and size.
 use rdx_term::{Build, NoMemory, Term, list, text_of};
 use std::alloc::Global;
-use std::test::Fail;
 
 // From one node to 2,000,000: each step makes a list of so many shares of the term before.
 const STEPS: [u8; 26] = [
     1, 2, 1, 2, 1, 2, 2, 1, 2, 2, 2, 2, 2, 1, 2, 2, 2, 1, 2, 2, 2, 2, 2, 2, 2, 1,
 ];
 
-// A list of so many shares of the term.
-fn list_of_shares(alloc: Global, term: &Term, copies: u8) -> Result<Term, Build> {
+fn shares(alloc: Global, term: &Term, copies: u8) -> Result<Vec<Term>, NoMemory> {
     let mut items = Vec::new(alloc);
     for _ in 0..copies {
         items.push(term.share()?)?;
     }
-    list(alloc, items)
+    Ok(items)
+}
+
+fn boxed(alloc: Global, made: Result<Term, Build>) -> Result<Box<Term>, Build> {
+    Ok(Box::new(alloc, made?)?)
+}
+
+// A list of so many shares of the term.
+fn list_of_shares(alloc: Global, term: &Term, copies: u8) -> Result<Box<Term>, Build> {
+    let items = shares(alloc, term, copies)?;
+    boxed(alloc, list(alloc, items))
+}
+
+// The hole in lists, one for each step, of so many shares of the term before.
+fn tower(alloc: Global, steps: &[u8]) -> Result<Box<Term>, Build> {
+    let mut term = boxed(alloc, Ok(Term::Hole))?;
+    for copies in steps {
+        term = list_of_shares(alloc, &term, *copies)?;
+    }
+    Ok(term)
 }
 
 fn printed_length(alloc: Global, term: &Term) -> Result<usize, NoMemory> {
@@ -23,39 +40,32 @@ fn printed_length(alloc: Global, term: &Term) -> Result<usize, NoMemory> {
     Ok(out.len())
 }
 
-// The hole in so many lists of one item.
-fn nested(alloc: Global, levels: u16) -> Result<Term, Build> {
-    let mut term = Term::Hole;
-    for _ in 0..levels {
-        term = list_of_shares(alloc, &term, 1)?;
-    }
-    Ok(term)
+fn is_same(term: &Term, other: &Term) -> bool {
+    term.same(other) && term.same_bare(other)
 }
 
-fn two_million_nodes(alloc: Global) -> Result<Term, Build> {
-    let mut term = Term::Hole;
-    for copies in STEPS {
-        term = list_of_shares(alloc, &term, copies)?;
-    }
-    Ok(term)
+fn is_same_as_its_share(term: &Term) -> Result<bool, NoMemory> {
+    Ok(is_same(term, &term.share()?))
 }
 
 #[test]
-fn deepest(rt: HostRuntime) -> Result<(), Fail> {
+fn deepest(rt: HostRuntime) {
     let alloc = rt.alloc();
-    let term = nested(alloc, 500)?;
-    let other = term.share()?;
-    assert!(rt; term.depth() == 500 && term.same(&other) && term.same_bare(&other));
-    assert!(rt; printed_length(alloc, &term)? == 1004);
-    assert!(rt; matches!(nested(alloc, 501), Err(Build::TooDeep)));
-    Ok(())
+    let term = tower(alloc, &[1; 500]).expect(&rt, "a term");
+    assert!(rt; term.depth() == 500);
+    assert!(rt; is_same_as_its_share(&term).expect(&rt, "a share"));
+    assert!(rt; printed_length(alloc, &term).expect(&rt, "a text") == 1004);
 }
 
 #[test]
-fn largest(rt: HostRuntime) -> Result<(), Fail> {
+fn too_deep(rt: HostRuntime) {
+    assert!(rt; matches!(tower(rt.alloc(), &[1; 501]), Err(Build::TooDeep)));
+}
+
+#[test]
+fn largest(rt: HostRuntime) {
     let alloc = rt.alloc();
-    let term = two_million_nodes(alloc)?;
+    let term = tower(alloc, &STEPS).expect(&rt, "a term");
     assert!(rt; term.nodes() == 2_000_000);
     assert!(rt; matches!(list_of_shares(alloc, &term, 2), Err(Build::TooLarge)));
-    Ok(())
 }
