@@ -1,13 +1,9 @@
 // Two values of one name are no binding.
+use crate::making::name;
 use rdx_bind::{join, join_into, one};
 use rdx_lang::{Binding, Value};
-use rdx_term::{Name, NoMemory, Term};
+use rdx_term::{NoMemory, Term};
 use std::alloc::Global;
-use std::rc::RcStr;
-
-fn name(alloc: Global, text: &str) -> Result<Name, NoMemory> {
-    Name::new(RcStr::from_str(alloc, text)?).ok_or(NoMemory)
-}
 
 // The name `x` for this number.
 fn number(alloc: Global, n: i128) -> Result<Binding, NoMemory> {

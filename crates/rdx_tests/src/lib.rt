@@ -14,6 +14,8 @@ mod data;
 #[cfg(test)]
 mod ends;
 #[cfg(test)]
+mod making;
+#[cfg(test)]
 mod matchers;
 #[cfg(test)]
 mod operations;

@@ -1,6 +1,7 @@
 // Both matchers side by side, and what an engine with a matcher is asked by name.
 ghost use Rattle.std.specs.Prelude.{◌≤◌, length};
 
+use crate::making::name;
 use crate::operations::host_table;
 use rdx_delta::HostTable;
 use rdx_eval::Engine;
@@ -12,17 +13,12 @@ use rdx_table::Table;
 use rdx_term::{Build, Name, NoMemory, Term, list};
 use std::alloc::Global;
 use std::process::Abort;
-use std::rc::RcStr;
 
 fn checked<R: Abort + AllocGlobal>(rt: &R, bytes: &[u8]) -> CheckedFile
     requires { length bytes.now ≤ 1_048_576 }
 {
     let data = read_all(rt.alloc(), bytes).expect(rt, "data");
     check_file(rt.alloc(), &data).expect(rt, "a file that is accepted")
-}
-
-fn name(alloc: Global, text: &str) -> Result<Name, NoMemory> {
-    Name::new(RcStr::from_str(alloc, text)?).ok_or(NoMemory)
 }
 
 // Names, contexts, repetitions with and without length names, and what matches in several ways.

@@ -1,11 +1,11 @@
 // The check for left recursion: by the left part of `in-hole`, and with closed patterns, which no file writes.
+use crate::making::name;
 use Shape::{Any, Closed, HideHole, Hole, InHole, List, To};
 use rdx_lang::{Item, Kind, Language, Pat, Ranks, Ref};
 use rdx_leftrec::{LeftRec, check};
-use rdx_term::{Name, NoMemory};
+use rdx_term::NoMemory;
 use std::alloc::Global;
 use std::process::Abort;
-use std::rc::RcStr;
 
 // A pattern: `any`, `hole`, a nonterminal, `in-hole`, `hide-hole`, a closed one, or a list of one item.
 #[derive(Clone, Copy)]
@@ -56,11 +56,6 @@ const ROWS: [Row; 5] = [
         Some("E"),
     ),
 ];
-
-fn name(alloc: Global, text: &str) -> Result<Name, NoMemory> {
-    let text = RcStr::from_str(alloc, text)?;
-    Name::new(text).ok_or(NoMemory)
-}
 
 fn boxed(alloc: Global, made: Result<Pat, NoMemory>) -> Result<Box<Pat>, NoMemory> {
     Ok(Box::new(alloc, made?)?)

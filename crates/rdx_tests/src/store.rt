@@ -1,4 +1,5 @@
 // Terms that are built twice have one id.
+use crate::making::boxed;
 use rdx_store::Store;
 use rdx_term::{Build, NoMemory, Term, list};
 use std::alloc::Global;
@@ -11,10 +12,6 @@ fn numbers(alloc: Global, first: i128, second: i128) -> Result<Vec<Term>, NoMemo
 fn push(items: &mut Vec<Term>, made: Result<Term, Build>) -> Result<(), Build> {
     items.push(made?)?;
     Ok(())
-}
-
-fn boxed(alloc: Global, made: Result<Term, Build>) -> Result<Box<Term>, Build> {
-    Ok(Box::new(alloc, made?)?)
 }
 
 // The list of both, twice in a list.

@@ -1,4 +1,5 @@
 // The limits of depth and size.
+use crate::making::boxed;
 use rdx_term::{Build, NoMemory, Term, list, text_of};
 use std::alloc::Global;
 
@@ -13,10 +14,6 @@ fn shares(alloc: Global, term: &Term, copies: u8) -> Result<Vec<Term>, NoMemory>
         items.push(term.share()?)?;
     }
     Ok(items)
-}
-
-fn boxed(alloc: Global, made: Result<Term, Build>) -> Result<Box<Term>, Build> {
-    Ok(Box::new(alloc, made?)?)
 }
 
 // A list of so many shares of the term.
