@@ -15,7 +15,7 @@
   [(look-up ((x v) (x_1 v_1) ...) x) v]
   [(look-up ((x_1 v_1) (x_2 v_2) ...) x) (look-up ((x_2 v_2) ...) x)])
 
-; A premise binds the names at its outputs for the premises behind it: the body of a function is evaluated where the
+; A premise binds the names at its outputs for the premises after it: the body of a function is evaluated where the
 ; function was made.
 (define-judgment-form Eval
   #:mode (evaluates I I O)

@@ -25,7 +25,7 @@
 (apply-reduction-relation/tag-with-names at-head (term (((S K) K) a)))
 (apply-reduction-relation/tag-with-names at-head (term ((K a) (K a))))
 
-;; The head of a term under a variable takes no step, though something behind it does.
+;; The head of a term under a variable takes no step, though something after it does.
 (apply-reduction-relation anywhere (term (((I a) (I b)) c)))
 (apply-reduction-relation at-head (term (((I a) (I b)) c)))
 (apply-reduction-relation anywhere (term (a (I b))))

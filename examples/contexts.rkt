@@ -18,6 +18,6 @@
 (redex-decompose L (f C 3) (term (f (1 2) 3)))
 (redex-decompose L (f C 3) (term (f (1 2) 4)))
 
-; Behind hide-hole nothing is split: what stands there is matched as a whole.
+; Inside hide-hole nothing is split: what stands there is matched as a whole.
 (redex-decompose L D (term (f (d 1))))
 (redex-match L D (term (f (d hole))))

@@ -27,9 +27,9 @@
 ; What binds no name tells no ways apart: here the answers are the variables that stand twice.
 (redex-match Lambda (lambda (_ ... x _ ... x _ ...) e) (term (lambda (a b a c b) 1)))
 
-; Contexts that compute arguments from left to right: values stand before the hole, expressions behind it.
+; Contexts that compute arguments from left to right: values stand before the hole, expressions after it.
 (redex-decompose Lambda (v_1 ... hole e_1 ...) (term (1 (f 2) 3)))
 
-; The call that is to be computed next. The one behind it has to wait.
+; The call that is to be computed next. The one after it has to wait.
 (redex-match Lambda (in-hole E ((lambda (x ..._n) e) v ..._n))
   (term ((lambda (a b) b) ((lambda () 1)) ((lambda (c) c) 2))))

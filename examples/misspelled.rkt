@@ -17,7 +17,7 @@
 (apply-reduction-relation/tag-with-names right (term (+ (twice 1) 5)))
 (test-->> right (term (+ (twice 1) 5)) (term 7))
 
-; In a template: number1 is not number_1 but a symbol, and goes into the result. The run rests there.
+; In a template: number1 is not number_1 but a symbol, and goes into the result, as number_7 would. The run rests there.
 (define a-name
   (reduction-relation Sums
     (--> (in-hole E (twice number_1)) (in-hole E (+ number_1 number1)) twice))) ; <--
@@ -66,8 +66,8 @@
    (evaluates (+ e_1 e_2) ,(+ (term number_1) (term number_2)))])
 (judgment-holds (evaluates (+ 1 2) number) number)
 
-; In an output: the symbol e_3 is what the second rule gives, in the place of 1 (Redex refuses names with a suffix that nothing
-; binds). The first query asks for outputs that are an e, so e_3 is none of its answers; the second one shows it.
+; In an output: the symbol e_3 is what the second rule gives, in the place of 1 (Redex refuses this rule). The first query asks
+; for outputs that are an e, so e_3 is none of its answers; the second one shows it.
 (define-judgment-form Sums
   #:mode (first-part I O)
   [(first-part e e)]

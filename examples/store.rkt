@@ -1,7 +1,7 @@
 #lang racket
 (require redex)
 ; Cells that change: the store is a part of the program, a list of locations with what they hold, and evaluation contexts
-; say where the program is. A new cell gets the location behind the last one.
+; say where the program is. A new cell gets the location after the last one.
 (define-language Store
   (p (s e))
   (s ((l v) ...))
