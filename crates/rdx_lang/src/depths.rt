@@ -17,7 +17,7 @@ pub struct Depths {
 }
 
 impl Depths {
-    ghost use Rattle.std.specs.Prelude.{◌≡◌, [], IfOk, IsTrue};
+    ghost use Rattle.std.specs.Prelude.{◌≡◌, [], IfOk, OnErr, IsTrue, IsFalse};
     ghost use Rattle.std.specs.List.{list_all};
     ghost use Rattle.rdx_lang.specs.Depths.{agree};
     ghost use Rattle.rdx_lang.specs.Met.{met, use_of, IsMet};
@@ -32,12 +32,14 @@ impl Depths {
     }
 
     /// Meets a name at a depth, as a length name or not. The answer is false where it was met before
-    /// at another depth or as the other kind; then it counts for nothing.
+    /// at another depth or as the other kind; then, and for want of memory, it counts for nothing.
     pub fn meet(&mut self, name: &Name, depth: usize, is_length: bool) -> Result<bool, NoMemory>
         ensures fits { IfOk result (λ fits.
             fits ≡ list_all (agree (use_of name.now depth is_length)) (met self.old)) }
         ensures met { IfOk result (λ fits.
             IsTrue fits → IsMet self.old self.new (use_of name.now depth is_length)) }
+        ensures not_met { IfOk result (λ fits. IsFalse fits → met self.new ≡ met self.old) }
+        ensures no_memory { OnErr result (met self.new ≡ met self.old) }
     {
         let key = Key::new(name.share()?);
         match self.seen.get(&key) {
