@@ -3,6 +3,7 @@ use Rattle.std.specs.Prelude.{ℕ, List, [], ◌∷◌, map, Option}
 use Rattle.rdx_term.specs.View.{tree_of}
 use Rattle.rdx_lang.specs.Patterns.{Pattern, wild, of_kind, except, prefix, hole, lit, nt, named, in_hole, hide_hole, closed, seq, Items, nil, one, many, Definition, Language}
 use Rattle.rdx_lang.specs.declared.language.Language as code_language
+use Rattle.rdx_lang.specs.declared.language.Ranks as code_ranks
 use Rattle.rdx_lang.specs.declared.pattern.Item as code_item
 use Rattle.rdx_lang.specs.declared.pattern.Item.TheOpen as layer
 use Rattle.rdx_lang.specs.declared.pattern.Pat as code_pattern
@@ -60,3 +61,7 @@ definition_of d = (d.0, patterns_of d.1.items)
 -- the language that a language of the code stands for
 abbrev pub language_of : code_language.Language → Language
 language_of l = record { name = l.name; nonterminals = map definition_of l.nts.items }
+
+-- the numbers of a language's nodes, in their order
+abbrev pub ranks_of : code_ranks.Ranks → List ℕ
+ranks_of r = r.of.items

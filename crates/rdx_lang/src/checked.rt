@@ -1,6 +1,6 @@
 // Languages and patterns that have passed their checks.
 ghost use Rattle.std.proofs.Props.{props};
-ghost use Rattle.rdx_lang.specs.PatternView.{language_of};
+ghost use Rattle.rdx_lang.specs.PatternView.{language_of, ranks_of};
 ghost use Rattle.rdx_lang.specs.Ranks.{AreRanks};
 ghost use Rattle.rdx_lang.specs.Model.RankProps.{AreRanks-prop};
 ghost use Rattle.rdx_lang.specs.WellFormed.{IsWellFormed};
@@ -18,7 +18,7 @@ pub struct CheckedLang {
     language: Language,
     ranks: Ranks,
     pub ghost well_formed: { IsWellFormed (language_of language) } by { Prim.hlevel props },
-    pub ghost ranked: { AreRanks (language_of language) ranks.of.items } by { AreRanks-prop _ _ },
+    pub ghost ranked: { AreRanks (language_of language) (ranks_of ranks) } by { AreRanks-prop _ _ },
 }
 
 impl CheckedLang {
@@ -31,9 +31,9 @@ impl CheckedLang {
     /// The checked language.
     pub fn new(language: Language, ranks: Ranks) -> CheckedLang
         requires well_formed { IsWellFormed (language_of language) }
-        requires ranked { AreRanks (language_of language) ranks.of.items }
+        requires ranked { AreRanks (language_of language) (ranks_of ranks) }
         ensures language { language_in result ≡ language_of language }
-        ensures ranks { ranks_in result ≡ ranks.of.items }
+        ensures ranks { ranks_in result ≡ ranks_of ranks }
     {
         CheckedLang { language, ranks }
     }
@@ -48,7 +48,7 @@ impl CheckedLang {
 
     /// Its ranks.
     pub fn ranks(&self) -> &Ranks
-        ensures value { result.now.of.items ≡ ranks_in self.now }
+        ensures value { ranks_of result.now ≡ ranks_in self.now }
         ensures ranked { AreRanks (language_in self.now) (ranks_in self.now) }
     {
         &self.ranks
@@ -67,9 +67,9 @@ impl CheckedLang {
     /// The language and its ranks, each by itself.
     pub fn into_parts(self) -> (Language, Ranks)
         ensures language { language_of result.0 ≡ language_in self }
-        ensures ranks { result.1.of.items ≡ ranks_in self }
+        ensures ranks { ranks_of result.1 ≡ ranks_in self }
         ensures well_formed { IsWellFormed (language_of result.0) }
-        ensures ranked { AreRanks (language_of result.0) result.1.of.items }
+        ensures ranked { AreRanks (language_of result.0) (ranks_of result.1) }
     {
         (self.language, self.ranks)
     }

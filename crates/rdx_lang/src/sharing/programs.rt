@@ -2,7 +2,7 @@
 ghost use Rattle.std.specs.Prelude.{◌≡◌, IfOk, option_map};
 ghost use Rattle.std.specs.Rc.{rc_str_bytes};
 ghost use Rattle.rdx_lang.specs.Checked.{pattern_in};
-ghost use Rattle.rdx_lang.specs.ProgramView.{premise_of, extra_of, extras_of};
+ghost use Rattle.rdx_lang.specs.ProgramView.{premise_of, extra_of, extras_of, rule_of, relation_of};
 
 use super::templates::share_templates;
 use crate::{CheckedPat, Extra, Premise, Relation, Rule};
@@ -46,8 +46,7 @@ impl Extra {
 impl Rule {
     /// The same name once more, where the rule has one; its text is shared.
     pub fn share_name(&self) -> Result<Option<RcStr>, NoMemory>
-        ensures { IfOk result (λ name. option_map rc_str_bytes name
-            ≡ option_map rc_str_bytes self.now.name) }
+        ensures { IfOk result (λ name. option_map rc_str_bytes name ≡ (rule_of self.now).name) }
     {
         match &self.name {
             Some(text) => Ok(Some(text.clone()?)),
@@ -57,7 +56,7 @@ impl Rule {
 
     /// The same extras once more; their names and terms are shared.
     pub fn share_extras(&self, alloc: Global) -> Result<Vec<Extra>, NoMemory>
-        ensures { IfOk result (λ extras. extras_of extras.items ≡ extras_of self.now.extras.items) }
+        ensures { IfOk result (λ extras. extras_of extras.items ≡ (rule_of self.now).extras) }
     {
         let mut shared = Vec::new(alloc);
         for extra in &self.extras {
@@ -71,7 +70,7 @@ impl Relation {
     /// The same domain once more, where the relation has one; its names and terms are shared.
     pub fn share_domain(&self, alloc: Global) -> Result<Option<CheckedPat>, NoMemory>
         ensures { IfOk result (λ domain. option_map pattern_in domain
-            ≡ option_map pattern_in self.now.domain) }
+            ≡ (relation_of self.now).domain) }
     {
         match &self.domain {
             Some(pat) => Ok(Some(pat.share(alloc)?)),
