@@ -1,8 +1,8 @@
 -- Left recursion of a completed language is seen in the nonterminals that are no cross nonterminals.
-use Rattle.std.proofs.Common.{◌≡◌, ℕ, ◌⊎◌, inl, inr, false, List, [], ◌∷◌, ◌++◌, map, refl, ap, sym, subst, if◌then◌else◌}
+use Rattle.std.proofs.Common.{◌≡◌, ◌∙◌, ℕ, ◌⊎◌, inl, inr, false, List, [], ◌∷◌, ◌++◌, map, refl, ap, sym, subst, if◌then◌else◌}
 use Rattle.std.specs.Prelude.{bytes_eq}
 use Rattle.std.proofs.lemmas.Bool.{both_ways}
-use Rattle.rdx_lang.specs.CrossLaws.{HasNoCrosses, HasItsCrosses, CompletedHasIts, RecursiveIsPlain, FirstIsPlain, WithoutHasNone}
+use Rattle.rdx_lang.specs.CrossLaws.{HasNoCrosses, HasItsCrosses, CompletedHasIts, LeavesNoneOut, CompletedLeavesNoneOut, RecursiveIsPlain, FirstIsPlain, WithoutHasNone}
 use Rattle.rdx_lang.specs.Crosses.{unnamed, crossed, crossed_alternatives, cross_alternatives, language_ways, completed, plain_definitions}
 use Rattle.rdx_lang.specs.Edges.{Edge, IsRecursive}
 use Rattle.rdx_lang.specs.Lookup.{alternatives_among}
@@ -13,10 +13,11 @@ use Rattle.rdx_lang.specs.Rules.{IsAlternative}
 use Rattle.rdx_lang.specs.WellFormed.{defined}
 use Rattle.rdx_lang.specs.declared.pattern.Ref.TheVariants.{Nt, Cross}
 use Rattle.rdx_lang.proofs.CrossWays.{recursive-from}
+use Rattle.rdx_lang.proofs.DefinedNonterminals.{has-definition, defined-either}
 use Rattle.rdx_lang.proofs.LeftEdges.{edge-nt, edge-hole, first-edge}
 use Rattle.rdx_lang.proofs.LookupLaws.{is_among-defined}
-use Rattle.rdx_lang.proofs.MemberLaws.{in-append, append-right}
-use Rattle.rdx_lang.proofs.NewCrosses.{of_cross-from, of_cross-to, cross-not-plain, with_definitions, AreNewCrosses, AreCrosses, no-new-plain, alternative-cases, ways-keep, alternative-source}
+use Rattle.rdx_lang.proofs.MemberLaws.{in-append, append-left, append-right}
+use Rattle.rdx_lang.proofs.NewCrosses.{of_cross-from, of_cross-to, cross-not-plain, with_definitions, IsNewCross, AreNewCrosses, AreCrosses, no-new-plain, alternative-cases, ways-keep, alternative-source}
 
 -- ---- each cross nonterminal has its alternatives
 
@@ -51,6 +52,36 @@ its-kept L w es new h x y q a =
 pub completed_has_its : CompletedHasIts
 completed_has_its L n = ways-keep HasItsCrosses its-kept L (language_ways L)
     (λ x y q a. absurd (both_ways (is_among (Cross x y) (defined L)) (n x y) (is_among-defined (Cross x y) a.all L.nonterminals a.defined)))
+
+-- the alternatives of a new cross nonterminal to w are those that it should have
+all-added : (L : Language) (w x y : List ℕ) (ps : List Pattern) → IsNewCross L w (Cross x y, ps) → ps ≡ cross_alternatives L x y
+all-added L w x y ps b =
+    let e : Cross x y ≡ Cross b.from w = ap (λ (d : Definition). d.0) b.is in
+    ap (λ (d : Definition). d.1) b.is ∙ (λ i. cross_alternatives L (of_cross-from (sym e) i) (of_cross-to (sym e) i))
+
+-- where none is left out, none is with new ones to w
+none-left-out : (L : Language) (w : List ℕ) (es : List Definition) → AreNewCrosses L w es → LeavesNoneOut L → LeavesNoneOut (with_definitions L es)
+none-left-out L w es new h x y d q i = elim (defined-either (Cross x y) L.nonterminals es d) [
+  | inl e ↦
+      let a = h x y e q before in
+      record { all = a.all; defined = append-left L.nonterminals es (Cross x y, a.all) a.defined; among = a.among }
+  | inr e ↦
+      let k = has-definition (Cross x y) es e in
+      let b : k.0 ≡ cross_alternatives L x y = all-added L w x y k.0 (new (Cross x y, k.0) k.1) in
+      record {
+        all = k.0;
+        defined = append-right L.nonterminals es (Cross x y, k.0) k.1;
+        among = subst (λ ps. In q ps) (sym b) before;
+      }
+]
+  where
+    before : In q (cross_alternatives L x y)
+    before = subst (λ ps. In q ps) (alternatives-stay L es x y (no-new-plain L w es new)) i
+
+-- so none is in a completed language
+pub completed_leaves_none_out : CompletedLeavesNoneOut
+completed_leaves_none_out L n = ways-keep LeavesNoneOut none-left-out L (language_ways L)
+    (λ x y d q i. absurd (both_ways (is_among (Cross x y) (defined L)) (n x y) d))
 
 -- ---- left recursion
 

@@ -81,7 +81,16 @@ HasItsCrosses L = (x y : List ℕ) (q : Pattern) → IsAlternative L (Cross x y)
 abbrev pub CompletedHasIts : Type 0
 CompletedHasIts = (L : Language) → HasNoCrosses L → HasItsCrosses (completed L)
 
--- there a cross nonterminal is left-recursive only where the nonterminal is that it leads from
+-- each alternative that a cross nonterminal of the language should have is one of it
+abbrev pub LeavesNoneOut : Language → Type 0
+LeavesNoneOut L =
+    (x y : List ℕ) → IsTrue (is_among (Cross x y) (defined L)) → (q : Pattern) → In q (cross_alternatives L x y) → IsAlternative L (Cross x y) q
+
+-- a completed language leaves none out
+abbrev pub CompletedLeavesNoneOut : Type 0
+CompletedLeavesNoneOut = (L : Language) → HasNoCrosses L → LeavesNoneOut (completed L)
+
+-- where a cross nonterminal has none but those that it should have, it is left-recursive only where the nonterminal is that it leads from
 abbrev pub RecursiveIsPlain : Type 0
 RecursiveIsPlain = (L : Language) → HasItsCrosses L → (x y : List ℕ) → IsRecursive L (Cross x y) → IsRecursive L (Nt x)
 

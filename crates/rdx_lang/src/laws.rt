@@ -8,7 +8,7 @@ ghost use Rattle.rdx_lang.specs.RepetitionExamples.{EachDivision, NoTurn, EqualL
 ghost use Rattle.rdx_lang.specs.TemplateExamples.{UnderEllipsis, UnderNone, OuterUndriven, BothDriven, NothingDrives, NotBound, CallDriven, NoMetafunction, HostDriven, HostUnderNone};
 ghost use Rattle.rdx_lang.specs.VariantLaws.{FirstIsFree, SecondNumber, MarkBetween, NotTaken};
 ghost use Rattle.rdx_lang.specs.CrossExamples.{CrossOfSums, OtherHasNoHole, RepetitionIsSplit, NestedAreSplit, NoPlaces, AddedInOrder, WithoutIsBefore, CrossesMatter};
-ghost use Rattle.rdx_lang.specs.CrossLaws.{CrossesWellFormed, CrossesFree, PatternsStay, PlainNamesStay, CrossesOnce, CrossesThere, PatternsGetTheirs, CompletedWellFormed, CompletedHasIts, RecursiveIsPlain, FirstIsPlain, WithoutHasNone};
+ghost use Rattle.rdx_lang.specs.CrossLaws.{CrossesWellFormed, CrossesFree, PatternsStay, PlainNamesStay, CrossesOnce, CrossesThere, PatternsGetTheirs, CompletedWellFormed, CompletedHasIts, CompletedLeavesNoneOut, RecursiveIsPlain, FirstIsPlain, WithoutHasNone};
 ghost use Rattle.rdx_lang.specs.Laws.{OneListing, OneSplitsListing, SomeListing, SomeSplitsListing, OneJoin, JoinAgrees, JoinExists, NamesAscend, BindsAMap, BindsItsNames, SplitBindsAMap, SplitBindsItsNames, SplitFills, SplitHasPath, WholeIsEmpty, EmptySplitsAll, EmptyIsDecided, FreeOrRecursive, RanksFall, EdgesFall, RankedIsFree};
 
 /// The order of values is total, and values that it doesn't tell apart are equal.
@@ -166,12 +166,14 @@ pub fn crosses_stay()
     ensures there { CrossesThere }
 {}
 
-/// What speaks of cross nonterminals is well formed once the language has those that it needs.
-/// Left recursion is then seen in the nonterminals that are no cross nonterminals.
+/// What speaks of cross nonterminals is well formed once the language has those that it needs. These
+/// then have exactly the alternatives that they should have, and left recursion is seen in the
+/// nonterminals that are no cross nonterminals.
 pub fn crosses_complete()
     ensures patterns { PatternsGetTheirs }
     ensures well_formed { CompletedWellFormed }
     ensures its { CompletedHasIts }
+    ensures all { CompletedLeavesNoneOut }
     ensures recursive { RecursiveIsPlain }
     ensures first { FirstIsPlain }
     ensures without { WithoutHasNone }

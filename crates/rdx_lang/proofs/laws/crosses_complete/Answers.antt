@@ -1,5 +1,5 @@
 use Rattle.rdx_lang.proofs.CompletedLanguages.{patterns_get_theirs, completed_well_formed}
-use Rattle.rdx_lang.proofs.PlainRecursion.{completed_has_its, recursive_is_plain, first_is_plain, without_has_none}
+use Rattle.rdx_lang.proofs.PlainRecursion.{completed_has_its, completed_leaves_none_out, recursive_is_plain, first_is_plain, without_has_none}
 use Rattle.rdx_lang.proofs.laws.crosses_complete.Goals as goal
 
 pub returns-clause-patterns : goal.returns-clause-patterns
@@ -10,6 +10,9 @@ returns-clause-well_formed c = completed_well_formed
 
 pub returns-clause-its : goal.returns-clause-its
 returns-clause-its c = completed_has_its
+
+pub returns-clause-all : goal.returns-clause-all
+returns-clause-all c = completed_leaves_none_out
 
 pub returns-clause-recursive : goal.returns-clause-recursive
 returns-clause-recursive c = recursive_is_plain
