@@ -28,11 +28,11 @@ module _ (L : Language) (y : List ℕ) (k : KnowsAll L) where
   Old p = has_known_nonterminals (defined L) p ≡ true
 
   -- each alternative does
-  alternative-old : (x : Ref) (p : Pattern) → IsAlternative L x p → Old p
+  pub alternative-old : (x : Ref) (p : Pattern) → IsAlternative L x p → Old p
   alternative-old x p a = alternative-passes (has_known_nonterminals (defined L)) L x p k a
 
   -- a nonterminal that was there keeps its alternatives
-  old-alternative : (x : Ref) (p : Pattern) → is_among x (defined L) ≡ true → IsAlternative (with_crosses L y) x p → IsAlternative L x p
+  pub old-alternative : (x : Ref) (p : Pattern) → is_among x (defined L) ≡ true → IsAlternative (with_crosses L y) x p → IsAlternative L x p
   old-alternative x p h a = elim (alternative-cases L y (new_crosses L y) (all-new L y) x p a) [
     | inl b ↦ b
     | inr b ↦ absurd (both_ways (is_among x (defined L)) (ap (λ z. is_among z (defined L)) b.is ∙ b.absent) h)

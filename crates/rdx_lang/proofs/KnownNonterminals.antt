@@ -33,7 +33,7 @@ module _ (xs : List Ref) where
   known-parts p q h = and_parts (has_known_nonterminals xs p) (has_known_nonterminals xs q) h
 
   -- those of a pattern and items
-  item-parts : (p : Pattern) (ps : Items) → (has_known_nonterminals xs p && have_known_nonterminals xs ps) ≡ true → Known p × AllKnown ps
+  pub item-parts : (p : Pattern) (ps : Items) → (has_known_nonterminals xs p && have_known_nonterminals xs ps) ≡ true → Known p × AllKnown ps
   item-parts p ps h = and_parts (has_known_nonterminals xs p) (have_known_nonterminals xs ps) h
 
   mutual

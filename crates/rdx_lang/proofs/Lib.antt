@@ -50,5 +50,8 @@ pub mod FreeWithCrosses
 pub mod CrossesAgain
 pub mod CompletedLanguages
 pub mod PlainRecursion
+pub mod LanguageLiterals
+pub mod KeptRules
+pub mod CrossesUnseen
 pub mod CrossExamples
 pub mod ClosedRules

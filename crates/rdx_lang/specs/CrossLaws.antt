@@ -1,11 +1,15 @@
 -- Laws of cross nonterminals.
-use Rattle.std.specs.Prelude.{◌≡◌, ℕ, List, ◌++◌, map, flat_map, IsTrue, IsFalse}
+use Rattle.std.specs.Prelude.{◌≡◌, ◌↔◌, ℕ, List, ◌++◌, map, flat_map, IsTrue, IsFalse}
+use Rattle.rdx_term.specs.Tree.{Tree}
+use Rattle.rdx_lang.specs.Bindings.{Binding}
 use Rattle.rdx_lang.specs.Crosses.{plain_names, cross_alternatives, with_crosses, with_crosses_to, Way, language_ways, completed, without_crosses}
+use Rattle.rdx_lang.specs.Decompositions.{Decomposition}
 use Rattle.rdx_lang.specs.Edges.{IsRecursive, IsFirstRecursive, IsFree}
+use Rattle.rdx_lang.specs.Listing.{Matches, Splits}
 use Rattle.rdx_lang.specs.Members.{In}
 use Rattle.rdx_lang.specs.Patterns.{Pattern, Language}
 use Rattle.rdx_lang.specs.References.{is_among, are_distinct}
-use Rattle.rdx_lang.specs.Rules.{IsAlternative}
+use Rattle.rdx_lang.specs.Rules.{IsAlternative, Match, Split}
 use Rattle.rdx_lang.specs.WellFormed.{defined, is_well_formed, is_well_formed_in, all_alternatives, IsWellFormed}
 use Rattle.rdx_lang.specs.declared.pattern.Ref.{Ref}
 use Rattle.rdx_lang.specs.declared.pattern.Ref.TheVariants.{Nt, Cross}
@@ -39,6 +43,30 @@ abbrev pub CrossesThere : Type 0
 CrossesThere =
     (L : Language) (y : List ℕ) (ys : List (List ℕ)) (x : List ℕ)
     → IsTrue (is_among (Nt x) (defined L)) → IsTrue (is_among (Cross x y) (defined (with_crosses_to (with_crosses L y) ys)))
+
+-- what was well formed before matches the same terms, with the same bindings
+abbrev pub CrossesChangeNoMatch : Type 0
+CrossesChangeNoMatch =
+    (L : Language) (ys : List (List ℕ)) (p : Pattern) → IsWellFormed L → IsTrue (is_well_formed_in L p)
+    → (t : Tree) (b : Binding) → (Match L p t b ↔ Match (with_crosses_to L ys) p t b)
+
+-- and splits them in the same ways
+abbrev pub CrossesChangeNoSplit : Type 0
+CrossesChangeNoSplit =
+    (L : Language) (ys : List (List ℕ)) (p : Pattern) → IsWellFormed L → IsTrue (is_well_formed_in L p)
+    → (t C s : Tree) (b : Binding) → (Split L p t C s b ↔ Split (with_crosses_to L ys) p t C s b)
+
+-- so the listings of its matches are the same
+abbrev pub CrossesChangeNoListing : Type 0
+CrossesChangeNoListing =
+    (L : Language) (ys : List (List ℕ)) (p : Pattern) → IsWellFormed L → IsTrue (is_well_formed_in L p)
+    → (t : Tree) (bs : List Binding) → (Matches L p t bs ↔ Matches (with_crosses_to L ys) p t bs)
+
+-- and those of its splits
+abbrev pub CrossesChangeNoSplitsListing : Type 0
+CrossesChangeNoSplitsListing =
+    (L : Language) (ys : List (List ℕ)) (p : Pattern) → IsWellFormed L → IsTrue (is_well_formed_in L p)
+    → (t : Tree) (ds : List Decomposition) → (Splits L p t ds ↔ Splits (with_crosses_to L ys) p t ds)
 
 -- ---- what is read, which may speak of cross nonterminals before the language has them
 

@@ -8,7 +8,7 @@ ghost use Rattle.rdx_lang.specs.RepetitionExamples.{EachDivision, NoTurn, EqualL
 ghost use Rattle.rdx_lang.specs.TemplateExamples.{UnderEllipsis, UnderNone, OuterUndriven, BothDriven, NothingDrives, NotBound, CallDriven, NoMetafunction, HostDriven, HostUnderNone};
 ghost use Rattle.rdx_lang.specs.VariantLaws.{FirstIsFree, SecondNumber, MarkBetween, NotTaken};
 ghost use Rattle.rdx_lang.specs.CrossExamples.{CrossOfSums, OtherHasNoHole, RepetitionIsSplit, NestedAreSplit, NoPlaces, AddedInOrder, WithoutIsBefore, CrossesMatter};
-ghost use Rattle.rdx_lang.specs.CrossLaws.{CrossesWellFormed, CrossesFree, PatternsStay, PlainNamesStay, CrossesOnce, CrossesThere, PatternsGetTheirs, CompletedWellFormed, CompletedHasIts, CompletedLeavesNoneOut, RecursiveIsPlain, FirstIsPlain, WithoutHasNone};
+ghost use Rattle.rdx_lang.specs.CrossLaws.{CrossesWellFormed, CrossesFree, PatternsStay, PlainNamesStay, CrossesOnce, CrossesThere, CrossesChangeNoMatch, CrossesChangeNoSplit, CrossesChangeNoListing, CrossesChangeNoSplitsListing, PatternsGetTheirs, CompletedWellFormed, CompletedHasIts, CompletedLeavesNoneOut, RecursiveIsPlain, FirstIsPlain, WithoutHasNone};
 ghost use Rattle.rdx_lang.specs.Laws.{OneListing, OneSplitsListing, SomeListing, SomeSplitsListing, OneJoin, JoinAgrees, JoinExists, NamesAscend, BindsAMap, BindsItsNames, SplitBindsAMap, SplitBindsItsNames, SplitFills, SplitHasPath, WholeIsEmpty, EmptySplitsAll, EmptyIsDecided, FreeOrRecursive, RanksFall, EdgesFall, RankedIsFree};
 
 /// The order of values is total, and values that it doesn't tell apart are equal.
@@ -164,6 +164,16 @@ pub fn crosses_stay()
     ensures names { PlainNamesStay }
     ensures once { CrossesOnce }
     ensures there { CrossesThere }
+{}
+
+/// Cross nonterminals of which nothing speaks change no match and no split: a pattern that is well
+/// formed in a well-formed language matches and splits the same terms in the same ways, whichever
+/// the language gets, and so it has the same listings.
+pub fn crosses_change_nothing()
+    ensures matches { CrossesChangeNoMatch }
+    ensures splits { CrossesChangeNoSplit }
+    ensures listing { CrossesChangeNoListing }
+    ensures splits_listing { CrossesChangeNoSplitsListing }
 {}
 
 /// What speaks of cross nonterminals is well formed once the language has those that it needs. These
