@@ -9,7 +9,7 @@ use Rattle.rdx_lang.proofs.Joins.{joined_first, joined_last}
 use Rattle.rdx_lang.proofs.MemberLaws.{in-map}
 use Rattle.rdx_lang.specs.Ascending.{IsAscending}
 use Rattle.rdx_lang.specs.Bindings.{Binding, no_names, HasAscendingNames}
-use Rattle.rdx_lang.specs.Inside.Collecting.{across_none, across_row}
+use Rattle.rdx_lang.specs.Collecting.{across_none, across_row}
 use Rattle.rdx_lang.specs.Join.{IsJoin}
 use Rattle.rdx_lang.specs.Listing.{IsListing}
 use Rattle.rdx_lang.specs.Members.{In, here, there}

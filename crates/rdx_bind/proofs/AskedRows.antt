@@ -11,7 +11,7 @@ use Rattle.rdx_lang.proofs.Collecting.{In_along, no_member}
 use Rattle.rdx_lang.proofs.NameLaws.{match-names, split-names}
 use Rattle.rdx_lang.proofs.RuleSteps.{none_inside}
 use Rattle.rdx_lang.specs.Bindings.{Binding, no_names, bound_names}
-use Rattle.rdx_lang.specs.Inside.Collecting.{Arises, HasExactly}
+use Rattle.rdx_lang.specs.Collecting.{Arises, HasExactly}
 use Rattle.rdx_lang.specs.Members.{In, here, there}
 use Rattle.rdx_lang.specs.Names.{names}
 use Rattle.rdx_lang.specs.Patterns.{Pattern, Items, nil, Language}

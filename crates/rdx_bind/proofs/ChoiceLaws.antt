@@ -3,7 +3,7 @@ use Rattle.std.proofs.Common.{◌≡◌, ◌∙◌, ◌↔◌, ◌⊎◌, inl, i
 use Rattle.rdx_lang.proofs.Collecting.{In_along, only}
 use Rattle.rdx_lang.proofs.MemberLaws.{in-append, append-left, append-right}
 use Rattle.rdx_lang.specs.Bindings.{Binding}
-use Rattle.rdx_lang.specs.Inside.Collecting.{Adds, Arises, HasExactly}
+use Rattle.rdx_lang.specs.Collecting.{Adds, Arises, HasExactly}
 use Rattle.rdx_lang.specs.Members.{In, here, there}
 use Rattle.rdx_bind.specs.Choices.{IsChoice, choice_end, choice_more, IsWith, IsLonger, IsContinued}
 

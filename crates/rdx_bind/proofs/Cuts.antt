@@ -5,7 +5,7 @@ use Rattle.rdx_term.proofs.PutItems.{trees_count-trees}
 use Rattle.rdx_term.specs.Tree.{Tree, list, trees}
 use Rattle.rdx_lang.proofs.RuleSteps.{list_inside, same_length, same_length_split}
 use Rattle.rdx_lang.specs.Bindings.{Binding}
-use Rattle.rdx_lang.specs.Inside.Singles.{are_single}
+use Rattle.rdx_lang.specs.Singles.{are_single}
 use Rattle.rdx_lang.specs.Join.{IsJoin}
 use Rattle.rdx_lang.specs.Patterns.{Language}
 use Rattle.rdx_lang.specs.PatternView.{Slot, items_of}

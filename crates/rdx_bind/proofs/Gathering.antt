@@ -6,7 +6,7 @@ use Rattle.std.specs.declared.cmp.Ordering.TheVariants.{Less, Equal, Greater}
 use Rattle.std.specs.Ordering.{match_ordering}
 use Rattle.rdx_lang.proofs.Collecting.{Collects, In_along, no_member, only}
 use Rattle.rdx_lang.proofs.MemberLaws.{in-append, append-left, append-right}
-use Rattle.rdx_lang.specs.Inside.Collecting.{Arises, Adds, HasExactly}
+use Rattle.rdx_lang.specs.Collecting.{Arises, Adds, HasExactly}
 use Rattle.rdx_lang.specs.Listing.{IsListing}
 use Rattle.rdx_lang.specs.Members.{In, here, there}
 

@@ -3,7 +3,7 @@ use Rattle.std.proofs.Common.{◌≡◌, Bool, true, false, Some, None, List, []
 use Rattle.rdx_term.specs.Tree.{trees}
 use Rattle.rdx_lang.proofs.Collecting.{In_along, no_member}
 use Rattle.rdx_lang.specs.Bindings.{Binding}
-use Rattle.rdx_lang.specs.Inside.Collecting.{HasExactly}
+use Rattle.rdx_lang.specs.Collecting.{HasExactly}
 use Rattle.rdx_lang.specs.Members.{In}
 use Rattle.rdx_lang.specs.Patterns.{Language}
 use Rattle.rdx_lang.specs.PatternView.{Slot, items_of}

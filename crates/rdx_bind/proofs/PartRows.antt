@@ -5,7 +5,7 @@ use Rattle.rdx_term.specs.Tree.{Tree, trees}
 use Rattle.rdx_lang.proofs.Collecting.{In_along, no_member}
 use Rattle.rdx_lang.proofs.RuleSteps.{item_inside}
 use Rattle.rdx_lang.specs.Bindings.{Binding}
-use Rattle.rdx_lang.specs.Inside.Collecting.{HasExactly, across_none, across_row}
+use Rattle.rdx_lang.specs.Collecting.{HasExactly, across_none, across_row}
 use Rattle.rdx_lang.specs.Members.{In}
 use Rattle.rdx_lang.specs.Patterns.{Pattern, Language}
 use Rattle.rdx_lang.specs.PatternView.{Slot, just, items_of}

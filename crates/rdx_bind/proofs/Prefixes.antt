@@ -7,8 +7,8 @@ use Rattle.std.specs.Prelude.{not}
 use Rattle.rdx_term.specs.Tree.{Tree, trees}
 use Rattle.rdx_lang.proofs.Rest.{rest_at}
 use Rattle.rdx_lang.specs.Bindings.{Binding}
-use Rattle.rdx_lang.specs.Inside.Collecting.{HasExactly, across_none}
-use Rattle.rdx_lang.specs.Inside.Singles.{are_single}
+use Rattle.rdx_lang.specs.Collecting.{HasExactly, across_none}
+use Rattle.rdx_lang.specs.Singles.{are_single}
 use Rattle.rdx_lang.specs.Patterns.{Pattern, Language}
 use Rattle.rdx_lang.specs.PatternView.{Slot, just, repeated, slot_of, items_of}
 use Rattle.rdx_lang.specs.Rules.{Match, MatchItems, match_none}

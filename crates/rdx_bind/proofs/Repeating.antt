@@ -8,7 +8,7 @@ use Rattle.rdx_lang.proofs.JoinLaws.{one_join}
 use Rattle.rdx_lang.specs.Ascending.{IsAscending}
 use Rattle.rdx_lang.specs.Bindings.{len, Binding, bound_names, name_cmp, no_names, one_name}
 use Rattle.rdx_lang.specs.Collections.{IsCollection, IsRepetition, without_length, with_length}
-use Rattle.rdx_lang.specs.Inside.Collecting.{Adds, Arises, HasExactly}
+use Rattle.rdx_lang.specs.Collecting.{Adds, Arises, HasExactly}
 use Rattle.rdx_lang.specs.Join.{IsJoin}
 use Rattle.rdx_lang.specs.Members.{In, here, there}
 use Rattle.rdx_bind.proofs.ChoiceLaws.{continued_more}

@@ -5,7 +5,7 @@ use Rattle.std.proofs.Common.{sym, subst, arith, add-one}
 use Rattle.rdx_lang.proofs.Collecting.{In_along, no_member, only}
 use Rattle.rdx_lang.specs.Bindings.{Binding}
 use Rattle.rdx_lang.specs.Collections.{IsRepetition}
-use Rattle.rdx_lang.specs.Inside.Collecting.{Adds, Arises, HasExactly}
+use Rattle.rdx_lang.specs.Collecting.{Adds, Arises, HasExactly}
 use Rattle.rdx_lang.specs.Join.{IsJoin}
 use Rattle.rdx_lang.specs.Members.{In, here, there}
 use Rattle.rdx_bind.proofs.Gathering.{exactly_as}

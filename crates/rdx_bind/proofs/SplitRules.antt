@@ -9,7 +9,7 @@ use Rattle.rdx_lang.proofs.Collecting.{listing_of, In_along, only}
 use Rattle.rdx_lang.proofs.RuleSteps.{in_hole_inside, hole_splits, nt_splits, named_splits, in_hole_splits, closed_splits, InHoleSplit}
 use Rattle.rdx_lang.proofs.SplitLaws.{split-along}
 use Rattle.rdx_lang.specs.Bindings.{Binding, no_names}
-use Rattle.rdx_lang.specs.Inside.Collecting.{Arises, Adds, HasExactly}
+use Rattle.rdx_lang.specs.Collecting.{Arises, Adds, HasExactly}
 use Rattle.rdx_lang.specs.Join.{IsJoin}
 use Rattle.rdx_lang.specs.Laws.{IsAlongPath}
 use Rattle.rdx_lang.specs.Decompositions.{Decomposition}

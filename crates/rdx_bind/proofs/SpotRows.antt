@@ -6,7 +6,7 @@ use Rattle.rdx_lang.proofs.JoinLaws.{one_join, turned_join, unit_right, unit_rig
 use Rattle.rdx_lang.proofs.Joins.{joined_first, joined_last}
 use Rattle.rdx_lang.proofs.MemberLaws.{in-map, in-append, append-left, append-right}
 use Rattle.rdx_lang.specs.Bindings.{Binding, no_names, HasAscendingNames}
-use Rattle.rdx_lang.specs.Inside.Collecting.{Combined, HasExactly, across_none, across_row}
+use Rattle.rdx_lang.specs.Collecting.{Combined, HasExactly, across_none, across_row}
 use Rattle.rdx_lang.specs.Join.{IsJoin}
 use Rattle.rdx_lang.specs.Members.{In, here, there}
 use Rattle.rdx_bind.specs.Combining.{JoinsAcross}

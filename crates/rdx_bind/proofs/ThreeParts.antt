@@ -4,7 +4,7 @@ use Rattle.rdx_term.specs.Tree.{Tree, list, trees}
 use Rattle.rdx_lang.proofs.Collecting.{listing_of}
 use Rattle.rdx_lang.proofs.RuleSteps.{list_inside}
 use Rattle.rdx_lang.specs.Bindings.{Binding}
-use Rattle.rdx_lang.specs.Inside.Collecting.{HasExactly}
+use Rattle.rdx_lang.specs.Collecting.{HasExactly}
 use Rattle.rdx_lang.specs.Listing.{IsListing, Matches}
 use Rattle.rdx_lang.specs.Order.{binding_cmp}
 use Rattle.rdx_lang.specs.Patterns.{seq, Language}

@@ -6,7 +6,7 @@ use Rattle.rdx_lang.proofs.JoinLaws.{one_join, unit_right, unit_right-only}
 use Rattle.rdx_lang.proofs.Collecting.{In_along, no_member, only}
 use Rattle.rdx_lang.proofs.MemberLaws.{in-append, append-left, append-right, in-map, map-in}
 use Rattle.rdx_lang.specs.Bindings.{Binding, bound_names, no_names}
-use Rattle.rdx_lang.specs.Inside.Collecting.{Adds, Arises, Combined, HasExactly}
+use Rattle.rdx_lang.specs.Collecting.{Adds, Arises, Combined, HasExactly}
 use Rattle.rdx_lang.specs.Join.{IsJoin}
 use Rattle.rdx_lang.specs.Members.{In, here, there}
 use Rattle.rdx_lang.specs.Shown.{bindings_of}

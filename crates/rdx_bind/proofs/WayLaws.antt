@@ -3,7 +3,7 @@ use Rattle.std.proofs.Common.{◌≡◌, ◌↔◌, ℕ, ◌+◌, ◌⊎◌, inl
 use Rattle.std.proofs.Common.{refl, sym, ap, subst, arith}
 use Rattle.rdx_lang.proofs.Collecting.{In_along, no_member, only}
 use Rattle.rdx_lang.proofs.MemberLaws.{in-append, append-left, append-right, in-map, map-in}
-use Rattle.rdx_lang.specs.Inside.Collecting.{HasExactly}
+use Rattle.rdx_lang.specs.Collecting.{HasExactly}
 use Rattle.rdx_lang.specs.Members.{In, here}
 use Rattle.rdx_bind.specs.Ends.{HasMatches, HasSpots, IsReached, reached_here, reached_behind, IsSplitEnd, split_end_here}
 use Rattle.rdx_bind.specs.Ends.{split_end_behind}

@@ -3,7 +3,7 @@ use Rattle.std.specs.Prelude.{◌≡◌, ℕ, List, [], ◌∷◌, ◌++◌, Opt
 use Rattle.std.specs.Borrow.{Bor}
 use Rattle.rdx_lang.specs.Bindings.{Binding, len, one_name, bound_names}
 use Rattle.rdx_lang.specs.Collections.{IsRepetition}
-use Rattle.rdx_lang.specs.Inside.Collecting.{Arises}
+use Rattle.rdx_lang.specs.Collecting.{Arises}
 use Rattle.rdx_lang.specs.Join.{IsJoin}
 use Rattle.rdx_lang.specs.Members.{In}
 

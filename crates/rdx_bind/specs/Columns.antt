@@ -4,7 +4,7 @@ use Rattle.std.specs.Prelude.{◌≡◌, ℕ, suc, Bool, true, false, List, [], 
 use Rattle.rdx_term.specs.Tree.{Tree, Trees, cons}
 use Rattle.rdx_term.specs.Tree.{nil as no_trees}
 use Rattle.rdx_lang.specs.Bindings.{Binding}
-use Rattle.rdx_lang.specs.Inside.Collecting.{HasExactly}
+use Rattle.rdx_lang.specs.Collecting.{HasExactly}
 use Rattle.rdx_lang.specs.Patterns.{Pattern, Items, Language}
 use Rattle.rdx_lang.specs.Rules.{Match, MatchItems}
 use Rattle.rdx_bind.specs.Rows.{SplitRow}

@@ -3,7 +3,7 @@ use Rattle.std.specs.Prelude.{ℕ, List, map, Vec, Result, IfOk}
 use Rattle.std.specs.declared.alloc.Global.{Global}
 use Rattle.rdx_term.specs.Tree.{Tree}
 use Rattle.rdx_lang.specs.Bindings.{Binding, one, no_names, one_name}
-use Rattle.rdx_lang.specs.Inside.Collecting.{Arises, Combined, Across, Adds}
+use Rattle.rdx_lang.specs.Collecting.{Arises, Combined, Across, Adds}
 use Rattle.rdx_lang.specs.Join.{IsJoin}
 use Rattle.rdx_lang.specs.Listing.{IsListing}
 use Rattle.rdx_lang.specs.Order.{binding_cmp}

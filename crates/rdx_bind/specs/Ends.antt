@@ -1,7 +1,7 @@
 -- Where the runs of a repetition lead. A place is told by how many cells there are from it on.
 use Rattle.std.specs.Prelude.{◌≡◌, ℕ, suc, ◌+◌, ◌-◌, Option, List, [], ◌∷◌, ◌++◌, length, take, drop, get_or}
 use Rattle.rdx_lang.specs.Bindings.{Binding}
-use Rattle.rdx_lang.specs.Inside.Collecting.{Arises, HasExactly}
+use Rattle.rdx_lang.specs.Collecting.{Arises, HasExactly}
 use Rattle.rdx_lang.specs.Join.{IsJoin}
 use Rattle.rdx_bind.specs.Choices.{RepeatsWith}
 use Rattle.rdx_bind.specs.Rows.{SplitRow, all_matches}

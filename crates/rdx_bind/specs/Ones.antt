@@ -2,7 +2,7 @@
 -- and one for the place behind the last.
 use Rattle.std.specs.Prelude.{◌≡◌, ℕ, zero, suc, Bool, true, false, List, [], ◌∷◌, ◌++◌, ◌⊎◌}
 use Rattle.rdx_lang.specs.Bindings.{Binding, no_names}
-use Rattle.rdx_lang.specs.Inside.Collecting.{Combined}
+use Rattle.rdx_lang.specs.Collecting.{Combined}
 use Rattle.rdx_bind.specs.Columns.{HasAsked}
 use Rattle.rdx_bind.specs.Combining.{Joined}
 use Rattle.rdx_bind.specs.Rows.{SplitRow, JoinedSpot}

@@ -2,7 +2,7 @@
 use Rattle.std.specs.Prelude.{◌≡◌, ℕ, suc, Bool, true, false, List, [], ◌∷◌, Option, Some, None, Vec}
 use Rattle.std.specs.declared.alloc.Global.{Global}
 use Rattle.rdx_term.specs.Tree.{Tree, trees}
-use Rattle.rdx_lang.specs.Inside.Collecting.{HasExactly}
+use Rattle.rdx_lang.specs.Collecting.{HasExactly}
 use Rattle.rdx_lang.specs.Members.{In}
 use Rattle.rdx_lang.specs.Patterns.{Pattern, Language}
 use Rattle.rdx_lang.specs.PatternView.{Slot, just, items_of}

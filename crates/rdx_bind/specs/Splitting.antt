@@ -5,7 +5,7 @@ use Rattle.rdx_term.specs.Tree.{Tree}
 use Rattle.rdx_term.specs.AtPaths.{tree_at, context_at}
 use Rattle.rdx_lang.specs.Bindings.{no_names, one, one_name}
 use Rattle.rdx_lang.specs.Decompositions.{Decomposition}
-use Rattle.rdx_lang.specs.Inside.Collecting.{HasExactly}
+use Rattle.rdx_lang.specs.Collecting.{HasExactly}
 use Rattle.rdx_lang.specs.Join.{IsJoin}
 use Rattle.rdx_bind.specs.Spots.{Spot, spots_of}
 use Rattle.rdx_bind.specs.declared.spots.Gathered as code_gathered

@@ -1,6 +1,6 @@
 //! Choices of one binding of each of several rows.
 ghost use Rattle.std.specs.Prelude.{◌≡◌, ◌++◌, ◌∷◌, [], IfOk, OnOk};
-ghost use Rattle.rdx_lang.specs.Inside.Collecting.{Adds, Arises, HasExactly};
+ghost use Rattle.rdx_lang.specs.Collecting.{Adds, Arises, HasExactly};
 ghost use Rattle.rdx_lang.specs.Shown.{binding_of, bindings_of};
 ghost use Rattle.rdx_bind.specs.Choices.{IsContinued, IsLonger};
 ghost use Rattle.rdx_bind.specs.Combining.{rows_of};

@@ -2,7 +2,7 @@
 //! there on. Here is what needs no search.
 ghost use Rattle.std.specs.Prelude.{◌≡◌, ◌+◌, ◌∷◌, IfOk, OnOk, length};
 ghost use Rattle.std.specs.List.{list_all};
-ghost use Rattle.rdx_lang.specs.Inside.Collecting.{Adds, Combined};
+ghost use Rattle.rdx_lang.specs.Collecting.{Adds, Combined};
 ghost use Rattle.rdx_lang.specs.Shown.{bindings_of};
 ghost use Rattle.rdx_bind.specs.Columns as model;
 ghost use Rattle.rdx_bind.specs.Columns.{HasAsked};

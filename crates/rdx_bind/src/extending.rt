@@ -1,6 +1,6 @@
 //! Spots extended: by a name for the context, and by what the part is split into in turn.
 ghost use Rattle.std.specs.Prelude.{◌≡◌, ◌++◌, OnOk};
-ghost use Rattle.rdx_lang.specs.Inside.Collecting.{Adds, Arises};
+ghost use Rattle.rdx_lang.specs.Collecting.{Adds, Arises};
 ghost use Rattle.rdx_term.specs.AtPaths.{context_at};
 ghost use Rattle.rdx_term.specs.Tree.{Tree};
 ghost use Rattle.rdx_term.specs.View.{tree_of};

@@ -2,8 +2,8 @@
 //! first repetition to the last, and those behind the last, each with the terms that are theirs.
 ghost use Rattle.std.specs.Prelude.{◌≡◌, ◌≤◌, ◌+◌, true, IfSome, IsNone, length, map, take, drop};
 ghost use Rattle.rdx_term.specs.View.{tree_of};
-ghost use Rattle.rdx_lang.specs.Inside.Singles as singles;
-ghost use Rattle.rdx_lang.specs.Inside.Singles.{are_single};
+ghost use Rattle.rdx_lang.specs.Singles as singles;
+ghost use Rattle.rdx_lang.specs.Singles.{are_single};
 ghost use Rattle.rdx_lang.specs.PatternView.{pattern_of, slot_of, items_of};
 ghost use Rattle.rdx_bind.specs.Parts as model;
 ghost use Rattle.rdx_bind.specs.Parts.{IsCut, part_of};

@@ -3,7 +3,7 @@ ghost use Rattle.std.specs.Prelude.{◌≡◌, ◌+◌, ◌++◌, ◌∷◌, [],
 ghost use Rattle.rdx_lang.specs.Ascending.{IsAscending};
 ghost use Rattle.rdx_lang.specs.Bindings.{bound_names, name_cmp, no_names};
 ghost use Rattle.rdx_lang.specs.Collections.{IsRepetition};
-ghost use Rattle.rdx_lang.specs.Inside.Collecting.{Adds, Arises, HasExactly};
+ghost use Rattle.rdx_lang.specs.Collecting.{Adds, Arises, HasExactly};
 ghost use Rattle.rdx_lang.specs.Members.{In};
 ghost use Rattle.rdx_lang.specs.Shown.{binding_of, bindings_of};
 ghost use Rattle.rdx_bind.specs.Choices.{IsCounted, NoneEmpty, Repeats, RowsBind};

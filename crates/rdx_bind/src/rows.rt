@@ -1,7 +1,7 @@
 //! Joins of one binding of each of several lists, and the spots of lists: both by halves, so that a
 //! list of n items of which one splits costs in proportion to n, but for the number of halvings.
 ghost use Rattle.std.specs.Prelude.{◌≡◌, ◌++◌, IfOk, OnOk};
-ghost use Rattle.rdx_lang.specs.Inside.Collecting.{Adds, Arises, Combined};
+ghost use Rattle.rdx_lang.specs.Collecting.{Adds, Arises, Combined};
 ghost use Rattle.rdx_lang.specs.Shown.{binding_of, bindings_of};
 ghost use Rattle.rdx_bind.specs.Combining.{JoinsAcross, Lists, rows_of};
 ghost use Rattle.rdx_bind.specs.Rows.{JoinedSpot, JoinedSpots, SpotsAcross};

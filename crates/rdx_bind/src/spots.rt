@@ -1,7 +1,7 @@
 //! Where patterns split terms.
 ghost use Rattle.std.specs.Prelude.{◌≡◌, ◌∷◌, [], IfOk, IsTrue, OnOk};
 ghost use Rattle.rdx_lang.specs.Bindings.{no_names};
-ghost use Rattle.rdx_lang.specs.Inside.Collecting.{Adds, Arises};
+ghost use Rattle.rdx_lang.specs.Collecting.{Adds, Arises};
 ghost use Rattle.rdx_lang.specs.Members.{In};
 ghost use Rattle.rdx_bind.specs.Spots.{spots_of};
 ghost use Rattle.rdx_bind.specs.Splitting.{Finds, IsNameless};

@@ -2,7 +2,7 @@
 ghost use Rattle.std.specs.Prelude.{◌≡◌, ◌+◌, [], IfOk, OnOk, length};
 ghost use Rattle.rdx_lang.specs.Ascending.{IsAscending};
 ghost use Rattle.rdx_lang.specs.Bindings.{name_cmp};
-ghost use Rattle.rdx_lang.specs.Inside.Collecting.{Adds, HasExactly};
+ghost use Rattle.rdx_lang.specs.Collecting.{Adds, HasExactly};
 ghost use Rattle.rdx_lang.specs.Shown.{bindings_of};
 ghost use Rattle.rdx_bind.specs.Choices.{NoneEmpty, RepeatsWith, RowsBind, length_name};
 ghost use Rattle.rdx_bind.specs.Combining.{Lists};

@@ -2,7 +2,7 @@
 ghost use Rattle.std.specs.Prelude.{◌≡◌, ◌+◌, ◌<◌, ◌≤◌, ℕ, [], IfOk, OnOk, length};
 ghost use Rattle.rdx_lang.specs.Ascending.{IsAscending};
 ghost use Rattle.rdx_lang.specs.Bindings.{bound_names, name_cmp};
-ghost use Rattle.rdx_lang.specs.Inside.Collecting.{Adds, Arises, Combined, HasExactly};
+ghost use Rattle.rdx_lang.specs.Collecting.{Adds, Arises, Combined, HasExactly};
 ghost use Rattle.rdx_lang.specs.Members.{In};
 ghost use Rattle.rdx_lang.specs.Shown.{binding_of, bindings_of};
 ghost use Rattle.rdx_bind.specs.Choices.{NoneEmpty, RowsBind, length_name};

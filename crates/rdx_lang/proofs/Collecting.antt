@@ -4,7 +4,7 @@ use Rattle.std.specs.declared.cmp.Ordering.{Ordering}
 use Rattle.rdx_lang.specs.Listing.{IsListing}
 use Rattle.rdx_lang.specs.Members.{In, here, there}
 use Rattle.rdx_lang.proofs.MemberLaws.{in-append, append-left, append-right}
-use Rattle.rdx_lang.specs.Inside.Collecting.{Arises, Combined, Across, across_none, across_row, Adds}
+use Rattle.rdx_lang.specs.Collecting.{Arises, Combined, Across, across_none, across_row, Adds}
 
 -- found has what old has and what comes from all, but for what still has to come from rest
 pub record Collects {A B : Type 0} (step : A → B → Type 0) (all rest : List A) (old found : List B) : Type 0 where

@@ -15,7 +15,7 @@ use Rattle.std.specs.declared.cmp.Ordering.{Ordering}
 use Rattle.std.specs.declared.cmp.Ordering.TheVariants.{Less, Equal, Greater}
 use Rattle.rdx_lang.specs.Bindings.{name_cmp}
 use Rattle.rdx_lang.specs.Depths.{Use, agree}
-use Rattle.rdx_lang.specs.Inside.Collecting.{Adds}
+use Rattle.rdx_lang.specs.Collecting.{Adds}
 use Rattle.rdx_lang.specs.Members.{In, here, there}
 use Rattle.rdx_lang.specs.Met.{use_of}
 use Rattle.rdx_lang.specs.Model.TotalOrders.{name_cmp-total}

@@ -3,7 +3,7 @@ use Rattle.std.proofs.Common.{◌≡◌, ◌⊎◌, inl, inr, Bool, true, false,
 use Rattle.std.specs.Cmp.{first_so, second_so}
 use Rattle.std.specs.List.{list_all}
 use Rattle.std.specs.Prelude.{◌&&◌}
-use Rattle.rdx_lang.specs.Inside.Collecting.{Adds}
+use Rattle.rdx_lang.specs.Collecting.{Adds}
 use Rattle.rdx_lang.specs.Members.{In, here, there}
 use Rattle.rdx_lang.proofs.LookupLaws.{both_so}
 

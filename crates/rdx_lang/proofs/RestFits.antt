@@ -6,7 +6,7 @@ use Rattle.std.specs.Cmp.{bool_eq_equiv}
 use Rattle.std.specs.List.{list_all}
 use Rattle.std.specs.Prelude.{◌&&◌, ◌||◌, not}
 use Rattle.rdx_lang.specs.Depths.{Use, agree, all_agree, is_shallow}
-use Rattle.rdx_lang.specs.Inside.Collecting.{Adds}
+use Rattle.rdx_lang.specs.Collecting.{Adds}
 use Rattle.rdx_lang.proofs.Passing.{all_pass, one_more_passes, both_pass}
 
 -- one use agrees with another as that does with it

@@ -12,7 +12,7 @@ use Rattle.rdx_lang.specs.Bindings.{Binding, no_names, one_name}
 use Rattle.rdx_lang.specs.Bindings.{one as one_term}
 use Rattle.rdx_lang.specs.Collections.{IsRepetition}
 use Rattle.rdx_lang.specs.Inside.Alternatives.{AnyAlternative, AnySplit}
-use Rattle.rdx_lang.specs.Inside.Singles.{are_single}
+use Rattle.rdx_lang.specs.Singles.{are_single}
 use Rattle.rdx_lang.specs.Join.{IsJoin}
 use Rattle.rdx_lang.specs.Names.{names}
 use Rattle.rdx_lang.specs.Patterns.{Pattern, wild, of_kind, except, prefix, hole, lit, nt, named, in_hole, hide_hole, closed, seq, Items, nil, one, many, Language}

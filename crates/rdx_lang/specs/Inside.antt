@@ -1,7 +1,5 @@
 pub mod Capped
 pub mod Keys
-pub mod Collecting
 pub mod Alternatives
-pub mod Singles
 pub mod Texts
 pub mod Places

@@ -1,8 +1,10 @@
 pub mod Members
+pub mod Collecting
 pub mod Ascending
 pub mod References
 pub mod Patterns
 pub mod PatternView
+pub mod Singles
 pub mod Depths
 pub mod Met
 pub mod WellFormed

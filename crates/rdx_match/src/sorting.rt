@@ -1,6 +1,6 @@
 // What terms are split into, in order.
 ghost use Rattle.std.specs.Prelude.{◌≡◌, IfOk};
-ghost use Rattle.rdx_lang.specs.Inside.Collecting.{Arises};
+ghost use Rattle.rdx_lang.specs.Collecting.{Arises};
 ghost use Rattle.rdx_lang.specs.Listing.{IsListing};
 ghost use Rattle.rdx_lang.specs.Members.{In};
 ghost use Rattle.rdx_lang.specs.Order.{decomposition_cmp};

@@ -4,7 +4,7 @@ use Rattle.std.specs.Prelude.{◌↔◌}
 use Rattle.rdx_term.specs.Tree.{Tree}
 use Rattle.rdx_term.specs.Tree.{hole as the_hole}
 use Rattle.rdx_lang.specs.Bindings.{Binding, no_names}
-use Rattle.rdx_lang.specs.Inside.Collecting.{HasExactly}
+use Rattle.rdx_lang.specs.Collecting.{HasExactly}
 use Rattle.rdx_lang.specs.Listing.{Matches}
 use Rattle.rdx_lang.specs.Patterns.{Pattern, hole, Language}
 use Rattle.rdx_lang.specs.Rules.{Match}

@@ -1,6 +1,6 @@
 // Spots and contexts of interned terms.
 ghost use Rattle.std.specs.Prelude.{◌≡◌, ◌<◌, IfOk, OnOk, length};
-ghost use Rattle.rdx_lang.specs.Inside.Collecting.{Adds, Arises};
+ghost use Rattle.rdx_lang.specs.Collecting.{Adds, Arises};
 ghost use Rattle.rdx_lang.specs.Listing.{IsListing};
 ghost use Rattle.rdx_lang.specs.Members.{In};
 ghost use Rattle.rdx_lang.specs.Order.{decomposition_cmp};

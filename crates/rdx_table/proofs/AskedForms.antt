@@ -6,7 +6,7 @@ use Rattle.rdx_term.specs.Tree.{Tree}
 use Rattle.rdx_lang.proofs.Collecting.{In_along, no_member, only, listing_of_all}
 use Rattle.rdx_lang.proofs.RuleSteps.{nt_inside, named_inside, hide_hole_inside, closed_inside, hide_hole_splits}
 use Rattle.rdx_lang.specs.Bindings.{Binding, no_names}
-use Rattle.rdx_lang.specs.Inside.Collecting.{Arises, Adds, HasExactly}
+use Rattle.rdx_lang.specs.Collecting.{Arises, Adds, HasExactly}
 use Rattle.rdx_lang.specs.Listing.{IsListing}
 use Rattle.rdx_lang.specs.Members.{In, here}
 use Rattle.rdx_lang.specs.Order.{binding_cmp}

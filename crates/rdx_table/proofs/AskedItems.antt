@@ -5,7 +5,7 @@ use Rattle.std.proofs.lemmas.List.{take-append-drop, drop_more}
 use Rattle.rdx_term.specs.Tree.{Tree}
 use Rattle.rdx_lang.proofs.Collecting.{In_along, no_member}
 use Rattle.rdx_lang.specs.Bindings.{Binding}
-use Rattle.rdx_lang.specs.Inside.Collecting.{Arises, HasExactly}
+use Rattle.rdx_lang.specs.Collecting.{Arises, HasExactly}
 use Rattle.rdx_lang.specs.Members.{here}
 use Rattle.rdx_lang.specs.Patterns.{Pattern, Language}
 use Rattle.rdx_lang.specs.PatternView.{Slot, just}

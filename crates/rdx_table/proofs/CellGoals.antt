@@ -3,7 +3,7 @@ use Rattle.std.proofs.Common.{◌≡◌, ℕ, zero, suc, ◌+◌, ◌<◌, List,
 use Rattle.std.proofs.lemmas.List.{reverse-append, length-reverse}
 use Rattle.rdx_term.specs.Tree.{Tree, trees}
 use Rattle.rdx_lang.proofs.Collecting.{no_member}
-use Rattle.rdx_lang.specs.Inside.Collecting.{Arises, HasExactly}
+use Rattle.rdx_lang.specs.Collecting.{Arises, HasExactly}
 use Rattle.rdx_lang.specs.Members.{here}
 use Rattle.rdx_lang.specs.Patterns.{Pattern, Language}
 use Rattle.rdx_lang.specs.Rules.{Match}

@@ -3,7 +3,7 @@ use Rattle.std.proofs.Common.{◌≡◌, ℕ, zero, suc, ◌<◌, true, List, []
 use Rattle.std.proofs.lemmas.List.{get_or-map}
 use Rattle.rdx_term.specs.Items.{tree_items}
 use Rattle.rdx_term.specs.Tree.{Tree, Trees, hole, list}
-use Rattle.rdx_lang.specs.Inside.Singles.{are_single}
+use Rattle.rdx_lang.specs.Singles.{are_single}
 use Rattle.rdx_lang.specs.Patterns.{Pattern, wild, Language}
 use Rattle.rdx_lang.specs.PatternView.{just}
 use Rattle.rdx_store.specs.Stored.{tree_by_id, trees_by_ids, AreIds}

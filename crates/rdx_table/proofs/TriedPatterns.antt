@@ -8,7 +8,7 @@ use Rattle.rdx_term.specs.Tree.{Tree}
 use Rattle.rdx_lang.proofs.Collecting.{Collects, collects-next, collects-end, In_along, no_member}
 use Rattle.rdx_lang.proofs.Rest.{rest_none}
 use Rattle.rdx_lang.specs.Bindings.{Binding, no_names}
-use Rattle.rdx_lang.specs.Inside.Collecting.{Arises, Adds, HasExactly}
+use Rattle.rdx_lang.specs.Collecting.{Arises, Adds, HasExactly}
 use Rattle.rdx_lang.specs.Members.{In, here, there}
 use Rattle.rdx_lang.specs.Patterns.{Pattern, Language}
 use Rattle.rdx_lang.specs.Rules.{Match}

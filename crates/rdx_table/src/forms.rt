@@ -3,7 +3,7 @@ ghost use Rattle.std.specs.Prelude.{◌≡◌, ◌∷◌, [], ◌<◌, ◌≤◌
 ghost use Rattle.std.specs.Prelude.{if◌then◌else◌};
 ghost use Rattle.rdx_term.specs.AtPaths.{tree_at, IsPlace};
 ghost use Rattle.rdx_lang.specs.Bindings.{no_names};
-ghost use Rattle.rdx_lang.specs.Inside.Collecting.{Adds, Arises, HasExactly};
+ghost use Rattle.rdx_lang.specs.Collecting.{Adds, Arises, HasExactly};
 ghost use Rattle.rdx_lang.specs.Listing.{IsListing};
 ghost use Rattle.rdx_lang.specs.Members.{In};
 ghost use Rattle.rdx_lang.specs.Order.{binding_cmp};

@@ -1,7 +1,7 @@
 // A look at a goal whose pattern is a list.
 ghost use Rattle.std.specs.Prelude.{◌≡◌, ◌<◌, ◌≤◌, ◌+◌, [], ◌∷◌, ◌++◌, length, get_or, false};
 ghost use Rattle.std.specs.Prelude.{IfOk, IfSome, IsTrue, OnOk};
-ghost use Rattle.rdx_lang.specs.Inside.Collecting.{Arises, HasExactly};
+ghost use Rattle.rdx_lang.specs.Collecting.{Arises, HasExactly};
 ghost use Rattle.rdx_lang.specs.Listing.{IsListing};
 ghost use Rattle.rdx_lang.specs.Order.{binding_cmp};
 ghost use Rattle.rdx_lang.specs.Patterns.{seq};

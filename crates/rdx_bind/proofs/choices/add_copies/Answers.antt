@@ -1,7 +1,7 @@
 use Rattle.std.proofs.Common.{◌≡◌, ◌+◌, ◌++◌, List, [], ◌∷◌, drop, refl, arith}
 use Rattle.std.proofs.lemmas.Grind.{common_steps}
 use Rattle.rdx_lang.specs.Bindings.{Binding}
-use Rattle.rdx_lang.specs.Inside.Collecting.{Adds}
+use Rattle.rdx_lang.specs.Collecting.{Adds}
 use Rattle.rdx_lang.specs.Shown.{binding_of, bindings_of}
 use Rattle.rdx_lang.proofs.Rest.{rest_at, rest_none}
 use Rattle.rdx_lang.proofs.Collecting.{collects-next, collects-end, adds_one}

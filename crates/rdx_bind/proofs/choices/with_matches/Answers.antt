@@ -1,6 +1,6 @@
 use Rattle.std.proofs.Common.{◌≡◌, ◌+◌, ◌↔◌, ℕ, List, [], ◌∷◌, drop, ap, arith}
 use Rattle.rdx_lang.specs.Bindings.{Binding}
-use Rattle.rdx_lang.specs.Inside.Collecting.{Arises, HasExactly}
+use Rattle.rdx_lang.specs.Collecting.{Arises, HasExactly}
 use Rattle.rdx_lang.specs.Shown.{bindings_of}
 use Rattle.rdx_lang.proofs.Rest.{rest_at, rest_none}
 use Rattle.rdx_bind.specs.Choices.{IsContinued, IsLonger}

@@ -1,6 +1,6 @@
 use Rattle.std.proofs.Common.{◌↔◌, List, drop}
 use Rattle.rdx_lang.specs.Bindings.{Binding}
-use Rattle.rdx_lang.specs.Inside.Collecting.{Arises}
+use Rattle.rdx_lang.specs.Collecting.{Arises}
 use Rattle.rdx_bind.specs.Choices.{IsContinued}
 use Rattle.rdx_bind.specs.Combining.{rows_of}
 use Rattle.rdx_bind.specs.Rows.{all_matches, split_rows_of}

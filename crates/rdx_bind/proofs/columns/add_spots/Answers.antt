@@ -1,7 +1,7 @@
 use Rattle.std.proofs.Common.{◌≡◌, ◌+◌, ◌∷◌, drop, arith}
 use Rattle.rdx_lang.proofs.Collecting.{collects-start, collects-next, collects-end}
 use Rattle.rdx_lang.proofs.Rest.{rest_at, rest_none}
-use Rattle.rdx_lang.specs.Inside.Collecting.{Arises}
+use Rattle.rdx_lang.specs.Collecting.{Arises}
 use Rattle.rdx_lang.specs.Shown.{bindings_of}
 use Rattle.rdx_bind.specs.Rows.{JoinedSpot}
 use Rattle.rdx_bind.specs.Spots.{Spot, spot_of, spots_of}

@@ -1,6 +1,6 @@
 use Rattle.std.proofs.Common.{drop}
 use Rattle.rdx_lang.proofs.Collecting.{Collects}
-use Rattle.rdx_lang.specs.Inside.Collecting.{Arises}
+use Rattle.rdx_lang.specs.Collecting.{Arises}
 use Rattle.rdx_lang.specs.Shown.{bindings_of}
 use Rattle.rdx_bind.specs.Rows.{JoinedSpot}
 use Rattle.rdx_bind.specs.Spots.{spots_of}

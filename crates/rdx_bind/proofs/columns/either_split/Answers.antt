@@ -1,5 +1,5 @@
 use Rattle.std.proofs.Common.{List, []}
-use Rattle.rdx_lang.specs.Inside.Collecting.{Adds, Combined}
+use Rattle.rdx_lang.specs.Collecting.{Adds, Combined}
 use Rattle.rdx_lang.specs.Shown.{bindings_of}
 use Rattle.rdx_bind.specs.Rows.{JoinedSpot}
 use Rattle.rdx_bind.specs.Spots.{Spot, spots_of}

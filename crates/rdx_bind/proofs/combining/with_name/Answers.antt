@@ -5,7 +5,7 @@ use Rattle.rdx_term.specs.View.{tree_of}
 use Rattle.rdx_lang.specs.Bindings.{Binding, one}
 use Rattle.rdx_lang.specs.Join.{IsJoin}
 use Rattle.rdx_lang.specs.Shown.{binding_of, bindings_of}
-use Rattle.rdx_lang.specs.Inside.Collecting.{Adds}
+use Rattle.rdx_lang.specs.Collecting.{Adds}
 use Rattle.rdx_bind.specs.Combining.{Named}
 use Rattle.rdx_lang.proofs.Rest.{rest_at, rest_none}
 use Rattle.rdx_lang.proofs.Collecting.{Collects, collects-start, collects-next, collects-end, listing_of_all}

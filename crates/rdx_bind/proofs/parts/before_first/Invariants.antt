@@ -1,5 +1,5 @@
 use Rattle.std.proofs.Common.{length, ◌-◌, ◌≡◌, ◌≤◌, true, map, take}
-use Rattle.rdx_lang.specs.Inside.Singles.{are_single}
+use Rattle.rdx_lang.specs.Singles.{are_single}
 use Rattle.rdx_lang.specs.PatternView.{slot_of}
 use Rattle.rdx_bind.proofs.parts.before_first.Given as goal
 

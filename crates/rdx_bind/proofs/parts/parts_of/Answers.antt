@@ -3,7 +3,7 @@ use Rattle.std.proofs.lemmas.Grind.{common_steps}
 use Rattle.std.proofs.lemmas.List.{length-map, nil_from_length}
 use Rattle.rdx_term.specs.Tree.{Tree, Contents, list, trees}
 use Rattle.rdx_term.specs.View.{tree_of}
-use Rattle.rdx_lang.specs.Inside.Singles.{are_single}
+use Rattle.rdx_lang.specs.Singles.{are_single}
 use Rattle.rdx_lang.specs.PatternView.{Slot, slot_of}
 use Rattle.rdx_bind.specs.Parts.{CannotFit}
 use Rattle.rdx_bind.proofs.Cuts.{of_parts, too_few, too_many, no_length}

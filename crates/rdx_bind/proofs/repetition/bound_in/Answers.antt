@@ -2,7 +2,7 @@ use Rattle.std.proofs.Common.{◌≡◌, ◌+◌, ℕ, List, [], ◌∷◌, Vec,
 use Rattle.std.specs.declared.alloc.Global.{Global}
 use Rattle.rdx_lang.specs.Bindings.{Binding}
 use Rattle.rdx_lang.specs.Collections.{IsRepetition}
-use Rattle.rdx_lang.specs.Inside.Collecting.{Adds, Arises}
+use Rattle.rdx_lang.specs.Collecting.{Adds, Arises}
 use Rattle.rdx_lang.specs.Members.{In, here}
 use Rattle.rdx_lang.specs.Shown.{bindings_of}
 use Rattle.rdx_lang.specs.declared.binding.Binding as code

@@ -1,7 +1,7 @@
 use Rattle.std.proofs.Common.{◌≡◌, ◌++◌, ◌∷◌, List, [], length, take, drop, ◌/◌, ℕ, sym, subst, arith}
 use Rattle.std.proofs.lemmas.Grind.{common_steps}
 use Rattle.std.proofs.lemmas.Result.{IfOk-weaker}
-use Rattle.rdx_lang.specs.Inside.Collecting.{HasExactly}
+use Rattle.rdx_lang.specs.Collecting.{HasExactly}
 use Rattle.rdx_bind.specs.Rows.{SplitRow, JoinedSpots, SpotsAcross, split_row_of, split_rows_of}
 use Rattle.rdx_bind.specs.Spots.{Spot, spots_of}
 use Rattle.rdx_bind.proofs.AcrossRows.{map_one, map_parts}

@@ -1,7 +1,7 @@
 use Rattle.std.proofs.Common.{◌≡◌, ◌++◌, List, [], ◌∷◌, refl, sym, ◌∙◌, arith}
 use Rattle.std.proofs.lemmas.Grind.{common_steps}
 use Rattle.rdx_lang.proofs.Collecting.{adds_one}
-use Rattle.rdx_lang.specs.Inside.Collecting.{Adds}
+use Rattle.rdx_lang.specs.Collecting.{Adds}
 use Rattle.rdx_bind.proofs.Extended.{one_spot}
 use Rattle.rdx_bind.proofs.Gathering.{collects-last}
 use Rattle.rdx_bind.specs.Spots.{Spot, IsPlaced, spot_of, spots_of}

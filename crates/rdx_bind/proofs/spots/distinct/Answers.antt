@@ -3,7 +3,7 @@ use Rattle.std.proofs.lemmas.Grind.{common_steps}
 use Rattle.std.proofs.lemmas.List.{nil_from_length}
 use Rattle.std.proofs.lemmas.Result.{IfOk-weaker}
 use Rattle.rdx_lang.proofs.Collecting.{collects-end}
-use Rattle.rdx_lang.specs.Inside.Collecting.{Adds, Arises, HasExactly}
+use Rattle.rdx_lang.specs.Collecting.{Adds, Arises, HasExactly}
 use Rattle.rdx_lang.specs.Members.{In}
 use Rattle.rdx_bind.proofs.Gathering.{collects-last, adds_key, exactly_added, exactly_as}
 use Rattle.rdx_bind.proofs.SpotOrder.{spot_cmp-tells}

@@ -2,7 +2,7 @@ use Rattle.std.proofs.Common.{◌≡◌, ◌++◌, List, [], ◌∷◌, refl, ar
 use Rattle.std.proofs.lemmas.Grind.{common_steps}
 use Rattle.rdx_lang.proofs.Collecting.{adds_one}
 use Rattle.rdx_lang.specs.Bindings.{no_names}
-use Rattle.rdx_lang.specs.Inside.Collecting.{Adds}
+use Rattle.rdx_lang.specs.Collecting.{Adds}
 use Rattle.rdx_bind.proofs.Gathering.{collects-last}
 use Rattle.rdx_bind.specs.Spots.{Spot, spot_of, spots_of}
 use Rattle.rdx_bind.specs.Splitting.{IsNameless}

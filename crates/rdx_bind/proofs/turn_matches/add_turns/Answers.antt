@@ -1,7 +1,7 @@
 use Rattle.std.proofs.Common.{List}
 use Rattle.std.proofs.lemmas.Result.{on_ok_weaker}
 use Rattle.rdx_lang.specs.Bindings.{Binding}
-use Rattle.rdx_lang.specs.Inside.Collecting.{Adds, HasExactly}
+use Rattle.rdx_lang.specs.Collecting.{Adds, HasExactly}
 use Rattle.rdx_lang.specs.Shown.{bindings_of}
 use Rattle.rdx_bind.specs.Choices.{Repeats, length_name}
 use Rattle.rdx_bind.specs.Combining.{Joined}

@@ -3,7 +3,7 @@ use Rattle.std.proofs.Math.Seq.{drop-cons}
 use Rattle.std.proofs.lemmas.List.{length-map, drop_all}
 use Rattle.std.proofs.lemmas.Result.{IfOk-weaker}
 use Rattle.rdx_lang.specs.Bindings.{Binding}
-use Rattle.rdx_lang.specs.Inside.Collecting.{Adds, Arises}
+use Rattle.rdx_lang.specs.Collecting.{Adds, Arises}
 use Rattle.rdx_lang.specs.Shown.{bindings_of}
 use Rattle.rdx_lang.proofs.Collecting.{In_along, collects-next, collects-end, listing_of}
 use Rattle.rdx_bind.specs.Choices.{NoneEmpty, RepeatsWith, length_name}

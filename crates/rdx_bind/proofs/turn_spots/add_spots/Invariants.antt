@@ -1,5 +1,5 @@
 use Rattle.std.proofs.Common.{drop}
-use Rattle.rdx_lang.specs.Inside.Collecting.{Arises}
+use Rattle.rdx_lang.specs.Collecting.{Arises}
 use Rattle.rdx_lang.specs.Shown.{bindings_of}
 use Rattle.rdx_lang.proofs.Collecting.{Collects}
 use Rattle.rdx_bind.specs.Ends.{IsSpotWith}

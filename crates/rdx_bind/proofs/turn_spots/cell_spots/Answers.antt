@@ -1,5 +1,5 @@
 use Rattle.std.proofs.Common.{◌≡◌, ◌+◌, ℕ, List, [], ◌∷◌, drop, arith}
-use Rattle.rdx_lang.specs.Inside.Collecting.{Arises}
+use Rattle.rdx_lang.specs.Collecting.{Arises}
 use Rattle.rdx_lang.specs.Shown.{bindings_of}
 use Rattle.rdx_lang.proofs.Rest.{rest_at, rest_none}
 use Rattle.rdx_lang.proofs.Collecting.{collects-next, collects-end}

@@ -1,7 +1,7 @@
 use Rattle.std.proofs.Common.{◌≡◌, ◌+◌, ◌-◌, ◌<◌, ◌≤◌, ℕ, List, [], ◌∷◌, length, get_or, take, drop, Option, sym, subst, arith, add-one}
 use Rattle.std.proofs.Math.Seq.{drop-cons}
 use Rattle.std.proofs.lemmas.List.{length-map, drop_all}
-use Rattle.rdx_lang.specs.Inside.Collecting.{HasExactly}
+use Rattle.rdx_lang.specs.Collecting.{HasExactly}
 use Rattle.rdx_lang.proofs.Collecting.{In_along, collects-next, collects-end}
 use Rattle.rdx_bind.specs.Choices.{NoneEmpty, length_name}
 use Rattle.rdx_bind.specs.Ends.{HasSpots, IsReached, SplitsNextAt, SplitsNextTo}

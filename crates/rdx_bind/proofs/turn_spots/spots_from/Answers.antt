@@ -1,6 +1,6 @@
 use Rattle.std.proofs.Common.{ℕ, List, [], Option}
 use Rattle.std.proofs.lemmas.Result.{IfOk-weaker}
-use Rattle.rdx_lang.specs.Inside.Collecting.{Adds, Arises, HasExactly}
+use Rattle.rdx_lang.specs.Collecting.{Adds, Arises, HasExactly}
 use Rattle.rdx_bind.specs.Choices.{length_name}
 use Rattle.rdx_bind.specs.Ends.{SplitsCellTo, SplitsNextTo}
 use Rattle.rdx_bind.specs.Rows.{SplitRow, split_rows_of}

@@ -2,7 +2,7 @@ use Rattle.std.proofs.Common.{◌≡◌, ◌++◌, List, [], ◌∷◌, sym, ◌
 use Rattle.std.proofs.lemmas.Grind.{common_steps}
 use Rattle.std.proofs.lemmas.Result.{IfOk-weaker}
 use Rattle.rdx_lang.specs.Decompositions.{Decomposition}
-use Rattle.rdx_lang.specs.Inside.Collecting.{Adds, Arises}
+use Rattle.rdx_lang.specs.Collecting.{Adds, Arises}
 use Rattle.rdx_lang.specs.Shown.{decomposition_of, decompositions_of}
 use Rattle.rdx_lang.proofs.Collecting.{Collects, adds_one, collects-start, collects-end, listing_of_all}
 use Rattle.rdx_term.specs.Tree.{Tree}

@@ -3,7 +3,7 @@ use Rattle.std.proofs.lemmas.Grind.{common_steps}
 use Rattle.std.proofs.lemmas.List.{length-map, nil_from_length}
 use Rattle.rdx_term.specs.Tree.{Tree, list, trees}
 use Rattle.rdx_term.specs.View.{tree_of}
-use Rattle.rdx_lang.specs.Inside.Singles.{are_single}
+use Rattle.rdx_lang.specs.Singles.{are_single}
 use Rattle.rdx_lang.specs.Patterns.{Pattern}
 use Rattle.rdx_lang.specs.PatternView.{Slot}
 use Rattle.rdx_bind.specs.Parts.{CannotFit}

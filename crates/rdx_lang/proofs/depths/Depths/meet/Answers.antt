@@ -5,7 +5,7 @@ use Rattle.std.specs.Cmp.{unsigned_Decides}
 use Rattle.std.specs.List.{list_all}
 use Rattle.std.specs.Prelude.{nat_eq, ◌&&◌}
 use Rattle.rdx_lang.specs.Depths.{Use, agree}
-use Rattle.rdx_lang.specs.Inside.Collecting.{Adds}
+use Rattle.rdx_lang.specs.Collecting.{Adds}
 use Rattle.rdx_lang.specs.Members.{In}
 use Rattle.rdx_lang.specs.Met.{met, use_of}
 use Rattle.rdx_lang.proofs.MetUses.{first_fails, agree-found, agree-absent, met-again, inserted-met, known_already, use_in, key_cmp}

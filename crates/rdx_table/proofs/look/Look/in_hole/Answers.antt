@@ -5,7 +5,7 @@ use Rattle.rdx_term.specs.Tree.{Tree}
 use Rattle.rdx_lang.proofs.Collecting.{collects-next, collects-end, In_along}
 use Rattle.rdx_lang.proofs.Rest.{rest_at, rest_none}
 use Rattle.rdx_lang.specs.Bindings.{Binding}
-use Rattle.rdx_lang.specs.Inside.Collecting.{Arises, Adds}
+use Rattle.rdx_lang.specs.Collecting.{Arises, Adds}
 use Rattle.rdx_lang.specs.Members.{In, here}
 use Rattle.rdx_lang.specs.Patterns.{Pattern, Language}
 use Rattle.rdx_lang.specs.Shown.{bindings_of}

@@ -1,7 +1,7 @@
 use Rattle.std.proofs.lemmas.Result.{IfOk-weaker}
 use Rattle.rdx_term.specs.View.{tree_of}
 use Rattle.rdx_lang.specs.Checked.{language_in, pattern_in}
-use Rattle.rdx_lang.specs.Inside.Collecting.{HasExactly}
+use Rattle.rdx_lang.specs.Collecting.{HasExactly}
 use Rattle.rdx_bind.proofs.SplitRules.{splits_listing}
 use Rattle.rdx_bind.specs.Spots.{SplitsAt, spots_of}
 use Rattle.rdx_nodes.proofs.RowLaws.{row_spots}

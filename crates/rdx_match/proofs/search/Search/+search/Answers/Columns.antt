@@ -11,7 +11,7 @@ use Rattle.rdx_term.specs.View.{tree_of, trees_of}
 use Rattle.rdx_lang.proofs.Collecting.{In_along, no_member}
 use Rattle.rdx_lang.specs.Ascending.{IsAscending}
 use Rattle.rdx_lang.specs.Bindings.{Binding, name_cmp}
-use Rattle.rdx_lang.specs.Inside.Collecting.{HasExactly}
+use Rattle.rdx_lang.specs.Collecting.{HasExactly}
 use Rattle.rdx_lang.specs.Checked.{language_in}
 use Rattle.rdx_lang.specs.Names.{names}
 use Rattle.rdx_lang.proofs.NameLaws.{names-ascend}

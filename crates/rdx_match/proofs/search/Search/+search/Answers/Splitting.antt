@@ -9,7 +9,7 @@ use Rattle.rdx_term.specs.AtPaths.{IsPlace, tree_at}
 use Rattle.rdx_term.specs.Tree.{Tree}
 use Rattle.rdx_term.specs.View.{tree_of}
 use Rattle.rdx_lang.proofs.Collecting.{collects-next, collects-end, In_along, no_member}
-use Rattle.rdx_lang.specs.Inside.Collecting.{Arises, Adds, HasExactly}
+use Rattle.rdx_lang.specs.Collecting.{Arises, Adds, HasExactly}
 use Rattle.rdx_lang.specs.Members.{In, here}
 use Rattle.rdx_lang.specs.Checked.{language_in}
 use Rattle.rdx_lang.proofs.PatternEquations.{pattern_hole, pattern_nt, pattern_closed, pattern_seq}
