@@ -10,8 +10,6 @@ pub mod Examples
 pub mod AcceptedOrRefused
 pub mod AskedNames
 pub mod SomeText
-pub mod ClosedValid
-pub mod FreeContexts
 pub mod AcceptedForms
 pub mod AcceptedScopes
 pub mod SmallData

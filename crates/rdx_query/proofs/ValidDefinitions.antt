@@ -4,7 +4,7 @@ use Rattle.std.proofs.lemmas.List.{length-append}
 use Rattle.std.specs.Prelude.{is_some, IsSome, option_map}
 use Rattle.rdx_sexp.specs.Sexp.{integer, truth, text, symbol, keyword, Sexp, Sexps, leaf, list, nil, cons, sexp_nodes, sexps_nodes}
 use Rattle.rdx_sexp.specs.Size.{sexp_depth, IsSpelledSexp}
-use Rattle.rdx_lang.specs.Closures.{rule_names, context_name, closed_rule, context_closure}
+use Rattle.rdx_lang.specs.Closures.{rule_names, closed_rule, context_closure}
 use Rattle.rdx_lang.specs.Members.{In, here, there}
 use Rattle.rdx_lang.specs.Patterns.{Pattern, Language, nt}
 use Rattle.rdx_lang.specs.Programs.{Metafunction, Judgement, Relation, Rule, language_named}
@@ -63,6 +63,9 @@ use Rattle.rdx_relations.proofs.RelationAsks.{relation-asks}
 use Rattle.rdx_relations.specs.Inside.BareForms as bare_stands
 use Rattle.rdx_relations.specs.RelationStands.{expanded_stands, shortcuts_stand}
 use Rattle.rdx_parts.specs.StandChecks.{bad_names}
+use Rattle.rdx_reduce.proofs.ClosedValid.{closure_is_valid}
+use Rattle.rdx_reduce.proofs.FreeContexts.{few_leave_names, closures_bind_one_more}
+use Rattle.rdx_reduce.specs.ValidClosures.{BindsFew, BindFew}
 use Rattle.rdx_forms.specs.ClosureForms.{closed_relation, closure_names, closure_language_at, unknown_closed_at, closure_shape_at, no_nonterminal_at, context_refusal_by, context_relation_by, compatible_refusal_by, compatible_relation_by}
 use Rattle.rdx_forms.specs.DefineForms.{define_refusal_by, defined_relation, kind_refusal, kind_relation, relation_by}
 use Rattle.rdx_forms.specs.DefineParts.{DefineKind, by_cases, by_contexts, by_crosses, DefineParts, ClosureParts, define_parts, closure_parts, with_symbol}
@@ -80,13 +83,11 @@ use Rattle.rdx_forms.specs.MetafunctionForms.{function_names, function_taken_at,
 use Rattle.rdx_forms.specs.RelationForms.{bad_relation_at, relation_language}
 use Rattle.rdx_query.proofs.AcceptedForms.{image-of, IsLanguageOf, language-parts, IsFunctionOf, function-parts, IsJudgementOf, judgement-parts, cases-parts}
 use Rattle.rdx_query.proofs.BoundTexts.{NamesHave, RulesBind, rules-bind}
-use Rattle.rdx_query.proofs.ClosedValid.{closure-valid}
 use Rattle.rdx_forms.proofs.ClosureChecks.{by-readable, by-asks, language-known, same-language}
 use Rattle.rdx_query.proofs.DefinedJudgements.{mapped-some}
 use Rattle.rdx_query.proofs.DistinctDefinitions.{over-name, defined_name, free-name}
 use Rattle.rdx_forms.proofs.FormParts.{unbuilt_at-built, parts-built, define-items, closure-items}
 use Rattle.rdx_forms.proofs.FoundByName.{language-found, language-among, relation-among}
-use Rattle.rdx_query.proofs.FreeContexts.{BindFew, free-contexts}
 use Rattle.rdx_forms.proofs.GainingNothing.{crossed-same, data-asked, define-asked, body-asks}
 use Rattle.rdx_query.proofs.NamedNonterminals.{HasNames, HaveNames, over-names, base-names}
 use Rattle.rdx_query.proofs.SmallData.{SymbolsHave, AllSymbolsHave, IsSmall, SmallIn, small-parts, small-readable, limit, relation-small}
@@ -192,31 +193,15 @@ names-among d (x ∷ ns) h = λ y i. elim i [
 
 -- so each rule binds few
 few-rules : (d : Sexp) (n : ℕ) (rs : List Rule) → suc (sexp_nodes d) ≤ n → RulesBind (IsOwn d) (here refl) rs → BindFew n rs
-few-rules d n [] l h = tt
-few-rules d n (r ∷ rs) l h =
-    (record { texts = some_texts d; few = let k = few-texts d in omega (arith, k, l); among = names-among d (rule_names r) h.0 }, few-rules d n rs l h.1)
-
--- ---- closures
-
--- each rule binds one name more
-closed-few : (n : ℕ) (p : Pattern) (rs : List Rule) → BindFew n rs → BindFew (suc n) (map (closed_rule p) rs)
-closed-few n p [] h = tt
-closed-few n p (r ∷ rs) h = (
-  record {
-    texts = context_name r ∷ h.0.texts;
-    few = let k = h.0.few in omega (arith, k);
-    among = λ x i. elim i [
-      | here e ↦ here e
-      | there j ↦ there (h.0.among x j)
-    ];
-  },
-  closed-few n p rs h.1,
-)
+few-rules d n [] l h r i = elim i [ ]
+few-rules d n (q ∷ rs) l h r (here e) =
+    let k = few-texts d in
+    subst (BindsFew n) (sym e) (record { texts = some_texts d; few = omega (arith, k, l); among = names-among d (rule_names q) h.0 })
+few-rules d n (q ∷ rs) l h r (there i) = few-rules d n rs l h.1 r i
 
 -- the same where more are allowed
 pub few-more : (m n : ℕ) (rs : List Rule) → m ≤ n → BindFew m rs → BindFew n rs
-few-more m n [] l h = tt
-few-more m n (r ∷ rs) l h = (record { texts = h.0.texts; few = let k = h.0.few in omega (arith, k, l); among = h.0.among }, few-more m n rs l h.1)
+few-more m n rs l h r i = let b = h r i in let k = b.few in record { texts = b.texts; few = omega (arith, k, l); among = b.among }
 
 -- a datum without a word to come
 pub built : (d : Sexp) → unbuilt_at d ≡ None → has_word_to_come d ≡ false
@@ -438,7 +423,7 @@ module _ (n : ℕ) (K : Known) (V : AreValidSoFar n K) (d : Sexp) (depth : sexp_
         let old = V.relations T (relation-among K.program.relations (text_of c.relation) T v.is) in
         let l = language-known K c k in
         let named : language_named K.program T.language ≡ Some l.value = ap (language_named K.program) (same-language K c k T v.is) ∙ l.is in
-        let valid = closure-valid C l.value p (text_of q.name) T (w l.value l.is) (free-contexts n T.rules room old.few)
+        let valid = closure_is_valid C l.value p (text_of q.name) T (w l.value l.is) (few_leave_names n T.rules room old.few)
         (ap (λ (o : Option Language). is_valid_over C o T) (sym named) ∙ old.valid) in
         let some = node-some d in
         record {
@@ -446,7 +431,7 @@ module _ (n : ℕ) (K : Known) (V : AreValidSoFar n K) (d : Sexp) (depth : sexp_
           valid = subst (IsValidRelation more K) v.gives
               (record {
                 valid = ap (λ (o : Option Language). is_valid_over C o (context_closure p (text_of q.name) T)) named ∙ valid;
-                few = few-more (suc n) more (map (closed_rule p) T.rules) (omega (arith, some)) (closed-few n p T.rules old.few);
+                few = few-more (suc n) more (map (closed_rule p) T.rules) (omega (arith, some)) (closures_bind_one_more n p (text_of q.name) T old.few);
               });
         }
 

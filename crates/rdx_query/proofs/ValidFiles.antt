@@ -18,6 +18,7 @@ use Rattle.rdx_patterns.specs.Readable.{IsReadable}
 use Rattle.rdx_relations.proofs.PartsOfForms.{Each}
 use Rattle.rdx_templates.specs.Scope.{mode_of, callable}
 use Rattle.rdx_defs.specs.Scopes.{scope_in}
+use Rattle.rdx_reduce.proofs.FreeContexts.{few_leave_names}
 use Rattle.rdx_reduce.specs.ClosureLaws.{LeavesAName}
 use Rattle.rdx_forms.specs.Definitions.{Defined, language, metafunction, judgement, relation}
 use Rattle.rdx_forms.specs.Ends.{form_ends, file_ends}
@@ -28,11 +29,9 @@ use Rattle.rdx_forms.specs.Known.{Known, with_definition, judgement_language}
 use Rattle.rdx_answer.specs.Queries.{Query, matches, whether, splits, value, holds, reducts, tagged, stepper, test_equal, test_step, test_run, test_match, test_holds, test_results}
 use Rattle.rdx_query.specs.ValidQueries.{Askable, is_valid_host, is_valid_pattern, is_valid_premise, fits_behind, is_valid_query, judged_language, askable_in, are_valid_queries}
 use Rattle.rdx_query.proofs.AcceptedScopes.{IsScopeIn, accepted-scope, scope-callable}
-use Rattle.rdx_query.proofs.ClosedValid.{HaveFreeContexts}
 use Rattle.rdx_query.proofs.DistinctDefinitions.{distinct-more}
 use Rattle.rdx_query.proofs.FittingKnown.{is_crossed}
 use Rattle.rdx_forms.proofs.FoundByName.{language-stays}
-use Rattle.rdx_query.proofs.FreeContexts.{free-contexts}
 use Rattle.rdx_forms.proofs.GainingNothing.{data-asked}
 use Rattle.rdx_query.proofs.NamedNonterminals.{HasNames, crossed-names}
 use Rattle.rdx_query.proofs.ValidAsked.{named_language, askable, query-is_valid}
@@ -308,12 +307,6 @@ asked-of ds P s =
     by_judgement None = refl
     by_judgement (Some I) = refl
 
--- a rule among those that leave the name of a context free
-free-in : (rs : List Rule) (r : Rule) → HaveFreeContexts rs → In r rs → LeavesAName r
-free-in [] r h i = elim i [ ]
-free-in (s ∷ rs) r h (here e) = subst LeavesAName (sym e) h.0
-free-in (s ∷ rs) r h (there i) = free-in rs r h.1 i
-
 -- both are valid, and each rule of a relation leaves the name of a context free
 record IsAcceptedValid (P : Program) (qs : List Query) : Type 0 where
   program : IsTrue (is_valid P)
@@ -345,7 +338,7 @@ both-valid ds P qs z a =
       queries = ap (λ (A : Askable). list_all (is_valid_query A) qs) (sym (asked-of ds P s)) ∙ w.asked;
       contexts = λ R r i k.
           let small = w.small in
-          free-in R.rules r (free-contexts w.bound R.rules (omega (arith, small)) (V.relations R i).few) k;
+          few_leave_names w.bound R.rules (omega (arith, small)) (V.relations R i).few r k;
     }
 
 -- the program is valid

@@ -96,7 +96,7 @@ bound-used x d (u ∷ us) h = by_test (binds u x d) refl h (bound-used x d us)
 -- ---- the name of a context
 
 -- a text that is none of some names is not one
-none_of : (x : List ℕ) (ys : List (List ℕ)) → list_any (bytes_eq x) ys ≡ false → In x ys → ⊥
+pub none_of : (x : List ℕ) (ys : List (List ℕ)) → list_any (bytes_eq x) ys ≡ false → In x ys → ⊥
 none_of x [] h i = elim i [ ]
 none_of x (y ∷ ys) h i = by_test (bytes_eq x y) refl h (none_of x ys) i
   where

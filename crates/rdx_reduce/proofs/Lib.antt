@@ -11,3 +11,5 @@ pub mod AlongExtras
 pub mod TakenSteps
 pub mod FirstFaults
 pub mod ClosureLaws
+pub mod ClosedValid
+pub mod FreeContexts

@@ -50,6 +50,10 @@ MatchesInContext =
 abbrev pub LeavesAName : Rule → Type 0
 LeavesAName r = IsFalse (list_any (bytes_eq (context_name r)) (rule_names r))
 
+-- each of these rules leaves the name of a context free
+abbrev pub LeaveNames : List Rule → Type 0
+LeaveNames rs = (r : Rule) → In r rs → LeavesAName r
+
 -- what the rule's pattern binds has a join with the name of the context, whichever the context is
 abbrev pub ContextIsJoined : Type 0
 ContextIsJoined =
@@ -94,7 +98,7 @@ pub record IsTakenInside (L : Language) (C : Calls) (q : Pattern) (t : Tree) (rs
 abbrev pub ClosureLists : Type 0
 ClosureLists =
     (L : Language) (P : Program) (n : ℕ) (F : Callable) (q : Pattern) (x : List ℕ) (R : Relation) (t : Tree) (ss : List Step)
-    → IsTrue (list_all (is_valid_rule F L) R.rules) → ((r : Rule) → In r R.rules → LeavesAName r)
+    → IsTrue (list_all (is_valid_rule F L) R.rules) → LeaveNames R.rules
     → Steps L (calls_at P n) t (context_closure q x R).rules (value ss) → IsListing step_cmp ss (IsTakenInside L (calls_at P n) q t R.rules)
 
 -- ---- faults
@@ -124,5 +128,5 @@ FaultsInContext =
 abbrev pub ClosureFaults : Type 0
 ClosureFaults =
     (L : Language) (P : Program) (n : ℕ) (F : Callable) (q : Pattern) (x : List ℕ) (R : Relation) (t : Tree) (f : Fault) (a : Answer (List Step))
-    → IsTrue (list_all (is_valid_rule F L) R.rules) → ((r : Rule) → In r R.rules → LeavesAName r)
+    → IsTrue (list_all (is_valid_rule F L) R.rules) → LeaveNames R.rules
     → Steps L (calls_at P n) t (context_closure q x R).rules a → (a ≡ fault f ↔ IsFirstMet (MeetsFaultInside L (calls_at P n) t q t) R.rules f)

@@ -5,6 +5,7 @@ pub mod Laws
 pub mod TakenSteps
 pub mod FirstFaults
 pub mod ClosureLaws
+pub mod ValidClosures
 pub mod Examples
 pub mod ClosureExamples
 pub mod Model

@@ -6,6 +6,7 @@ ghost use Rattle.rdx_reduce.specs.Examples.{ConditionHolds, ConditionFails, Wher
 ghost use Rattle.rdx_reduce.specs.FirstFaults.{AnswersFirst};
 ghost use Rattle.rdx_reduce.specs.Laws.{OneStepping, SomeStepping};
 ghost use Rattle.rdx_reduce.specs.TakenSteps.{ListsTaken};
+ghost use Rattle.rdx_reduce.specs.ValidClosures.{ClosureIsValid, CompatibleIsValid, FewLeaveNames, ClosureBindsOneMore};
 
 /// The rules of a relation have one listing of their steps from a term, or one fault, where the
 /// program's languages are free of left recursion.
@@ -34,6 +35,16 @@ pub fn closures_step_inside()
     ensures lists { ClosureLists }
     ensures faults { FaultsInContext }
     ensures first { ClosureFaults }
+{}
+
+/// A closure of a valid relation is valid over the relation's language, where the closing pattern is
+/// well formed and each rule leaves the name of a context free. Rules that bind few names do; and those
+/// of a closure bind one more, so closures of closures are valid too.
+pub fn closures_stay_valid()
+    ensures valid { ClosureIsValid }
+    ensures compatible { CompatibleIsValid }
+    ensures few { FewLeaveNames }
+    ensures more { ClosureBindsOneMore }
 {}
 
 /// Worked examples: the steps of small rules from small terms.
