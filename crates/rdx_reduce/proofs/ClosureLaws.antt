@@ -10,6 +10,7 @@ use Rattle.rdx_lang.specs.Bindings.{Value, Binding, one_name, value_at}
 use Rattle.rdx_lang.specs.Bindings.{one as one_term}
 use Rattle.rdx_lang.specs.Closures.{context_name, closed_rule}
 use Rattle.rdx_lang.specs.Depths.{uses}
+use Rattle.rdx_lang.specs.Empty.{IsEmpty}
 use Rattle.rdx_lang.specs.Fitting.{fits}
 use Rattle.rdx_lang.specs.Join.{IsJoin}
 use Rattle.rdx_lang.specs.Members.{In, here, there}
@@ -37,7 +38,7 @@ use Rattle.rdx_eval.specs.Instantiation.{Makes}
 use Rattle.rdx_eval.specs.Making.{IsFilled, filled}
 use Rattle.rdx_eval.specs.Turns.{term_or}
 use Rattle.rdx_eval.proofs.OneAnswer.{same_value}
-use Rattle.rdx_reduce.specs.ClosureLaws.{MatchesInside, MatchesInContext, LeavesAName, ContextIsJoined, TakesStepInside, StepsInContext, KeepsOwnSteps, IsTakenInside, ClosureLists, MeetsFaultInside, FaultsInContext, ClosureFaults}
+use Rattle.rdx_reduce.specs.ClosureLaws.{MatchesInside, MatchesInContext, LeavesAName, ContextIsJoined, TakesStepInside, StepsInContext, KeepsOwnSteps, IsTakenInside, ClosureLists, MeetsFaultInside, FaultsInContext, KeepsOwnFaults, ClosureFaults}
 use Rattle.rdx_reduce.specs.FirstFaults.{FailsAfter, MeetsFault, IsFirstMet}
 use Rattle.rdx_reduce.specs.Steps.{Step}
 use Rattle.rdx_reduce.specs.TakenSteps.{LeadTo, TakesStep, IsTaken}
@@ -329,6 +330,37 @@ module _ (L : Language) (C : Calls) (F : Callable) (q : Pattern) (r : Rule) (w t
         fails = subst (λ (c : Binding). FailsAfter L C (λ d. Makes C d (closed_rule q r).result) (avoiding w) r.extras j.0 n c f) same e.1;
       }
 
+  -- where q splits each term with the hole, the closed rule meets the faults that the rule meets
+  fault_kept : IsEmpty L q → (n : ℕ) (b : Binding) (f : Fault) → MeetsFault L C w t r n b f
+      → (c : Binding) × IsJoin (one_name (context_name r) (one_term the_hole)) b c × MeetsFault L C w t (closed_rule q r) n c f
+  fault_kept empty n b f h =
+      let x : List ℕ = context_name r in
+      let whole = empty_splits_all L q t empty in
+      let part : whole.part ≡ t = (split-along whole.split).part in
+      let j = context_is_joined L r the_hole t h.first leaves h.matched in
+      let wider : IsWider x (one_term the_hole) h.first j.0 = record {
+        less = record { map = match-ascends h.matched; free = λ v i. context-unbound r leaves L t h.first v h.matched i };
+        joined = j.1;
+      } in
+      let e = fails-alike (IsWider x (one_term the_hole)) (wider_differs x (one_term the_hole)) (λ c. Makes C c r.result)
+      (λ c. Makes C c (closed_rule q r).result) f (λ c d k m. put-fault the_hole f c d k (stops m)) h.first j.0 b n wider h.fails in (
+        e.0,
+        e.2.joined,
+        record {
+          first = j.0;
+          matched = outside L q x r.pattern t j.0 (record {
+            context = the_hole;
+            part = whole.part;
+            forgotten = whole.binding;
+            inner = h.first;
+            split = whole.split;
+            matched = subst (λ (u : Tree). Match L r.pattern u h.first) (sym part) h.matched;
+            joined = j.1;
+          });
+          fails = e.1;
+        },
+      )
+
 pub steps_in_context : StepsInContext
 steps_in_context L P n F q r w t u valid leaves =
     (step_inside L (calls_at P n) F q r w t valid leaves u, step_outside L (calls_at P n) F q r w t valid leaves u)
@@ -336,6 +368,9 @@ steps_in_context L P n F q r w t u valid leaves =
 pub faults_in_context : FaultsInContext
 faults_in_context L P n F q r w t k b f valid leaves =
     (fault_inside L (calls_at P n) F q r w t valid leaves k b f, fault_outside L (calls_at P n) F q r w t valid leaves k b f)
+
+pub keeps_own_faults : KeepsOwnFaults
+keeps_own_faults L P n F q r w t k b f valid leaves empty h = fault_kept L (calls_at P n) F q r w t valid leaves empty k b f h
 
 pub keeps_own_steps : KeepsOwnSteps
 keeps_own_steps L P n F q r w t u valid leaves empty small h =

@@ -5,7 +5,7 @@ use Rattle.std.specs.Prelude.{◌≡◌, ◌↔◌, ℕ, IsTrue, IsFalse, List, 
 use Rattle.std.specs.List.{list_all, list_any}
 use Rattle.rdx_term.specs.Fill.{fill_of}
 use Rattle.rdx_term.specs.Limits.{KeepsLimits}
-use Rattle.rdx_term.specs.Tree.{Tree}
+use Rattle.rdx_term.specs.Tree.{Tree, hole}
 use Rattle.rdx_lang.specs.Bindings.{Binding, one_name}
 use Rattle.rdx_lang.specs.Bindings.{one as one_term}
 use Rattle.rdx_lang.specs.Closures.{rule_names, context_name, closed_rule, context_closure}
@@ -123,7 +123,14 @@ FaultsInContext =
     → IsTrue (is_valid_rule F L r) → LeavesAName r
     → (MeetsFault L (calls_at P n) w t (closed_rule q r) k b f ↔ MeetsFaultInside L (calls_at P n) w q t r k b f)
 
--- so whatever the steps of a closure of a relation with valid rules are answered, it is a fault exactly where this is the first that its rules meet
+-- so a closing pattern that is Empty leaves to a valid rule its own faults, too, behind as many of its extras; the context is the hole
+abbrev pub KeepsOwnFaults : Type 0
+KeepsOwnFaults =
+    (L : Language) (P : Program) (n : ℕ) (F : Callable) (q : Pattern) (r : Rule) (w t : Tree) (k : ℕ) (b : Binding) (f : Fault)
+    → IsTrue (is_valid_rule F L r) → LeavesAName r → IsEmpty L q → MeetsFault L (calls_at P n) w t r k b f
+    → (c : Binding) × IsJoin (one_name (context_name r) (one_term hole)) b c × MeetsFault L (calls_at P n) w t (closed_rule q r) k c f
+
+-- whatever the steps of a closure of a relation with valid rules are answered, it is a fault exactly where this is the first that its rules meet
 -- inside of contexts; bindings are in order with the name of the context among theirs
 abbrev pub ClosureFaults : Type 0
 ClosureFaults =

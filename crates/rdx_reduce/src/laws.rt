@@ -1,5 +1,5 @@
 //! Laws of steps: functions that do nothing, whose contracts are the laws.
-ghost use Rattle.rdx_reduce.specs.ClosureLaws.{MatchesInContext, ContextIsJoined, StepsInContext, KeepsOwnSteps, ClosureLists, FaultsInContext, ClosureFaults};
+ghost use Rattle.rdx_reduce.specs.ClosureLaws.{MatchesInContext, ContextIsJoined, StepsInContext, KeepsOwnSteps, ClosureLists, FaultsInContext, KeepsOwnFaults, ClosureFaults};
 ghost use Rattle.rdx_reduce.specs.ClosureExamples.{NameStays, NameIsTaken, ClosureOfClosure, StepsInside, NoStepAtTop, FreshAvoidsContext, StepsInEachPlace, FaultInside, FirstPlaceFails};
 ghost use Rattle.rdx_reduce.specs.Examples.{OneStep, StepByEach, OnceForTwo, FaultAlone, RulesInOrder, MarksCount, FirstFault};
 ghost use Rattle.rdx_reduce.specs.Examples.{ConditionHolds, ConditionFails, WhereFails};
@@ -34,6 +34,7 @@ pub fn closures_step_inside()
     ensures own { KeepsOwnSteps }
     ensures lists { ClosureLists }
     ensures faults { FaultsInContext }
+    ensures own_faults { KeepsOwnFaults }
     ensures first { ClosureFaults }
 {}
 

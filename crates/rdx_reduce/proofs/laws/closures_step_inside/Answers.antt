@@ -1,4 +1,4 @@
-use Rattle.rdx_reduce.proofs.ClosureLaws.{matches_in_context, context_is_joined, steps_in_context, keeps_own_steps, closure_lists, faults_in_context, closure_faults}
+use Rattle.rdx_reduce.proofs.ClosureLaws.{matches_in_context, context_is_joined, steps_in_context, keeps_own_steps, closure_lists, faults_in_context, keeps_own_faults, closure_faults}
 use Rattle.rdx_reduce.proofs.laws.closures_step_inside.Goals as goal
 
 pub returns-clause-matches : goal.returns-clause-matches
@@ -18,6 +18,9 @@ returns-clause-lists c = closure_lists
 
 pub returns-clause-faults : goal.returns-clause-faults
 returns-clause-faults c = faults_in_context
+
+pub returns-clause-own_faults : goal.returns-clause-own_faults
+returns-clause-own_faults c = keeps_own_faults
 
 pub returns-clause-first : goal.returns-clause-first
 returns-clause-first c = closure_faults
