@@ -2,7 +2,7 @@
 // every step.
 ghost use Rattle.std.specs.Prelude.{◌≡◌, ◌<◌, ◌+◌, ◌++◌, ◌&&◌, IfOk, OnOk, length, map, max, slice_set, if◌then◌else◌};
 ghost use Rattle.rdx_lang.specs.Empty.{TellsEmpty, is_empty};
-ghost use Rattle.rdx_lang.specs.PatternView.{pattern_of, patterns_of, language_of, slot_of, items_of};
+ghost use Rattle.rdx_lang.specs.PatternView.{pattern_of, patterns_of, language_of, slot_of, items_of, ranks_of};
 ghost use Rattle.rdx_lang.specs.Ranks.{AreRanks};
 ghost use Rattle.rdx_lang.specs.LeftNumbers.{left_number};
 ghost use Rattle.rdx_lang.specs.WellFormed.{IsWellFormed};
@@ -268,7 +268,7 @@ pub(crate) fn ranks(
     requires falling { AreFalling (targets_of
         (empty_by (language_at nonterminals.now) empty.now)
         (language_at nonterminals.now)) falling.now }
-    ensures { IfOk result (λ r. AreRanks (language_at nonterminals.now) r.of.items) }
+    ensures { IfOk result (λ r. AreRanks (language_at nonterminals.now) (ranks_of r)) }
 {
     let scale = height_in(nonterminals.language)?
         .checked_add(1)

@@ -2,7 +2,7 @@
 ghost use Rattle.std.specs.Prelude.{◌≡◌, ◌<◌, IfOk, IfErr, length};
 ghost use Rattle.rdx_lang.specs.Edges.{IsFree};
 ghost use Rattle.rdx_lang.specs.Empty.{TellsEmpty};
-ghost use Rattle.rdx_lang.specs.PatternView.{language_of};
+ghost use Rattle.rdx_lang.specs.PatternView.{language_of, ranks_of};
 ghost use Rattle.rdx_lang.specs.Ranks.{AreRanks};
 ghost use Rattle.rdx_lang.specs.WellFormed.{IsWellFormed};
 ghost use Rattle.rdx_leftrec.specs.Recursion.{IsRecursionOf, IsNamed};
@@ -59,7 +59,7 @@ fn refusal(nonterminals: &Nonterminals<'_>, empty: &[bool], place: usize) -> Lef
 // Ranks for the language of these nonterminals, or the first one that reaches itself.
 fn check_all(alloc: Global, nonterminals: &Nonterminals<'_>) -> Result<Ranks, LeftRec>
     requires { IsWellFormed (language_at nonterminals.now) }
-    ensures ranks { IfOk result (λ r. AreRanks (language_at nonterminals.now) r.of.items) }
+    ensures ranks { IfOk result (λ r. AreRanks (language_at nonterminals.now) (ranks_of r)) }
     ensures free { IfOk result (λ r. IsFree (language_at nonterminals.now)) }
     ensures recursive { IfErr result (IsRecursionOf (language_at nonterminals.now)) }
     ensures exact { IsNamed (language_at nonterminals.now) result }
@@ -77,7 +77,7 @@ fn check_all(alloc: Global, nonterminals: &Nonterminals<'_>) -> Result<Ranks, Le
 /// the order of definition, that reaches itself.
 pub fn check(alloc: Global, language: &Language) -> Result<Ranks, LeftRec>
     requires { IsWellFormed (language_of language.now) }
-    ensures ranks { IfOk result (λ r. AreRanks (language_of language.now) r.of.items) }
+    ensures ranks { IfOk result (λ r. AreRanks (language_of language.now) (ranks_of r)) }
     ensures free { IfOk result (λ r. IsFree (language_of language.now)) }
     ensures recursive { IfErr result (IsRecursionOf (language_of language.now)) }
     ensures exact { IsNamed (language_of language.now) result }
