@@ -6,9 +6,13 @@
 //!
 //! A reader gives what the form means, or refuses the form at the first place of the check with the least number that refuses it. The
 //! README names the definition of each check.
+//!
+//! What a refusal is, the reader of patterns and [`cross_of`], which gives a language its cross nonterminals to one end, stand in `rdx_patterns`
+//! and are offered here too.
 #![tactic(auto)]
 
 mod languages;
 pub mod laws;
 
 pub use languages::{extend, read_language};
+pub use rdx_patterns::{DefFault, DefKind, DefRefusal, cross_of, read_pattern};
