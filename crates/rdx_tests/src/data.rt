@@ -1,5 +1,6 @@
 // Data that were read, printed.
-use rdx_sexp::{Datum, datum_text, read_all};
+use crate::making::read;
+use rdx_sexp::{Datum, datum_text};
 use rdx_term::NoMemory;
 use std::alloc::Global;
 use std::process::Abort;
@@ -15,18 +16,14 @@ fn printed(alloc: Global, datum: &Datum) -> Result<Vec<u8>, NoMemory> {
     Ok(text)
 }
 
-fn read<R: Abort + AllocGlobal>(rt: &R) -> Vec<Datum> {
-    read_all(rt.alloc(), TEXT).expect(rt, "data")
-}
-
-fn prints<R: Abort + AllocGlobal>(rt: &R, datum: &Datum, wanted: &str) {
+pub(crate) fn prints<R: Abort + AllocGlobal>(rt: &R, datum: &Datum, wanted: &str) {
     let text = printed(rt.alloc(), datum).expect(rt, "a text");
     assert_eq!(rt; text.as_slice(), wanted.as_bytes());
 }
 
 #[test]
 fn data_are_printed(rt: HostRuntime) {
-    let data = read(&rt);
+    let data = read(&rt, TEXT);
     assert_eq!(rt; data.len(), 1);
     prints(&rt, &data[0], PRINTED);
 }

@@ -12,7 +12,11 @@ mod contexts;
 #[cfg(test)]
 mod data;
 #[cfg(test)]
+mod definitions;
+#[cfg(test)]
 mod ends;
+#[cfg(test)]
+mod languages;
 #[cfg(test)]
 mod making;
 #[cfg(test)]

@@ -1,25 +1,15 @@
 // Both matchers side by side, and what an engine with a matcher is asked by name.
-ghost use Rattle.std.specs.Prelude.{◌≤◌, length};
-
-use crate::making::name;
+use crate::making::{checked, name};
 use crate::operations::host_table;
 use rdx_delta::HostTable;
 use rdx_eval::Engine;
 use rdx_lang::{Binding, CheckedLang, CheckedPat, HostExpr};
 use rdx_match::Plain;
-use rdx_query::{CheckedFile, Query, check_file};
-use rdx_sexp::read_all;
+use rdx_query::{CheckedFile, Query};
 use rdx_table::Table;
 use rdx_term::{Build, Name, NoMemory, Term, list};
 use std::alloc::Global;
 use std::process::Abort;
-
-fn checked<R: Abort + AllocGlobal>(rt: &R, bytes: &[u8]) -> CheckedFile
-    requires { length bytes.now ≤ 1_048_576 }
-{
-    let data = read_all(rt.alloc(), bytes).expect(rt, "data");
-    check_file(rt.alloc(), &data).expect(rt, "a file that is accepted")
-}
 
 // Names, contexts, repetitions with and without length names, and what matches in several ways.
 const QUERIES: &[u8] = b"(define-language A (e (+ e e) n) (n number) (E hole (+ E e) (+ n E)))
