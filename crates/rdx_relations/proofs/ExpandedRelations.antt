@@ -1,6 +1,6 @@
 -- What a form of a relation is, by what it is without shorthand.
 use Rattle.std.proofs.Common.{◌≡◌, ◌∙◌, ℕ, Bool, true, false, List, [], ◌∷◌, Some, None, sym, ap, if◌then◌else◌}
-use Rattle.std.specs.Prelude.{Result, Ok, Err, codes}
+use Rattle.std.specs.Prelude.{Result, Ok, Err, codes, option_map}
 use Rattle.rdx_sexp.specs.Sexp.{Sexp}
 use Rattle.rdx_lang.specs.declared.program.Relation.{Relation}
 use Rattle.rdx_patterns.specs.Parts.{is_word}
@@ -11,13 +11,13 @@ use Rattle.rdx_patterns.specs.declared.shape.fault.DefFault.TheVariants.{Refused
 use Rattle.rdx_relations.specs.Answers.{ReadsRelation}
 use Rattle.rdx_relations.specs.Expansion.{expanded_form}
 use Rattle.rdx_relations.specs.Inside.ExpandedAnswers.{expanded_refusal, ReadsExpanded}
+use Rattle.rdx_relations.specs.LanguageRefusal.{refusal_over}
 use Rattle.rdx_relations.specs.RelationForms.{RelationForm, relation_form}
 use Rattle.rdx_relations.specs.RelationReading.{expanded_reading}
 use Rattle.rdx_relations.specs.RelationRefusal.{relation_refusal}
 use Rattle.rdx_relations.specs.RelationStands.{relation_stands}
 use Rattle.rdx_templates.specs.Scope.{Scope}
 use Rattle.rdx_relations.specs.Shorthand.{before_with, behind_with}
-use Rattle.rdx_parts.specs.StandRefusal.{stands_refusal}
 use Rattle.rdx_parts.specs.PartsHave.{AreReadable}
 use Rattle.rdx_relations.proofs.FormRefusals.{alone}
 
@@ -28,8 +28,8 @@ module _ (S : Scope) (ns : List (List ℕ)) (d : Sexp) (r p : RelationForm) (ds 
   -- the refusal is that of what it is without shorthand
   pub expanded-refused : relation_refusal S ns d ≡ expanded_refusal S ns p ds
   expanded-refused =
-      (λ i. first_refusal (u i ∷ stands_refusal S ns (relation_stands S ns d (e i)) ∷ []))
-      ∙ alone (stands_refusal S ns (relation_stands S ns d (Some r)))
+      (λ i. first_refusal (u i ∷ refusal_over S ns (option_map (λ (q : RelationForm). q.language) (e i)) (relation_stands S ns d (e i)) ∷ []))
+      ∙ alone (refusal_over S ns (Some r.language) (relation_stands S ns d (Some r)))
       ∙ (λ i. expanded_refusal S ns (sym f i) (sym g i))
 
   -- and so is what is read

@@ -1,8 +1,8 @@
 -- The worked examples of relations and of their shorthand.
 use Rattle.std.proofs.Common.{refl}
 use Rattle.std.specs.Str.{chars}
-use Rattle.rdx_relations.specs.ShorthandExamples.{GoesOn, OneEach, PutInStays, PlainStays, SameRefused, AgainRefused, LaterRefused}
-use Rattle.rdx_relations.specs.RelationExamples.{BindsBehind, MakesFresh, NameRefused, ArrowRefused, ExtraRefused, ResultRefused, ClashRefused, FreshRefused}
+use Rattle.rdx_relations.specs.ShorthandExamples.{GoesOn, OneEach, PutInStays, PlainStays, OtherHeadRefused, SameRefused, AgainRefused, LaterRefused}
+use Rattle.rdx_relations.specs.RelationExamples.{BindsBehind, MakesFresh, HeadRefused, LanguageRefused, ShapeRefused, NameRefused, ArrowRefused, ExtraRefused, ResultRefused, ClashRefused, FreshRefused}
 
 -- ---- relations
 
@@ -13,6 +13,18 @@ binds_behind s = record { passes = refl; parts = _; is_form = refl; is_read = re
 pub makes_fresh : MakesFresh
 unfolding chars
 makes_fresh s = record { passes = refl; parts = _; is_form = refl; is_read = refl }
+
+pub head_refused : HeadRefused
+unfolding chars
+head_refused = refl
+
+pub language_refused : LanguageRefused
+unfolding chars
+language_refused = refl
+
+pub shape_refused : ShapeRefused
+unfolding chars
+shape_refused = refl
 
 pub name_refused : NameRefused
 unfolding chars
@@ -55,6 +67,10 @@ put_in_stays s t = record { passes = refl; parts = _; is_form = refl; are = refl
 pub plain_stays : PlainStays
 unfolding chars
 plain_stays s t = record { passes = refl; parts = _; is_form = refl; are = refl }
+
+pub other_head_refused : OtherHeadRefused
+unfolding chars
+other_head_refused = refl
 
 pub same_refused : SameRefused
 unfolding chars

@@ -11,12 +11,11 @@ use Rattle.rdx_relations.specs.Inside.BareForms as bare_stands
 use Rattle.rdx_relations.specs.Inside.FormOutlines.{relation_outline}
 use Rattle.rdx_parts.specs.Outlines.{Outline}
 use Rattle.rdx_parts.specs.ByNames.{outline_faults}
-use Rattle.rdx_relations.specs.Inside.ExpandedAnswers.{expanded_refusal}
 use Rattle.rdx_parts.specs.FormRefusals.{early_refusal, late_refusal, form_refusal}
 use Rattle.rdx_parts.specs.NamesAgain.{names_again}
 use Rattle.rdx_relations.specs.RelationForms.{RelationForm, relation_form}
-use Rattle.rdx_relations.specs.RelationRefusal.{relation_refusal}
-use Rattle.rdx_relations.specs.RelationStands.{expanded_stands, shortcuts_stand, relation_stands}
+use Rattle.rdx_relations.specs.RelationRefusal.{relation_refusal_by, relation_refusal}
+use Rattle.rdx_relations.specs.RelationStands.{expanded_stands, shortcuts_stand}
 use Rattle.rdx_templates.specs.Scope.{Scope}
 use Rattle.rdx_parts.specs.StandChecks.{shape_faults, shape_at, repeated_names, repeated_at, repeated_name_at, bad_names, bad_name_at, bad_places, bad_place_at, depth_faults, depth_fault_at, unknown_names, unknown_name_at, undriven_places, undriven_at, escape_at, mode_faults, misfit_start, misfit_at, mode_fault_at}
 use Rattle.rdx_parts.specs.StandRefusal.{stands_refusal}
@@ -85,16 +84,16 @@ module _ (S : Scope) (ns : List (List ℕ)) (ss rs : List Stand) (o : Outline) (
 
 -- ---- relations
 
--- one without shorthand, which was written with these shortcuts
+-- what stands in one without shorthand, which was written with these shortcuts
 pub relation-refused : (S : Scope) (ns : List (List ℕ)) (r : RelationForm) (ds : List Sexp)
-    → expanded_refusal S ns r ds ≡ form_refusal S ns (bare_stands.relation_stands S r ds) (relation_outline r)
+    → stands_refusal S ns (expanded_stands S ns r ++ shortcuts_stand [] ds) ≡ form_refusal S ns (bare_stands.relation_stands S r ds) (relation_outline r)
 relation-refused S ns r ds =
     form-refused S ns (expanded_stands S ns r ++ shortcuts_stand [] ds) (bare_stands.relation_stands S r ds) (relation_outline r) (bare-relation S ns r ds) (relation-again S ns r ds)
     (λ k. relation-faults k S ns r ds)
 
 -- without the parts of a relation
 pub no-relation : (S : Scope) (ns : List (List ℕ)) (d : Sexp) → relation_form d ≡ None → relation_refusal S ns d ≡ or_else (unbuilt_at d) (Some (unnamed Shape d))
-no-relation S ns d e i = first_refusal (unbuilt_at d ∷ stands_refusal S ns (relation_stands S ns d (e i)) ∷ [])
+no-relation S ns d e i = relation_refusal_by S ns d (e i)
 
 -- ---- what is not refused
 
@@ -141,8 +140,3 @@ stands-passed S ns ss e =
       driving = earliest-none start (unnamed EllipsisVariable) (undriven_places S ss) h.0;
       modes = earliest-none misfit_start misfit_at (mode_faults ss) l.0;
     }
-
--- a relation without shorthand that is not refused
-pub relation-passed : (S : Scope) (ns : List (List ℕ)) (r : RelationForm) (ds : List Sexp) → expanded_refusal S ns r ds ≡ None
-    → ArePassed S ns (expanded_stands S ns r ++ shortcuts_stand [] ds)
-relation-passed S ns r ds = stands-passed S ns (expanded_stands S ns r ++ shortcuts_stand [] ds)

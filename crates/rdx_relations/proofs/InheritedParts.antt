@@ -2,13 +2,13 @@
 use Rattle.std.proofs.Common.{◌≡◌, ◌++◌, ◌<◌, Bool, true, false, List, [], ◌∷◌, IsTrue, refl, subst, arith, if◌then◌else◌}
 use Rattle.std.proofs.Math.Nat.{le-max_left, le-max_right}
 use Rattle.std.specs.List.{list_all}
-use Rattle.std.specs.Prelude.{◌&&◌, Option, Some, None, codes, bytes_eq}
+use Rattle.std.specs.Prelude.{◌&&◌, Option, Some, None, codes}
 use Rattle.rdx_sexp.specs.Sexp.{Sexp, Sexps, leaf, list, nil, cons, integer, truth, text, symbol, keyword}
 use Rattle.rdx_sexp.specs.Size.{sexp_depth, sexps_depth, AreSpelled}
 use Rattle.rdx_term.specs.Spelling.{is_name}
 use Rattle.rdx_patterns.specs.Parts.{listed, parts, text_of, is_symbol, is_word}
 use Rattle.rdx_patterns.specs.Readable.{IsReadable}
-use Rattle.rdx_patterns.proofs.Booleans.{and_true, not_true}
+use Rattle.rdx_patterns.proofs.Booleans.{and_true}
 use Rattle.rdx_patterns.proofs.SpelledNames.{name-spelled}
 use Rattle.rdx_parts.specs.Arguments.{Arguments, patterns_in, data_at, data_by}
 use Rattle.rdx_parts.specs.ExtraForms.{ExtraForm, such_that, provided, confirmed, holding, freshly, no_extra, ExtraPlace, of_case, of_clause, of_rule, condition_behind, fresh_names, extra_among, extra_form, is_extra_head, extra_behind, premise_among, form_at}
@@ -16,7 +16,7 @@ use Rattle.rdx_parts.specs.Headed.{Headed, headed_among, headed}
 use Rattle.rdx_relations.specs.Inside.FormOutlines.{case_branch, in_case, case_branches, domain_patterns, relation_outline}
 use Rattle.rdx_parts.specs.Outlines.{Takes, Branch}
 use Rattle.rdx_parts.specs.PartsHave.{AreReadable, AreReadableSymbols, ArgumentsHave, PremiseHas, ExtraHas, ExtrasHave, BranchHas, BranchesHave, AloneHave, OutlineHas}
-use Rattle.rdx_relations.specs.RelationForms.{CaseForm, case_among, case_form, RelationForm, is_keyword, relation_over, may_name, relation_among, relation_form}
+use Rattle.rdx_relations.specs.RelationForms.{CaseForm, case_among, case_form, RelationForm, is_keyword, relation_over, relation_among, relation_form}
 use Rattle.rdx_templates.specs.Scope.{Scope}
 use Rattle.rdx_parts.specs.Stands.{premise_arguments}
 use Rattle.rdx_relations.proofs.PartsOfForms.{Each, EachIn, HeadedHasIn, RelationHas, RelationHasIn, IsInherited, wanted}
@@ -45,14 +45,14 @@ symbols-readable (d ∷ ds) e h =
 
 -- ---- names
 
--- what may name a language has a name
-pub may_name-name : (l : Sexp) → may_name l ≡ true → IsReadable l → IsTrue (is_name (text_of l))
-may_name-name (leaf (integer n) s) e r = absurd cc
-may_name-name (leaf (truth b) s) e r = absurd cc
-may_name-name (leaf (text x) s) e r = absurd cc
-may_name-name (leaf (symbol x) s) e r = name-spelled x r.spelled (not_true (bytes_eq x (codes "hole")) e)
-may_name-name (leaf (keyword k) s) e r = absurd cc
-may_name-name (list ds s) e r = absurd cc
+-- a symbol other than `hole` is a name
+pub symbol-name : (l : Sexp) → is_symbol l ≡ true → IsReadable l → is_word (codes "hole") l ≡ false → IsTrue (is_name (text_of l))
+symbol-name (leaf (integer n) s) e r h = absurd cc
+symbol-name (leaf (truth b) s) e r h = absurd cc
+symbol-name (leaf (text x) s) e r h = absurd cc
+symbol-name (leaf (symbol x) s) e r h = name-spelled x r.spelled h
+symbol-name (leaf (keyword k) s) e r h = absurd cc
+symbol-name (list ds s) e r h = absurd cc
 
 module _ (P : Sexp → Type 0) (T : Takes → Type 0) (H : IsInherited P T) where
   -- ---- lists of data
@@ -214,24 +214,24 @@ module _ (P : Sexp → Type 0) (T : Takes → Type 0) (H : IsInherited P T) wher
   -- ---- relations
 
   -- a domain and cases, or cases alone
-  over-has : (l : Sexp) (ds : List Sexp) → may_name l ≡ true → P l → Each P ds → RelationHas P (relation_over l ds)
-  over-has l [] e r h = record { domain = tt; cases = tt; language = may_name-name l e (H.readable l r) }
-  over-has l (k ∷ []) e r h = record { domain = tt; cases = h; language = may_name-name l e (H.readable l r) }
+  over-has : (l : Sexp) (ds : List Sexp) → is_symbol l ≡ true → P l → Each P ds → RelationHas P (relation_over l ds)
+  over-has l [] e r h = record { domain = tt; cases = tt; language = symbol-name l e (H.readable l r) }
+  over-has l (k ∷ []) e r h = record { domain = tt; cases = h; language = symbol-name l e (H.readable l r) }
   over-has l (k ∷ p ∷ cs) e r h = by_test (is_keyword (codes "domain") k)
     where
       by_test : (b : Bool) → RelationHas P (if b then record { language = l; domain = Some p; cases = cs } else record { language = l; domain = None; cases = k ∷ p ∷ cs })
-      by_test true = record { domain = (h.1.0, tt); cases = h.1.1; language = may_name-name l e (H.readable l r) }
-      by_test false = record { domain = tt; cases = h; language = may_name-name l e (H.readable l r) }
+      by_test true = record { domain = (h.1.0, tt); cases = h.1.1; language = symbol-name l e (H.readable l r) }
+      by_test false = record { domain = tt; cases = h; language = symbol-name l e (H.readable l r) }
 
   -- among parts
   relation_among-has : (o : Option (List Sexp)) → EachIn P o → RelationHasIn P (relation_among o)
   relation_among-has None h = tt
   relation_among-has (Some []) h = tt
   relation_among-has (Some (x ∷ [])) h = tt
-  relation_among-has (Some (x ∷ l ∷ ds)) h = by_test (may_name l) refl
+  relation_among-has (Some (x ∷ l ∷ ds)) h = by_test (is_word (codes "reduction-relation") x && is_symbol l) refl
     where
-      by_test : (b : Bool) → may_name l ≡ b → RelationHasIn P (if b then Some (relation_over l ds) else None)
-      by_test true e = over-has l ds e h.1.0 h.1.1
+      by_test : (b : Bool) → (is_word (codes "reduction-relation") x && is_symbol l) ≡ b → RelationHasIn P (if b then Some (relation_over l ds) else None)
+      by_test true e = over-has l ds (and_true (is_word (codes "reduction-relation") x) (is_symbol l) e).1 h.1.0 h.1.1
       by_test false e = tt
 
   -- the parts of a form that has it

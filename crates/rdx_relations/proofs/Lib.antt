@@ -8,6 +8,7 @@ pub mod InheritedParts
 pub mod ReadableParts
 pub mod AskingParts
 pub mod BoundParts
+pub mod LanguageRefusals
 pub mod FormRefusals
 pub mod AgreeingUses
 pub mod PatternLists

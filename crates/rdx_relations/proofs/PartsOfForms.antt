@@ -1,9 +1,9 @@
 -- What the parts of a form have by what each datum has, where that passes from a list to its items.
-use Rattle.std.proofs.Common.{◌≡◌, true, List, [], ◌∷◌, IsTrue}
-use Rattle.std.specs.Prelude.{Option, Some, None}
+use Rattle.std.proofs.Common.{◌≡◌, true, false, List, [], ◌∷◌, IsTrue}
+use Rattle.std.specs.Prelude.{Option, Some, None, codes}
 use Rattle.rdx_sexp.specs.Sexp.{Sexp, Sexps, list}
 use Rattle.rdx_term.specs.Spelling.{is_name}
-use Rattle.rdx_patterns.specs.Parts.{listed, text_of, is_symbol}
+use Rattle.rdx_patterns.specs.Parts.{listed, text_of, is_symbol, is_word}
 use Rattle.rdx_patterns.specs.Readable.{IsReadable}
 use Rattle.rdx_parts.specs.Headed.{Headed}
 use Rattle.rdx_relations.specs.Inside.FormOutlines.{domain_patterns}
@@ -44,11 +44,11 @@ module _ (P : Sexp → Type 0) where
   HeadedHasIn None = Unit {0}
   HeadedHasIn (Some q) = HeadedHas q
 
-  -- what a form of a relation is to have: such parts, and the name of a language
+  -- what a form of a relation is to have: such parts, and the name of a language, which `hole` is none of
   pub record RelationHas (r : RelationForm) : Type 0 where
     pub domain : Each P (domain_patterns r.domain)
     pub cases : Each P r.cases
-    pub language : IsTrue (is_name (text_of r.language))
+    pub language : is_word (codes "hole") r.language ≡ false → IsTrue (is_name (text_of r.language))
 
   -- where there is one
   abbrev pub RelationHasIn : Option RelationForm → Type 0

@@ -2,6 +2,7 @@ pub mod FormOutlines
 pub mod BranchReadings
 pub mod FormViews
 pub mod BareForms
+pub mod Misshaped
 pub mod ExpandedAnswers
 pub mod ShortcutViews
 pub mod Arrows

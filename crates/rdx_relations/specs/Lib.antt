@@ -4,6 +4,7 @@ pub mod Expansion
 pub mod RelationStands
 pub mod RelationReading
 pub mod RelationEnds
+pub mod LanguageRefusal
 pub mod RelationRefusal
 pub mod Answers
 pub mod RelationLaws

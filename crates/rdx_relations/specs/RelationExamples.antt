@@ -8,7 +8,7 @@ use Rattle.rdx_lang.specs.Templates.{var, seq, nil, one}
 use Rattle.rdx_lang.specs.declared.pattern.Kind.TheVariants.{Any, Number}
 use Rattle.rdx_patterns.specs.Examples.{word, group, columns}
 use Rattle.rdx_patterns.specs.declared.shape.fault.DefKind.{DefKind}
-use Rattle.rdx_patterns.specs.declared.shape.fault.DefKind.TheVariants.{Shape, Duplicate, EllipsisDepth, UnknownName}
+use Rattle.rdx_patterns.specs.declared.shape.fault.DefKind.TheVariants.{Shape, UnknownLanguage, Duplicate, EllipsisDepth, UnknownName}
 use Rattle.rdx_relations.specs.RelationForms.{RelationForm, relation_form}
 use Rattle.rdx_relations.specs.RelationReading.{relation_reading}
 use Rattle.rdx_relations.specs.RelationRefusal.{relation_refusal}
@@ -82,6 +82,25 @@ MakesFresh =
     })
 
 -- ---- refusals
+
+-- `(relation L)`: the form, which has another head
+abbrev pub HeadRefused : Type 0
+HeadRefused = IsRefusedAt (group (columns 1 13) (word (columns 2 10) (codes "relation") ∷ word (columns 11 12) (codes "L") ∷ [])) Shape 1 None
+
+-- `(reduction-relation hole (--> 1 2 x) (--> 3 4 x))`: the language's name, before the second name of a case
+abbrev pub LanguageRefused : Type 0
+LanguageRefused =
+    IsRefusedAt
+    (group (columns 1 50) (word (columns 2 20) (codes "reduction-relation") ∷ word (columns 21 25) (codes "hole")
+    ∷ group (columns 26 37) (word (columns 27 30) (codes "-->") ∷ number (columns 31 32) 1 ∷ number (columns 33 34) 2 ∷ word (columns 35 36) (codes "x") ∷ [])
+    ∷ group (columns 38 49) (word (columns 39 42) (codes "-->") ∷ number (columns 43 44) 3 ∷ number (columns 45 46) 4 ∷ word (columns 47 48) (codes "x") ∷ []) ∷ []))
+    UnknownLanguage 21 (Some (codes "hole"))
+
+-- `(reduction-relation hole 1)`: the case, which has not its shape
+abbrev pub ShapeRefused : Type 0
+ShapeRefused =
+    IsRefusedAt (group (columns 1 28) (word (columns 2 20) (codes "reduction-relation") ∷ word (columns 21 25) (codes "hole") ∷ number (columns 26 27) 1 ∷ []))
+    Shape 26 None
 
 -- `(reduction-relation L (--> 1 2 a) (--> 3 4 "a"))`: the string, which is the name of the first case too
 abbrev pub NameRefused : Type 0

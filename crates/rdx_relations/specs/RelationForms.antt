@@ -1,5 +1,5 @@
 -- The parts of `(reduction-relation L case ...)` and of its cases (after the Redex reference manual, "Reduction Relations").
-use Rattle.std.specs.Prelude.{ℕ, Bool, false, not, ◌&&◌, List, ◌∷◌, Option, Some, None, codes, bytes_eq, if◌then◌else◌}
+use Rattle.std.specs.Prelude.{ℕ, Bool, false, ◌&&◌, List, ◌∷◌, Option, Some, None, codes, bytes_eq, if◌then◌else◌}
 use Rattle.rdx_sexp.specs.Sexp.{keyword, Sexp, leaf}
 use Rattle.rdx_patterns.specs.Parts.{parts, is_symbol, is_word}
 
@@ -42,15 +42,12 @@ relation_over l (k ∷ p ∷ cs) =
     else record { language = l; domain = None; cases = k ∷ p ∷ cs }
 relation_over l cs = record { language = l; domain = None; cases = cs }
 
--- the datum may name a language: it is a symbol other than `hole`
-abbrev pub may_name : Sexp → Bool
-may_name d = is_symbol d && not (is_word (codes "hole") d)
-
 -- a list of these parts as a relation
 abbrev pub relation_among : Option (List Sexp) → Option RelationForm
-relation_among (Some (h ∷ l ∷ ds)) = if may_name l then Some (relation_over l ds) else None
+relation_among (Some (h ∷ l ∷ ds)) =
+    if is_word (codes "reduction-relation") h && is_symbol l then Some (relation_over l ds) else None
 relation_among o = None
 
--- a datum as a relation: a list of a head, a language's name, and then its domain and cases
+-- a datum as a relation: a list headed by `reduction-relation`, of a symbol for the language's name, and then its domain and cases
 abbrev pub relation_form : Sexp → Option RelationForm
 relation_form d = relation_among (parts d)

@@ -73,16 +73,20 @@ PlainStays =
 abbrev IsRefusedAt : Sexp → DefKind → ℕ → Option (List ℕ) → Type 0
 IsRefusedAt d k n x = expansion_refusal d ≡ Some (record { kind = k; place = record { line = 1; column = n }; name = x })
 
--- `(r L (=> 1 2) with ((--> a b) (=> a a)))`: the shortcut, since one symbol stands for both
+-- `(reduction-relation L (=> 1 2) with ((--> a b) (=> a a)))`: the shortcut, since one symbol stands for both
 abbrev pub SameRefused : Type 0
 SameRefused =
     IsRefusedAt
-    (group (columns 1 41) (word (columns 2 3) (codes "r") ∷ word (columns 4 5) (codes "L")
-    ∷ group (columns 6 14) (word (columns 7 9) (codes "=>") ∷ number (columns 10 11) 1 ∷ number (columns 12 13) 2 ∷ [])
-    ∷ word (columns 15 19) (codes "with")
-    ∷ group (columns 20 40) (group (columns 21 30) (word (columns 22 25) (codes "-->") ∷ word (columns 26 27) (codes "a") ∷ word (columns 28 29) (codes "b") ∷ [])
-    ∷ group (columns 31 39) (word (columns 32 34) (codes "=>") ∷ word (columns 35 36) (codes "a") ∷ word (columns 37 38) (codes "a") ∷ []) ∷ []) ∷ []))
-    Shape 20 None
+    (group (columns 1 58) (word (columns 2 20) (codes "reduction-relation") ∷ word (columns 21 22) (codes "L")
+    ∷ group (columns 23 31) (word (columns 24 26) (codes "=>") ∷ number (columns 27 28) 1 ∷ number (columns 29 30) 2 ∷ [])
+    ∷ word (columns 32 36) (codes "with")
+    ∷ group (columns 37 57) (group (columns 38 47) (word (columns 39 42) (codes "-->") ∷ word (columns 43 44) (codes "a") ∷ word (columns 45 46) (codes "b") ∷ [])
+    ∷ group (columns 48 56) (word (columns 49 51) (codes "=>") ∷ word (columns 52 53) (codes "a") ∷ word (columns 54 55) (codes "a") ∷ []) ∷ []) ∷ []))
+    Shape 37 None
+
+-- `(relation L)`: the form, which has another head
+abbrev pub OtherHeadRefused : Type 0
+OtherHeadRefused = IsRefusedAt (group (columns 1 13) (word (columns 2 10) (codes "relation") ∷ word (columns 11 12) (codes "L") ∷ [])) Shape 1 None
 
 -- the new arrow of a second shortcut, which stands in column 5, is that of the first
 abbrev pub AgainRefused : Type 0

@@ -1,6 +1,6 @@
 //! Laws of the definitions: functions that do nothing, whose contracts are the laws.
-ghost use Rattle.rdx_relations.specs.RelationExamples.{ArrowRefused, BindsBehind, ClashRefused, ExtraRefused, FreshRefused, MakesFresh, NameRefused, ResultRefused};
-ghost use Rattle.rdx_relations.specs.ShorthandExamples.{AgainRefused, GoesOn, LaterRefused, OneEach, PlainStays, PutInStays, SameRefused};
+ghost use Rattle.rdx_relations.specs.RelationExamples.{ArrowRefused, BindsBehind, ClashRefused, ExtraRefused, FreshRefused, HeadRefused, LanguageRefused, MakesFresh, NameRefused, ResultRefused, ShapeRefused};
+ghost use Rattle.rdx_relations.specs.ShorthandExamples.{AgainRefused, GoesOn, LaterRefused, OneEach, OtherHeadRefused, PlainStays, PutInStays, SameRefused};
 ghost use Rattle.rdx_relations.specs.RelationLaws.{NeverBothRelation, NeverNeitherRelation, OneRelation, OneRelationRefusal};
 
 /// With a given name, over given nonterminals, a datum is one relation at most, or has one refusal
@@ -16,6 +16,9 @@ pub fn one_relation()
 pub fn worked_relations()
     ensures binds_behind { BindsBehind }
     ensures makes { MakesFresh }
+    ensures head { HeadRefused }
+    ensures language { LanguageRefused }
+    ensures shape { ShapeRefused }
     ensures name { NameRefused }
     ensures arrow { ArrowRefused }
     ensures extra { ExtraRefused }
@@ -31,6 +34,7 @@ pub fn worked_shorthand()
     ensures one_each { OneEach }
     ensures put_in { PutInStays }
     ensures plain { PlainStays }
+    ensures head { OtherHeadRefused }
     ensures same_symbol { SameRefused }
     ensures again { AgainRefused }
     ensures later { LaterRefused }

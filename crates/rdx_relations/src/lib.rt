@@ -12,5 +12,5 @@ pub mod laws;
 mod relations;
 mod shorthand;
 
-pub use relations::{is_keyword, may_name, read_relation, read_relation_over, relation_ends};
+pub use relations::{is_keyword, read_relation, read_relation_over, refuse_over, relation_ends};
 pub use shorthand::expand_with;

@@ -6,15 +6,15 @@ use Rattle.rdx_lang.specs.declared.program.Relation.{Relation}
 use Rattle.rdx_patterns.specs.Refusal.{Refusal, refusal_of}
 use Rattle.rdx_patterns.specs.declared.shape.fault.DefFault.{DefFault}
 use Rattle.rdx_patterns.specs.declared.shape.fault.DefFault.TheVariants.{Refused, NoMemory}
+use Rattle.rdx_relations.specs.LanguageRefusal.{refusal_over}
 use Rattle.rdx_relations.specs.RelationForms.{RelationForm}
 use Rattle.rdx_relations.specs.RelationReading.{expanded_reading}
 use Rattle.rdx_relations.specs.RelationStands.{expanded_stands, shortcuts_stand}
 use Rattle.rdx_templates.specs.Scope.{Scope}
-use Rattle.rdx_parts.specs.StandRefusal.{stands_refusal}
 
 -- the refusal of one with these parts, which was written with these shortcuts
 abbrev pub expanded_refusal : Scope → List (List ℕ) → RelationForm → List Sexp → Option Refusal
-expanded_refusal S ns r ds = stands_refusal S ns (expanded_stands S ns r ++ shortcuts_stand [] ds)
+expanded_refusal S ns r ds = refusal_over S ns (Some r.language) (expanded_stands S ns r ++ shortcuts_stand [] ds)
 
 -- the relation is the one of this name that such parts stand for
 pub record IsExpandedRelation (S : Scope) (ns : List (List ℕ)) (x : List ℕ) (r : RelationForm) (ds : List Sexp) (R : Relation) : Type 0 where

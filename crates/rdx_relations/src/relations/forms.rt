@@ -94,21 +94,14 @@ fn relation_over<'a>(language: &'a Datum, parts: &'a [Datum]) -> RelationForm<'a
     }
 }
 
-/// Whether the datum may name a language.
-pub fn may_name(d: &Datum) -> bool
-    ensures { result ≡ model.may_name d.now }
-{
-    is_symbol(d) && !is_word(d, "hole")
-}
-
 /// A datum as a relation.
 pub(crate) fn relation_form(d: &Datum) -> Option<RelationForm<'_>>
     ensures { option_map relation_form_of result ≡ model.relation_form d.now }
 {
-    let [_, language, parts @ ..] = items(d)? else {
+    let [head, language, parts @ ..] = items(d)? else {
         return None;
     };
-    if may_name(language) {
+    if is_word(head, "reduction-relation") && is_symbol(language) {
         Some(relation_over(language, parts))
     } else {
         None

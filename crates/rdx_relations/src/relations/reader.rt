@@ -1,11 +1,11 @@
 // Relations over languages.
-ghost use Rattle.std.specs.Prelude.{◌≡◌, None, Some, IfErr, IfOk, IsTrue, option_map};
+ghost use Rattle.std.specs.Prelude.{◌≡◌, None, Some, false, codes, IfErr, IfOk, IsTrue, option_map};
 ghost use Rattle.rdx_lang.specs.Checked.{language_in};
 ghost use Rattle.rdx_lang.specs.ProgramView.{relation_of};
 ghost use Rattle.rdx_lang.specs.Valid.{is_valid_over};
 ghost use Rattle.rdx_patterns.specs.Ends.{Gained};
 ghost use Rattle.rdx_patterns.specs.Nonterminals.{names_of};
-ghost use Rattle.rdx_patterns.specs.Parts.{text_of};
+ghost use Rattle.rdx_patterns.specs.Parts.{is_word, text_of};
 ghost use Rattle.rdx_patterns.specs.Readable.{IsReadable};
 ghost use Rattle.rdx_term.specs.Spelling.{is_name};
 ghost use Rattle.rdx_relations.specs.Answers.{ReadsRelation};
@@ -19,6 +19,7 @@ ghost use Rattle.rdx_templates.specs.Scope.{callable, scope_of};
 
 use crate::relations::ends::add_ends_of;
 use crate::relations::forms::{RelationForm, relation_form};
+use crate::relations::language::refuse_over;
 use crate::relations::readings::read_parts;
 use crate::relations::stands::{relation_outline, relation_stands};
 use crate::shorthand::expanding::expanded_cases;
@@ -45,7 +46,8 @@ fn passed_outline<'a>(
 ) -> Result<Outline<'a, 'a>, DefFault>
     requires domain { AreReadable (domain_patterns (option_map (λ d. d.now) form.domain)) }
     requires cases { AreReadable form.cases.now }
-    requires named { IsTrue (is_name (text_of form.language.now)) }
+    requires named { is_word (codes "hole") form.language.now ≡ false
+        → IsTrue (is_name (text_of form.language.now)) }
     ensures passes { IfOk result (λ _.
         expanded_refusal (scope_of scope.now) names.now (relation_form_of form.entry)
         shortcuts.now ≡ None) }
@@ -57,7 +59,8 @@ fn passed_outline<'a>(
 {
     let found = relation_stands(alloc, scope, form, shortcuts)?;
     let outline = relation_outline(alloc, form)?;
-    if let Some(refusal) = refuse_parts(alloc, scope, names, &found, &outline)? {
+    let refusal = refuse_parts(alloc, scope, names, &found, &outline)?;
+    if let Some(refusal) = refuse_over(alloc, form.language, refusal)? {
         return Err(DefFault::Refused(refusal));
     }
     Ok(outline)
@@ -77,7 +80,8 @@ fn read_expanded<'a>(
     requires domain { AreReadable (domain_patterns (option_map (λ d. d.now) form.domain)) }
     requires cases { AreReadable form.cases.now }
     requires names { names.now ≡ names_of (language_in language.old) }
-    requires named { IsTrue (is_name (text_of form.language.now)) }
+    requires named { is_word (codes "hole") form.language.now ≡ false
+        → IsTrue (is_name (text_of form.language.now)) }
     ensures reads { ReadsExpanded (scope_of scope.now) (names_of (language_in language.old))
         name.now (relation_form_of form.entry) shortcuts.now result }
     ensures gains { Gained (language_in language.old)

@@ -1,4 +1,4 @@
-use Rattle.rdx_relations.proofs.FormExamples.{binds_behind, makes_fresh, name_refused, arrow_refused, extra_refused, result_refused, clash_refused, fresh_refused}
+use Rattle.rdx_relations.proofs.FormExamples.{binds_behind, makes_fresh, head_refused, language_refused, shape_refused, name_refused, arrow_refused, extra_refused, result_refused, clash_refused, fresh_refused}
 use Rattle.rdx_relations.proofs.laws.worked_relations.Goals as goal
 
 pub returns-clause-binds_behind : goal.returns-clause-binds_behind
@@ -6,6 +6,15 @@ returns-clause-binds_behind c = binds_behind
 
 pub returns-clause-makes : goal.returns-clause-makes
 returns-clause-makes c = makes_fresh
+
+pub returns-clause-head : goal.returns-clause-head
+returns-clause-head c = head_refused
+
+pub returns-clause-language : goal.returns-clause-language
+returns-clause-language c = language_refused
+
+pub returns-clause-shape : goal.returns-clause-shape
+returns-clause-shape c = shape_refused
 
 pub returns-clause-name : goal.returns-clause-name
 returns-clause-name c = name_refused

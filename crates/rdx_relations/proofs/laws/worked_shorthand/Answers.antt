@@ -1,4 +1,4 @@
-use Rattle.rdx_relations.proofs.FormExamples.{goes_on, one_each, put_in_stays, plain_stays, same_refused, again_refused, later_refused}
+use Rattle.rdx_relations.proofs.FormExamples.{goes_on, one_each, put_in_stays, plain_stays, other_head_refused, same_refused, again_refused, later_refused}
 use Rattle.rdx_relations.proofs.laws.worked_shorthand.Goals as goal
 
 pub returns-clause-goes_on : goal.returns-clause-goes_on
@@ -12,6 +12,9 @@ returns-clause-put_in c = put_in_stays
 
 pub returns-clause-plain : goal.returns-clause-plain
 returns-clause-plain c = plain_stays
+
+pub returns-clause-head : goal.returns-clause-head
+returns-clause-head c = other_head_refused
 
 pub returns-clause-same_symbol : goal.returns-clause-same_symbol
 returns-clause-same_symbol c = same_refused

@@ -1,4 +1,4 @@
-use Rattle.std.proofs.Common.{◌≡◌, ◌∙◌, ℕ, List, sym, ap, subst}
+use Rattle.std.proofs.Common.{◌≡◌, ◌++◌, ◌∙◌, ℕ, List, [], sym, ap, subst}
 use Rattle.std.specs.Prelude.{option_map}
 use Rattle.rdx_sexp.specs.Sexp.{Sexp}
 use Rattle.rdx_patterns.specs.Readable.{IsReadable}
@@ -7,8 +7,9 @@ use Rattle.rdx_relations.specs.Inside.BareForms.{relation_stands}
 use Rattle.rdx_relations.specs.Inside.FormOutlines.{domain_patterns, relation_outline}
 use Rattle.rdx_parts.specs.Outlines.{Outline}
 use Rattle.rdx_parts.specs.Stands.{Stand}
-use Rattle.rdx_relations.specs.Inside.ExpandedAnswers.{expanded_refusal}
 use Rattle.rdx_relations.specs.RelationForms.{RelationForm}
+use Rattle.rdx_relations.specs.RelationStands.{expanded_stands, shortcuts_stand}
+use Rattle.rdx_parts.specs.StandRefusal.{stands_refusal}
 use Rattle.rdx_templates.specs.Scope.{Scope, scope_of}
 use Rattle.rdx_parts.specs.FormRefusals.{form_refusal}
 use Rattle.rdx_relations.specs.Inside.FormViews.{relation_form_of}
@@ -31,17 +32,31 @@ refuse_parts-requires c =
     λ e. subst (λ (o : Outline). OutlineHas S (can_bind c.args.names.now) o) (sym c.in_ok-outline.ensures)
     (relation-early S c.args.names.now r ds (stands_of c.deref.result.now) h q e)
 
--- a relation's refusal, by what stands in it and its outline
+-- the refusal of what stands in a relation, by that and its outline
 by_parts : (S : Scope) (ns : List (List ℕ)) (r : RelationForm) (ds : List Sexp) (xs : List Stand) (o : Outline)
-    → xs ≡ relation_stands S r ds → o ≡ relation_outline r → expanded_refusal S ns r ds ≡ form_refusal S ns xs o
+    → xs ≡ relation_stands S r ds → o ≡ relation_outline r → stands_refusal S ns (expanded_stands S ns r ++ shortcuts_stand [] ds) ≡ form_refusal S ns xs o
 by_parts S ns r ds xs o q e = relation-refused S ns r ds ∙ (λ i. form_refusal S ns (sym q i) (sym e i))
 
 pub returns-in-Some-clause-refused : goal.returns-in-Some-clause-refused
 returns-in-Some-clause-refused c =
-    by_parts (scope_of c.args.scope.now) c.args.names.now (relation_form_of c.args.form) c.args.shortcuts.now (stands_of c.deref.result.now) (outline_of c.in_ok-outline.outline)
-    (ap stands_of c.deref.ensures.value ∙ c.in_ok-found.ensures) c.in_ok-outline.ensures ∙ sym c.in_ok-refusal.ensures ∙ ap (option_map refusal_of) c.in-Some.is
+    let S = scope_of c.args.scope.now in
+    let ns = c.args.names.now in
+    let r = relation_form_of c.args.form in
+    let ds = c.args.shortcuts.now in
+    let e =
+    by_parts S ns r ds (stands_of c.deref.result.now) (outline_of c.in_ok-outline.outline) (ap stands_of c.deref.ensures.value ∙ c.in_ok-found.ensures)
+    c.in_ok-outline.ensures
+    in
+    sym (c.in_ok-refusal-2.ensures S ns (expanded_stands S ns r ++ shortcuts_stand [] ds) (c.in_ok-refusal.ensures ∙ sym e)) ∙ ap (option_map refusal_of) c.in-Some.is
 
 pub returns-clause-passes : goal.returns-clause-passes
 returns-clause-passes c =
-    by_parts (scope_of c.args.scope.now) c.args.names.now (relation_form_of c.args.form) c.args.shortcuts.now (stands_of c.deref.result.now) (outline_of c.in_ok-outline.outline)
-    (ap stands_of c.deref.ensures.value ∙ c.in_ok-found.ensures) c.in_ok-outline.ensures ∙ sym c.in_ok-refusal.ensures ∙ ap (option_map refusal_of) c.in_default.is
+    let S = scope_of c.args.scope.now in
+    let ns = c.args.names.now in
+    let r = relation_form_of c.args.form in
+    let ds = c.args.shortcuts.now in
+    let e =
+    by_parts S ns r ds (stands_of c.deref.result.now) (outline_of c.in_ok-outline.outline) (ap stands_of c.deref.ensures.value ∙ c.in_ok-found.ensures)
+    c.in_ok-outline.ensures
+    in
+    sym (c.in_ok-refusal-2.ensures S ns (expanded_stands S ns r ++ shortcuts_stand [] ds) (c.in_ok-refusal.ensures ∙ sym e)) ∙ ap (option_map refusal_of) c.in_default.is
