@@ -1,7 +1,9 @@
 -- The worked examples of metafunctions and of judgements.
 use Rattle.std.proofs.Common.{refl}
 use Rattle.std.specs.Str.{chars}
+use Rattle.rdx_defs.specs.JudgementExamples as judgements
 use Rattle.rdx_defs.specs.JudgementExamples.{AheadMeans, BehindMeans, SeesNoOutput, ConfirmsTerm, ConclusionRefused, NoModeRefused, UnknownRefused}
+use Rattle.rdx_defs.specs.MetafunctionExamples as metafunctions
 use Rattle.rdx_defs.specs.MetafunctionExamples.{ClosesContract, CallsAnother, OtherNameRefused, NamedClauseRefused}
 
 -- ---- metafunctions
@@ -21,6 +23,18 @@ other_name_refused = refl
 pub named_clause_refused : NamedClauseRefused
 unfolding chars
 named_clause_refused = refl
+
+pub function_head : metafunctions.HeadRefused
+unfolding chars
+function_head = refl
+
+pub function_shape : metafunctions.ShapeRefused
+unfolding chars
+function_shape = refl
+
+pub function_language : metafunctions.LanguageRefused
+unfolding chars
+function_language = refl
 
 -- ---- judgements
 
@@ -51,3 +65,15 @@ no_mode_refused = refl
 pub unknown_refused : UnknownRefused
 unfolding chars
 unknown_refused = refl
+
+pub judgement_head : judgements.HeadRefused
+unfolding chars
+judgement_head = refl
+
+pub judgement_language : judgements.LanguageRefused
+unfolding chars
+judgement_language = refl
+
+pub judgement_shape : judgements.ShapeRefused
+unfolding chars
+judgement_shape = refl

@@ -21,13 +21,13 @@ use Rattle.rdx_parts.specs.Outlines.{Takes, several, Branch, RuleBranch}
 use Rattle.rdx_parts.specs.PartsHave.{AreReadableItems, IsReadableIn, BranchHas, BranchesHave, RuleHas, RulesHave, OutlineHas}
 use Rattle.rdx_defs.specs.JudgementForms.{RuleForm, is_line, cut_at_line, is_label, concluded, rule_behind, cut_name, rule_ahead, rule_cut, rule_among, rule_form, OptionForm, JudgementForm, is_any_keyword, with_option, cut_options, judgement_among, judgement_form, given_by, headed_by, mode_form, contract_form, judgement_in, own_mode, is_named_so, key_text, is_fit_option, own_rule}
 use Rattle.rdx_defs.specs.MetafunctionForms.{ClauseForm, clause_behind, clause_among, clause_form, ContractForm, cut_at_arrow, MetafunctionForm, with_clauses, contracted, metafunction_over, metafunction_among, metafunction_form, function_or, clauses_function, function_by, function_in}
-use Rattle.rdx_relations.specs.RelationForms.{is_keyword, may_name}
+use Rattle.rdx_relations.specs.RelationForms.{is_keyword}
 use Rattle.rdx_templates.specs.Scope.{Scope}
 use Rattle.rdx_parts.specs.StandChecks.{is_bad_function}
 use Rattle.rdx_base.specs.declared.place.Span.{Span}
 use Rattle.rdx_relations.proofs.PartsOfForms.{IsNamed, Each, EachIn, HeadedHasIn, IsInherited, wanted}
 use Rattle.rdx_defs.proofs.PartsOfForms.{IsNamedIn, HasIn, SidesHave, ContractHasIn, MetafunctionHas, MetafunctionHasIn, RuleFormHas, RuleFormHasIn, OptionsHave, JudgementHas, JudgementHasIn, CutHas}
-use Rattle.rdx_relations.proofs.InheritedParts.{items-readable, may_name-name, parts-has, headed-has, arguments-has, premise-has, extras-has, alone-has}
+use Rattle.rdx_relations.proofs.InheritedParts.{items-readable, symbol-name, parts-has, headed-has, arguments-has, premise-has, extras-has, alone-has}
 
 -- ---- readable data
 
@@ -152,11 +152,11 @@ module _ (P : Sexp → Type 0) (T : Takes → Type 0) (H : IsInherited P T) wher
   cut-has [] h = tt
   cut-has (d ∷ ds) h = cut-when (is_word (codes "->") d) d ds (cut_at_arrow ds) h.0 h.1 (cut-has ds h.1)
 
-  module _ (l : Sexp) (e : may_name l ≡ true) (r : IsReadable l) where
+  module _ (l : Sexp) (e : is_symbol l ≡ true) (r : IsReadable l) where
     -- with clauses
     with_clauses-has : (c : Option ContractForm) (ds : List Sexp) → ContractHasIn P c → Each P ds → MetafunctionHasIn P (with_clauses l c ds)
     with_clauses-has c [] k h = tt
-    with_clauses-has c (d ∷ ds) k h = record { contract = k; clauses = h; some = λ f. not_none f; language = may_name-name l e r }
+    with_clauses-has c (d ∷ ds) k h = record { contract = k; clauses = h; some = λ f. not_none f; language = symbol-name l e r }
       where
         not_none : d ∷ ds ≡ [] → ⊥
         not_none f = absurd cc
@@ -184,10 +184,10 @@ module _ (P : Sexp → Type 0) (T : Takes → Type 0) (H : IsInherited P T) wher
   metafunction_among-has None h = tt
   metafunction_among-has (Some []) h = tt
   metafunction_among-has (Some (x ∷ [])) h = tt
-  metafunction_among-has (Some (x ∷ l ∷ ds)) h = by_test (may_name l) refl
+  metafunction_among-has (Some (x ∷ l ∷ ds)) h = by_test (is_word (codes "define-metafunction") x && is_symbol l) refl
     where
-      by_test : (b : Bool) → may_name l ≡ b → MetafunctionHasIn P (if b then metafunction_over l ds else None)
-      by_test true e = metafunction_over-has l e (H.readable l h.1.0) ds h.1.1
+      by_test : (b : Bool) → (is_word (codes "define-metafunction") x && is_symbol l) ≡ b → MetafunctionHasIn P (if b then metafunction_over l ds else None)
+      by_test true e = metafunction_over-has l (and_true (is_word (codes "define-metafunction") x) (is_symbol l) e).1 (H.readable l h.1.0) ds h.1.1
       by_test false e = tt
 
   -- the parts of a form that has it
@@ -358,11 +358,14 @@ module _ (P : Sexp → Type 0) (T : Takes → Type 0) (H : IsInherited P T) wher
   judgement_among-has None h = tt
   judgement_among-has (Some []) h = tt
   judgement_among-has (Some (x ∷ [])) h = tt
-  judgement_among-has (Some (x ∷ l ∷ ds)) h = by_test (may_name l) refl
+  judgement_among-has (Some (x ∷ l ∷ ds)) h = by_test (is_word (codes "define-judgment-form") x && is_symbol l) refl
     where
-      by_test : (b : Bool) → may_name l ≡ b
+      by_test : (b : Bool) → (is_word (codes "define-judgment-form") x && is_symbol l) ≡ b
           → JudgementHasIn P (if b then Some (record { language = l; options = (cut_options ds).0; rules = (cut_options ds).1 }) else None)
-      by_test true e = let c = cut_options-has ds h.1.1 in record { options = c.0; rules = c.1; language = may_name-name l e (H.readable l h.1.0) }
+      by_test true e =
+          let c = cut_options-has ds h.1.1 in
+          let s = (and_true (is_word (codes "define-judgment-form") x) (is_symbol l) e).1 in
+          record { options = c.0; rules = c.1; language = symbol-name l s (H.readable l h.1.0) }
       by_test false e = tt
 
   -- the parts of a form that has it

@@ -1,9 +1,9 @@
 -- What the parts of a form have by what each datum has, where that passes from a list to its items.
-use Rattle.std.proofs.Common.{◌≡◌, List, [], ◌∷◌, IsTrue}
-use Rattle.std.specs.Prelude.{Option, Some, None}
+use Rattle.std.proofs.Common.{◌≡◌, false, List, [], ◌∷◌, IsTrue}
+use Rattle.std.specs.Prelude.{Option, Some, None, codes}
 use Rattle.rdx_sexp.specs.Sexp.{Sexp}
 use Rattle.rdx_term.specs.Spelling.{is_name}
-use Rattle.rdx_patterns.specs.Parts.{text_of}
+use Rattle.rdx_patterns.specs.Parts.{is_word, text_of}
 use Rattle.rdx_defs.specs.JudgementForms.{RuleForm, OptionForm, JudgementForm}
 use Rattle.rdx_defs.specs.MetafunctionForms.{ContractForm, MetafunctionForm}
 use Rattle.rdx_relations.proofs.PartsOfForms.{IsNamed, Each, HeadedHas}
@@ -46,7 +46,7 @@ module _ (P : Sexp → Type 0) where
     pub contract : ContractHasIn m.contract
     pub clauses : Each P m.clauses
     pub some : m.clauses ≡ [] → ⊥
-    pub language : IsTrue (is_name (text_of m.language))
+    pub language : is_word (codes "hole") m.language ≡ false → IsTrue (is_name (text_of m.language))
 
   -- where there is one
   abbrev pub MetafunctionHasIn : Option MetafunctionForm → Type 0
@@ -75,11 +75,11 @@ module _ (P : Sexp → Type 0) where
   OptionsHave [] = Unit {0}
   OptionsHave (o ∷ os) = OptionHas o × OptionsHave os
 
-  -- what a form of a judgement is to have: such parts, and the name of a language
+  -- what a form of a judgement is to have: such parts, and the name of a language, which `hole` is none of
   pub record JudgementHas (f : JudgementForm) : Type 0 where
     pub options : OptionsHave f.options
     pub rules : Each P f.rules
-    pub language : IsTrue (is_name (text_of f.language))
+    pub language : is_word (codes "hole") f.language ≡ false → IsTrue (is_name (text_of f.language))
 
   -- where there is one
   abbrev pub JudgementHasIn : Option JudgementForm → Type 0

@@ -18,22 +18,22 @@ use Rattle.rdx_defs.specs.Inside.BranchReadings.{branch_metafunction}
 use Rattle.rdx_parts.specs.FormRefusals.{early_refusal}
 use Rattle.rdx_parts.specs.PartsHave.{IsReadableIn, IsReadableTaken, CanBind, OutlineHas, can_bind}
 use Rattle.rdx_defs.specs.JudgementForms.{JudgementForm, judgement_form}
-use Rattle.rdx_defs.specs.JudgementRefusal.{judgement_refusal, lone_premise_stands, premise_refusal}
+use Rattle.rdx_defs.specs.JudgementRefusal.{lone_premise_stands, premise_refusal}
 use Rattle.rdx_defs.specs.JudgementStands.{judgement_stands}
 use Rattle.rdx_defs.specs.MetafunctionForms.{MetafunctionForm, metafunction_form, function_in}
 use Rattle.rdx_defs.specs.MetafunctionReading.{contract_reading, clauses_reading, text_in, metafunction_reading}
-use Rattle.rdx_defs.specs.MetafunctionRefusal.{metafunction_refusal}
 use Rattle.rdx_defs.specs.MetafunctionStands.{contract_stands, clauses_stand, function_stands}
 use Rattle.rdx_templates.specs.Scope.{Scope, callable}
 use Rattle.rdx_parts.specs.StandChecks.{is_bad_function, bad_names}
+use Rattle.rdx_parts.specs.StandRefusal.{stands_refusal}
 use Rattle.rdx_parts.specs.Stands.{Stand}
 use Rattle.rdx_defs.proofs.BareForms.{bare-function, bare-judgement, bare-question}
 use Rattle.rdx_parts.proofs.BareChecks.{bad_names-bare}
 use Rattle.rdx_relations.proofs.AskingParts.{AsksWithin, asks-within, TakenWithin, within-inherited, BindsWithin, binds-within}
 use Rattle.rdx_relations.proofs.BoundParts.{can-bind}
 use Rattle.rdx_defs.proofs.BoundParts.{metafunction-binds, judgement-binds, question-binds}
-use Rattle.rdx_relations.proofs.FormRefusals.{ArePassed, early-names}
-use Rattle.rdx_defs.proofs.FormRefusals.{no-contract, metafunction-passed, judgement-passed, question-passed, some-function}
+use Rattle.rdx_relations.proofs.FormRefusals.{ArePassed, early-names, stands-passed}
+use Rattle.rdx_defs.proofs.FormRefusals.{no-contract, question-passed, some-function}
 use Rattle.rdx_defs.proofs.InheritedParts.{metafunction-has, metafunction_outline-has, function-named, function-name, judgement-has, mode-has, judgement_outline-has, question_outline-has}
 use Rattle.rdx_relations.proofs.PartsOfForms.{IsNamed}
 use Rattle.rdx_defs.proofs.PartsOfForms.{IsNamedIn}
@@ -54,10 +54,11 @@ metafunction-early S ns d m ss h f q e =
     metafunction-binds S IsReadableTaken (CanBind ns) (can-bind ns) m (function_in m) (no-contract m) (early-names ns (bare_stands.function_stands S m (function_in m)) (ap (early_refusal ns) (sym q) ∙ e))
     (metafunction_outline-has IsReadable IsReadableTaken readable-inherited S m (function_in m) (metafunction-has IsReadable IsReadableTaken readable-inherited d m h f))
 
--- where no check refuses, it has a name
-pub has-function : (S : Scope) (ns : List (List ℕ)) (d : Sexp) (m : MetafunctionForm) → IsReadable d → metafunction_form d ≡ Some m → metafunction_refusal S ns d ≡ None → function_in m ≡ None → ⊥
+-- where no check refuses what stands in it, it has a name
+pub has-function : (S : Scope) (ns : List (List ℕ)) (d : Sexp) (m : MetafunctionForm) → IsReadable d → metafunction_form d ≡ Some m
+    → stands_refusal S ns (function_stands S ns m (function_in m)) ≡ None → function_in m ≡ None → ⊥
 has-function S ns d m h f e g =
-    let k = metafunction-passed S ns d m f e in
+    let k = stands-passed S ns (function_stands S ns m (function_in m)) e in
     some-function S ns m (metafunction-has IsReadable IsReadableTaken readable-inherited d m h f).some g (subst (λ (o : Option Sexp). ArePassed S ns (function_stands S ns m o)) g k).shapes
 
 -- which is a name
@@ -73,12 +74,12 @@ pub record IsValidForm (S : Scope) (L : Language) (d : Sexp) (m : MetafunctionFo
   pub valid : is_valid_metafunction (callable S) (Some (gained L d)) (metafunction_reading S (names_of L) m) ≡ true
 
 pub metafunction-valid : (S : Scope) (L : Language) (d : Sexp) (m : MetafunctionForm) (f : Sexp) → IsReadable d → metafunction_form d ≡ Some m → function_in m ≡ Some f
-    → metafunction_refusal S (names_of L) d ≡ None → IsValidForm S L d m f
+    → stands_refusal S (names_of L) (function_stands S (names_of L) m (function_in m)) ≡ None → IsValidForm S L d m f
 metafunction-valid S L d m f h g n e =
     let ns = names_of L in
     let ys = ends_in d in
     let parts = metafunction-has (AsksWithin ys) (TakenWithin ys) (within-inherited ys) d m (asks-within d h) g in
-    let k : ArePassed S ns (function_stands S ns m (Some f)) = subst (λ (o : Option Sexp). ArePassed S ns (function_stands S ns m o)) n (metafunction-passed S ns d m g e) in
+    let k : ArePassed S ns (function_stands S ns m (Some f)) = subst (λ (o : Option Sexp). ArePassed S ns (function_stands S ns m o)) n (stands-passed S ns (function_stands S ns m (function_in m)) e) in
     let b : bad_names (bare_stands.function_stands S m (Some f)) ≡ [] = ap bad_names (sym (bare-function S ns m (Some f))) ∙ bad_names-bare (function_stands S ns m (Some f)) ∙ k.names in
     let o = metafunction-binds S (TakenWithin ys) (BindsWithin ys ns) (binds-within ys ns) m (Some f) (λ q. absurd cc) b
     (metafunction_outline-has (AsksWithin ys) (TakenWithin ys) (within-inherited ys) S m (Some f) parts) in
@@ -106,13 +107,13 @@ judgement-early S ns d f ss h g q e =
     judgement-binds S IsReadableTaken (CanBind ns) (can-bind ns) d f (early-names ns (bare_stands.judgement_stands S d f) (ap (early_refusal ns) (sym q) ∙ e)) (judgement_outline-has IsReadable IsReadableTaken readable-inherited S f (judgement-has IsReadable IsReadableTaken readable-inherited d f h g))
 
 -- where no check refuses
-pub judgement-valid : (S : Scope) (L : Language) (d : Sexp) (f : JudgementForm) → IsReadable d → judgement_form d ≡ Some f → judgement_refusal S (names_of L) d ≡ None
-    → IsValidJudgement S L (ends_in d) f
+pub judgement-valid : (S : Scope) (L : Language) (d : Sexp) (f : JudgementForm) → IsReadable d → judgement_form d ≡ Some f
+    → stands_refusal S (names_of L) (judgement_stands S (names_of L) d (Some f)) ≡ None → IsValidJudgement S L (ends_in d) f
 judgement-valid S L d f h g e =
     let ns = names_of L in
     let ys = ends_in d in
     let parts = judgement-has (AsksWithin ys) (TakenWithin ys) (within-inherited ys) d f (asks-within d h) g in
-    let k = judgement-passed S ns d f g e in
+    let k = stands-passed S ns (judgement_stands S ns d (Some f)) e in
     let b : bad_names (bare_stands.judgement_stands S d f) ≡ [] = ap bad_names (sym (bare-judgement S ns d f)) ∙ bad_names-bare (judgement_stands S ns d (Some f)) ∙ k.names in
     judgement-good S L ys d f (mode-has IsReadable IsReadableTaken readable-inherited f (judgement-has IsReadable IsReadableTaken readable-inherited d f h g))
     (judgement-binds S (TakenWithin ys) (BindsWithin ys ns) (binds-within ys ns) d f b (judgement_outline-has (AsksWithin ys) (TakenWithin ys) (within-inherited ys) S f parts)) k

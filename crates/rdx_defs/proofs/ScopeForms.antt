@@ -1,14 +1,14 @@
 -- A form of a judgement that is not refused is in the scope of its file.
 use Rattle.std.proofs.Common.{◌≡◌, ◌++◌, ◌∙◌, ℕ, Bool, true, false, List, [], ◌∷◌, map, IsTrue, refl, sym, ap, subst, if◌then◌else◌}
 use Rattle.std.specs.List.{list_all}
-use Rattle.std.specs.Prelude.{◌&&◌, Option, Some, None, is_some, IsSome, option_map, codes, bytes_eq}
+use Rattle.std.specs.Prelude.{◌&&◌, Option, Some, None, is_some, IsSome, option_map, bytes_eq}
 use Rattle.rdx_sexp.specs.Sexp.{Sexp}
 use Rattle.rdx_term.specs.Spelling.{is_name}
 use Rattle.rdx_lang.specs.Patterns.{Language}
 use Rattle.rdx_lang.specs.Programs.{Mode}
 use Rattle.rdx_lang.specs.declared.pattern.Ref.TheVariants.{Nt}
 use Rattle.rdx_patterns.specs.Nonterminals.{names_of}
-use Rattle.rdx_patterns.specs.Parts.{parts, text_of}
+use Rattle.rdx_patterns.specs.Parts.{text_of}
 use Rattle.rdx_patterns.specs.PatternChecks as patterns
 use Rattle.rdx_patterns.specs.Readable.{IsReadable}
 use Rattle.rdx_patterns.proofs.Booleans.{and_both}
@@ -16,14 +16,13 @@ use Rattle.rdx_parts.specs.ExtraForms.{ExtraForm, such_that, provided, confirmed
 use Rattle.rdx_parts.specs.Headed.{Headed, headed}
 use Rattle.rdx_defs.specs.JudgementForms.{RuleForm, rule_form, own_rule, OptionForm, JudgementForm, judgement_form, mode_form, mode_given, judgement_in, own_mode, key_text, is_fit_option, are_fit_options}
 use Rattle.rdx_defs.specs.JudgementReading.{mode_or_none}
-use Rattle.rdx_defs.specs.JudgementRefusal.{judgement_refusal}
 use Rattle.rdx_defs.specs.JudgementStands.{bound_by_inputs, conclusion_stands, premises_stand, name_stands, rule_stands, rules_stand, option_stands, options_stand, missing_mode, judgement_stands}
 use Rattle.rdx_defs.specs.MetafunctionReading.{text_in}
 use Rattle.rdx_templates.specs.Scope.{Scope}
-use Rattle.rdx_defs.specs.Scopes.{are_conditions, is_rule_of, with_mode, judgement_by, judgement_moded, begins_with, defined_judgements}
+use Rattle.rdx_defs.specs.Scopes.{are_conditions, is_rule_of, with_mode, judgement_by, judgement_moded, defined_judgements}
 use Rattle.rdx_parts.specs.Stands.{Stand, misshaped, bound_by_extra, held_stands, extra_stands, is_named, extras_stand}
-use Rattle.rdx_relations.proofs.FormRefusals.{ArePassed}
-use Rattle.rdx_defs.proofs.FormRefusals.{judgement-passed}
+use Rattle.rdx_parts.specs.StandRefusal.{stands_refusal}
+use Rattle.rdx_relations.proofs.FormRefusals.{ArePassed, stands-passed}
 use Rattle.rdx_defs.proofs.PassedForms.{judgement-valid}
 use Rattle.rdx_relations.proofs.PassedStands.{passed-both}
 
@@ -121,12 +120,13 @@ unmoded None e s = cc
 unmoded (Some q) e s = absurd cc
 
 -- over a language
-in-scope-over : (S : Scope) (L : Language) (d : Sexp) (f : JudgementForm) → IsReadable d → judgement_form d ≡ Some f → judgement_refusal S (names_of L) d ≡ None
+in-scope-over : (S : Scope) (L : Language) (d : Sexp) (f : JudgementForm) → IsReadable d → judgement_form d ≡ Some f
+    → stands_refusal S (names_of L) (judgement_stands S (names_of L) d (Some f)) ≡ None
     → judgement_moded (judgement_form d) ≡ (text_in (judgement_in f), mode_or_none (own_mode f)) ∷ []
 in-scope-over S L d f r e g = ap judgement_moded e ∙ by_mode (mode_form f) refl
   where
     k : ArePassed S (names_of L) (judgement_stands S (names_of L) d (Some f))
-    k = judgement-passed S (names_of L) d f e g
+    k = stands-passed S (names_of L) (judgement_stands S (names_of L) d (Some f)) g
 
     by_mode : (o : Option Headed) → mode_form f ≡ o → judgement_by f (judgement_in f) ≡ (text_in (judgement_in f), mode_or_none (own_mode f)) ∷ []
     by_mode None h = absurd (unmoded (mode_form f) h (judgement-valid S L d f r e g).moded)
@@ -158,10 +158,9 @@ with_names-of : (ns : List (List ℕ)) → names_of (with_names ns) ≡ ns
 with_names-of [] = refl
 with_names-of (x ∷ ns) = ap (λ (xs : List (List ℕ)). x ∷ xs) (with_names-of ns)
 
--- a readable form that is not refused defines its judgement with its mode
+-- a readable form in which nothing is refused defines its judgement with its mode
 pub in-scope : (S : Scope) (ns : List (List ℕ)) (d : Sexp) (f : JudgementForm) → IsReadable d → judgement_form d ≡ Some f
-    → begins_with (codes "define-judgment-form") (parts d) ≡ true → judgement_refusal S ns d ≡ None
+    → stands_refusal S ns (judgement_stands S ns d (Some f)) ≡ None
     → defined_judgements d ≡ (text_in (judgement_in f), mode_or_none (own_mode f)) ∷ []
-in-scope S ns d f r e b g =
-    ap (λ (z : Bool). if z then judgement_moded (judgement_form d) else []) b
-    ∙ in-scope-over S (with_names ns) d f r e (subst (λ (xs : List (List ℕ)). judgement_refusal S xs d ≡ None) (sym (with_names-of ns)) g)
+in-scope S ns d f r e g =
+    in-scope-over S (with_names ns) d f r e (subst (λ (xs : List (List ℕ)). stands_refusal S xs (judgement_stands S xs d (Some f)) ≡ None) (sym (with_names-of ns)) g)

@@ -1,24 +1,17 @@
 -- What a form defines in the scope of its file, as the code finds it.
-use Rattle.std.proofs.Common.{◌≡◌, ◌∙◌, ℕ, Bool, true, false, List, [], ◌∷◌, Vec, Global, map, refl, ap, if◌then◌else◌}
+use Rattle.std.proofs.Common.{◌≡◌, ◌∙◌, ℕ, Bool, List, [], ◌∷◌, Vec, Global, map, ap}
 use Rattle.std.specs.Bool.{then_some}
-use Rattle.std.specs.Prelude.{Option, Some, None, codes}
+use Rattle.std.specs.Prelude.{Option, Some, None}
+use Rattle.std.specs.Rc.{rc_str_bytes}
+use Rattle.std.specs.declared.rc.RcStr.{RcStr}
 use Rattle.rdx_sexp.specs.Sexp.{Sexp}
 use Rattle.rdx_term.specs.Spelling.{is_name}
 use Rattle.rdx_term.specs.declared.name.Name.{Name}
 use Rattle.rdx_lang.specs.Programs.{Mode}
-use Rattle.rdx_patterns.specs.Parts.{parts, text_of}
+use Rattle.rdx_patterns.specs.Parts.{text_of}
 use Rattle.rdx_patterns.proofs.ReadItems.{name-some, name-none}
-use Rattle.rdx_defs.specs.Inside.ScopeParts.{defining_form}
 use Rattle.rdx_defs.specs.JudgementForms.{JudgementForm, judgement_form}
-use Rattle.rdx_defs.specs.Scopes.{with_mode, judgement_moded, begins_with, defined_judgements, language_text, defined_languages}
-
--- the name that a symbol is
-pub spelled : (d : Sexp) (x : List ℕ) → Some x ≡ then_some (is_name (text_of d)) (text_of d) → x ≡ text_of d
-spelled d x e = by_test (is_name (text_of d)) e
-  where
-    by_test : (b : Bool) → Some x ≡ then_some b (text_of d) → x ≡ text_of d
-    by_test true f = cc
-    by_test false f = absurd cc
+use Rattle.rdx_defs.specs.Scopes.{with_mode, judgement_moded, defined_judgements, language_text, defined_languages}
 
 -- ---- a name with a mode
 
@@ -37,29 +30,21 @@ moded j = (j.0, j.1.items)
 
 -- ---- what a form defines
 
--- where it begins like the form of a judgement and has its parts
-pub defined-some : (d : Sexp) (f : JudgementForm) → defining_form d ≡ Some f → defined_judgements d ≡ judgement_moded (Some f)
-defined-some d f e = by_test (begins_with (codes "define-judgment-form") (parts d)) e
-  where
-    by_test : (b : Bool) → (if b then judgement_form d else None) ≡ Some f → (if b then judgement_moded (judgement_form d) else []) ≡ judgement_moded (Some f)
-    by_test true g = ap judgement_moded g
-    by_test false g = absurd cc
+-- where it has the parts of a judgement
+pub defined-some : (d : Sexp) (f : JudgementForm) → judgement_form d ≡ Some f → defined_judgements d ≡ judgement_moded (Some f)
+defined-some d f e = ap judgement_moded e
 
 -- and its language
-pub language-some : (d : Sexp) (f : JudgementForm) → defining_form d ≡ Some f → language_text (judgement_form d) ≡ text_of f.language
-language-some d f e = by_test (begins_with (codes "define-judgment-form") (parts d)) e
-  where
-    by_test : (b : Bool) → (if b then judgement_form d else None) ≡ Some f → language_text (judgement_form d) ≡ text_of f.language
-    by_test true g = ap language_text g
-    by_test false g = absurd cc
+pub language-some : (d : Sexp) (f : JudgementForm) → judgement_form d ≡ Some f → language_text (judgement_form d) ≡ text_of f.language
+language-some d f e = ap language_text e
 
--- where it does not
-pub defined-none : (d : Sexp) → defining_form d ≡ None → defined_judgements d ≡ []
-defined-none d e = by_test (begins_with (codes "define-judgment-form") (parts d)) e
-  where
-    by_test : (b : Bool) → (if b then judgement_form d else None) ≡ None → (if b then judgement_moded (judgement_form d) else []) ≡ []
-    by_test true g = ap judgement_moded g
-    by_test false g = refl
+-- where it has not
+pub defined-none : (d : Sexp) → judgement_form d ≡ None → defined_judgements d ≡ []
+defined-none d e = ap judgement_moded e
+
+-- the name of a judgement with that of its language, as the code has them
+abbrev pub in_language : Name × RcStr Global → List ℕ × List ℕ
+in_language l = (l.0, rc_str_bytes l.1)
 
 -- with the names of languages
 pub languages-some : (d : Sexp) (x y : List ℕ) (m : Mode) → defined_judgements d ≡ (x, m) ∷ [] → language_text (judgement_form d) ≡ y → defined_languages d ≡ (x, y) ∷ []

@@ -1,6 +1,13 @@
 -- What the readers of forms answer.
-use Rattle.std.specs.Prelude.{◌≡◌, ℕ, [], List, Option, Some, None, option_map, Result, Ok, Err}
+use Rattle.std.specs.Prelude.{◌≡◌, ℕ, [], List, Option, Some, None, option_map, Result, Ok, Err, IsTrue, IfSome}
 use Rattle.rdx_sexp.specs.Sexp.{Sexp}
+use Rattle.rdx_lang.specs.Depths.{uses}
+use Rattle.rdx_lang.specs.Fitting.{fits}
+use Rattle.rdx_lang.specs.Modes.{Callable}
+use Rattle.rdx_lang.specs.Patterns.{Language}
+use Rattle.rdx_lang.specs.Programs.{holds}
+use Rattle.rdx_lang.specs.Scopes.{bound_by}
+use Rattle.rdx_lang.specs.Valid.{is_valid_extra}
 use Rattle.rdx_lang.specs.ProgramView.{metafunction_of, judgement_of, premise_of}
 use Rattle.rdx_lang.specs.TemplateView.{template_of}
 use Rattle.rdx_lang.specs.declared.program.Judgement.{Judgement}
@@ -78,3 +85,11 @@ IsPremiseFault S ns d t NoMemory = Unit {0}
 abbrev pub ReadsPremise : Scope → List (List ℕ) → Sexp → Option Sexp → Result ReadPremise DefFault → Type 0
 ReadsPremise S ns d t (Ok q) = IsPremise S ns d t q
 ReadsPremise S ns d t (Err e) = IsPremiseFault S ns d t e
+
+-- the premise is valid in the language, where no name is bound before it
+abbrev pub IsValidPremise : Callable → Language → ReadPremise → Type 0
+IsValidPremise C L q = IsTrue (is_valid_extra C L [] (holds (premise_of q.premise)))
+
+-- the template behind it, where there is one, fits the names that it binds
+abbrev pub FitsBehind : Callable → ReadPremise → Type 0
+FitsBehind C q = IfSome q.result (λ t. IsTrue (fits C.functions (bound_by (uses 0 (premise_of q.premise).outputs)) 0 (template_of t)))

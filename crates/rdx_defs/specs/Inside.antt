@@ -3,4 +3,3 @@ pub mod BranchReadings
 pub mod Contracts
 pub mod FormViews
 pub mod BareForms
-pub mod ScopeParts

@@ -10,7 +10,7 @@ use Rattle.rdx_lang.specs.Templates.{Template, lit, var, term}
 use Rattle.rdx_lang.specs.declared.pattern.Ref.TheVariants.{Nt}
 use Rattle.rdx_patterns.specs.Examples.{word, group, columns}
 use Rattle.rdx_patterns.specs.declared.shape.fault.DefKind.{DefKind}
-use Rattle.rdx_patterns.specs.declared.shape.fault.DefKind.TheVariants.{Mode, UnknownName}
+use Rattle.rdx_patterns.specs.declared.shape.fault.DefKind.TheVariants.{Shape, UnknownLanguage, Mode, UnknownName}
 use Rattle.rdx_defs.specs.JudgementForms.{JudgementForm, judgement_form}
 use Rattle.rdx_defs.specs.JudgementReading.{judgement_reading}
 use Rattle.rdx_defs.specs.JudgementRefusal.{judgement_refusal}
@@ -131,3 +131,24 @@ UnknownRefused =
     (group (columns 38 53)
     (two_arguments ∷ group (columns 47 52) (word (columns 48 49) (codes "K") ∷ number (columns 50 51) 3 ∷ []) ∷ [])))
     UnknownName 48 (Some (codes "K"))
+
+-- `(judgment-form L #:mode (J I))`: the form, which has another head
+abbrev pub HeadRefused : Type 0
+HeadRefused =
+    IsRefusedAt
+    (group (columns 1 31) (word (columns 2 15) (codes "judgment-form") ∷ word (columns 16 17) (codes "L") ∷ leaf (keyword (codes "mode")) (columns 18 24)
+    ∷ group (columns 25 30) (word (columns 26 27) (codes "J") ∷ word (columns 28 29) (codes "I") ∷ []) ∷ []))
+    Shape 1 None
+
+-- `(define-judgment-form hole)`: the language's name, before the form, which has no mode
+abbrev pub LanguageRefused : Type 0
+LanguageRefused =
+    IsRefusedAt (group (columns 1 28) (word (columns 2 22) (codes "define-judgment-form") ∷ word (columns 23 27) (codes "hole") ∷ []))
+    UnknownLanguage 23 (Some (codes "hole"))
+
+-- `(define-judgment-form hole 1)`: the rule, which has not its shape, before the language's name
+abbrev pub ShapeRefused : Type 0
+ShapeRefused =
+    IsRefusedAt
+    (group (columns 1 30) (word (columns 2 22) (codes "define-judgment-form") ∷ word (columns 23 27) (codes "hole") ∷ number (columns 28 29) 1 ∷ []))
+    Shape 28 None

@@ -7,7 +7,7 @@ use Rattle.rdx_sexp.specs.Sexp.{integer, truth, text, symbol, keyword, Sexp, lea
 use Rattle.rdx_lang.specs.Programs.{Mode}
 use Rattle.rdx_patterns.specs.Parts.{parts, is_symbol, is_word, text_of}
 use Rattle.rdx_parts.specs.Headed.{Headed, headed}
-use Rattle.rdx_relations.specs.RelationForms.{is_keyword, may_name}
+use Rattle.rdx_relations.specs.RelationForms.{is_keyword}
 
 -- ---- rules
 
@@ -108,10 +108,12 @@ cut_options (k ∷ v ∷ ds) = if is_any_keyword k then with_option k (Some v) (
 -- a list of these parts as a judgement
 abbrev pub judgement_among : Option (List Sexp) → Option JudgementForm
 judgement_among (Some (h ∷ l ∷ ds)) =
-    if may_name l then Some (record { language = l; options = (cut_options ds).0; rules = (cut_options ds).1 }) else None
+    if is_word (codes "define-judgment-form") h && is_symbol l
+    then Some (record { language = l; options = (cut_options ds).0; rules = (cut_options ds).1 })
+    else None
 judgement_among o = None
 
--- a datum as a judgement: a list of a head, a language's name, and then its options and rules
+-- a datum as a judgement: a list headed by `define-judgment-form`, of a symbol for the language's name, and then its options and rules
 abbrev pub judgement_form : Sexp → Option JudgementForm
 judgement_form d = judgement_among (parts d)
 

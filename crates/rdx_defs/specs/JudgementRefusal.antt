@@ -1,19 +1,25 @@
 -- When a form of a judgement is refused, and when a premise by itself is.
-use Rattle.std.specs.Prelude.{ℕ, List, [], ◌∷◌, ◌++◌, Option, Some, None}
+use Rattle.std.specs.Prelude.{ℕ, List, [], ◌∷◌, ◌++◌, Option, Some, None, option_map}
 use Rattle.rdx_sexp.specs.Sexp.{Sexp}
 use Rattle.rdx_patterns.specs.PatternChecks as patterns
 use Rattle.rdx_patterns.specs.Refusal.{Refusal, first_refusal}
 use Rattle.rdx_patterns.specs.Unbuilt.{unbuilt_at}
 use Rattle.rdx_parts.specs.Headed.{headed}
-use Rattle.rdx_defs.specs.JudgementForms.{judgement_form}
+use Rattle.rdx_defs.specs.JudgementForms.{JudgementForm, judgement_form}
 use Rattle.rdx_defs.specs.JudgementStands.{judgement_stands}
+use Rattle.rdx_relations.specs.LanguageRefusal.{refusal_over}
 use Rattle.rdx_templates.specs.Scope.{Scope}
 use Rattle.rdx_parts.specs.StandRefusal.{stands_refusal}
 use Rattle.rdx_parts.specs.Stands.{Stand, template, names_bound, bound_by_premise, held_stands}
 
--- the refusal of a datum as a judgement in this scope, over the nonterminals ns; S0 comes first
+-- the refusal of a datum with these parts as a judgement in this scope, over the nonterminals ns; S0 comes first
+abbrev pub judgement_refusal_by : Scope → List (List ℕ) → Sexp → Option JudgementForm → Option Refusal
+judgement_refusal_by S ns d o =
+    first_refusal (unbuilt_at d ∷ refusal_over S ns (option_map (λ f. f.language) o) (judgement_stands S ns d o) ∷ [])
+
+-- the refusal of a datum so
 abbrev pub judgement_refusal : Scope → List (List ℕ) → Sexp → Option Refusal
-judgement_refusal S ns d = first_refusal (unbuilt_at d ∷ stands_refusal S ns (judgement_stands S ns d (judgement_form d)) ∷ [])
+judgement_refusal S ns d = judgement_refusal_by S ns d (judgement_form d)
 
 -- ---- premises by themselves
 

@@ -9,7 +9,7 @@ use Rattle.rdx_lang.specs.Templates.{var, call, one, nil}
 use Rattle.rdx_lang.specs.declared.pattern.Kind.TheVariants.{Any}
 use Rattle.rdx_lang.specs.declared.pattern.Ref.TheVariants.{Nt}
 use Rattle.rdx_patterns.specs.Examples.{word, group, columns}
-use Rattle.rdx_patterns.specs.declared.shape.fault.DefKind.TheVariants.{Shape}
+use Rattle.rdx_patterns.specs.declared.shape.fault.DefKind.TheVariants.{Shape, UnknownLanguage}
 use Rattle.rdx_defs.specs.MetafunctionForms.{MetafunctionForm, metafunction_form}
 use Rattle.rdx_defs.specs.MetafunctionReading.{metafunction_reading}
 use Rattle.rdx_defs.specs.MetafunctionRefusal.{metafunction_refusal}
@@ -96,3 +96,28 @@ NamedClauseRefused =
     (group (columns 24 35)
     (group (columns 25 30) (word (columns 26 27) (codes "f") ∷ number (columns 28 29) 1 ∷ []) ∷ number (columns 31 32) 2 ∷ word (columns 33 34) (codes "a") ∷ []) ∷ []))
     33
+
+-- `(metafunction L ((f) 1))`: the form, which has another head
+abbrev pub HeadRefused : Type 0
+HeadRefused =
+    IsMisshapenAt
+    (group (columns 1 25) (word (columns 2 14) (codes "metafunction") ∷ word (columns 15 16) (codes "L")
+    ∷ group (columns 17 24) (group (columns 18 21) (word (columns 19 20) (codes "f") ∷ []) ∷ number (columns 22 23) 1 ∷ []) ∷ []))
+    1
+
+-- `(define-metafunction hole ((f) 1) ((g) 2))`: the clause of another metafunction, before the language's name
+abbrev pub ShapeRefused : Type 0
+ShapeRefused =
+    IsMisshapenAt
+    (group (columns 1 43) (word (columns 2 21) (codes "define-metafunction") ∷ word (columns 22 26) (codes "hole")
+    ∷ group (columns 27 34) (group (columns 28 31) (word (columns 29 30) (codes "f") ∷ []) ∷ number (columns 32 33) 1 ∷ [])
+    ∷ group (columns 35 42) (group (columns 36 39) (word (columns 37 38) (codes "g") ∷ []) ∷ number (columns 40 41) 2 ∷ []) ∷ []))
+    35
+
+-- `(define-metafunction hole ((hole) 1))`: the language's name, before that of the metafunction, which no metafunction may have
+abbrev pub LanguageRefused : Type 0
+LanguageRefused =
+    metafunction_refusal no_scope []
+    (group (columns 1 38) (word (columns 2 21) (codes "define-metafunction") ∷ word (columns 22 26) (codes "hole")
+    ∷ group (columns 27 37) (group (columns 28 34) (word (columns 29 33) (codes "hole") ∷ []) ∷ number (columns 35 36) 1 ∷ []) ∷ []))
+    ≡ Some (record { kind = UnknownLanguage; place = record { line = 1; column = 22 }; name = Some (codes "hole") })

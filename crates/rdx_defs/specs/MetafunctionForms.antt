@@ -3,7 +3,6 @@
 use Rattle.std.specs.Prelude.{◌&&◌, List, [], ◌∷◌, Option, Some, None, option_map, codes, if◌then◌else◌}
 use Rattle.rdx_sexp.specs.Sexp.{Sexp}
 use Rattle.rdx_patterns.specs.Parts.{parts, is_symbol, is_word}
-use Rattle.rdx_relations.specs.RelationForms.{may_name}
 
 -- ---- clauses
 
@@ -70,10 +69,10 @@ metafunction_over l ds = with_clauses l None ds
 
 -- a list of these parts as a metafunction
 abbrev pub metafunction_among : Option (List Sexp) → Option MetafunctionForm
-metafunction_among (Some (h ∷ l ∷ ds)) = if may_name l then metafunction_over l ds else None
+metafunction_among (Some (h ∷ l ∷ ds)) = if is_word (codes "define-metafunction") h && is_symbol l then metafunction_over l ds else None
 metafunction_among o = None
 
--- a datum as a metafunction: a list of a head, a language's name, and then its contract and clauses
+-- a datum as a metafunction: a list headed by `define-metafunction`, of a symbol for the language's name, and then its contract and clauses
 abbrev pub metafunction_form : Sexp → Option MetafunctionForm
 metafunction_form d = metafunction_among (parts d)
 

@@ -1,10 +1,10 @@
 -- The scope of a file: what each form of it defines in all of it, if the form has its outer shape. For this any datum counts as a pattern, a
 -- template or a host expression.
-use Rattle.std.specs.Prelude.{ℕ, Bool, false, ◌&&◌, List, [], ◌∷◌, Option, Some, None, map, flat_map, bytes_eq, codes, if◌then◌else◌}
+use Rattle.std.specs.Prelude.{ℕ, Bool, false, ◌&&◌, List, [], Option, Some, None, map, flat_map, bytes_eq, if◌then◌else◌}
 use Rattle.std.specs.List.{list_all}
 use Rattle.rdx_sexp.specs.Sexp.{Sexp}
 use Rattle.rdx_lang.specs.Programs.{Mode}
-use Rattle.rdx_patterns.specs.Parts.{parts, is_word, text_of}
+use Rattle.rdx_patterns.specs.Parts.{text_of}
 use Rattle.rdx_patterns.specs.Reading.{name_in}
 use Rattle.rdx_parts.specs.ExtraForms.{of_clause, of_rule, form_at, ExtraPlace, is_condition}
 use Rattle.rdx_defs.specs.JudgementForms.{RuleForm, rule_form, JudgementForm, judgement_form, judgement_in, own_mode, are_fit_options}
@@ -62,25 +62,19 @@ language_text (Some f) = text_of f.language
 
 -- ---- forms
 
--- a list of these parts is headed by this word
-abbrev pub begins_with : List ℕ → Option (List Sexp) → Bool
-begins_with x None = false
-begins_with x (Some []) = false
-begins_with x (Some (h ∷ ds)) = is_word x h
-
 -- the metafunctions that a form defines
 abbrev pub defined_functions : Sexp → List (List ℕ)
-defined_functions d = if begins_with (codes "define-metafunction") (parts d) then metafunction_name (metafunction_form d) else []
+defined_functions d = metafunction_name (metafunction_form d)
 
 -- the judgements, with their modes
 abbrev pub defined_judgements : Sexp → List (List ℕ × Mode)
-defined_judgements d = if begins_with (codes "define-judgment-form") (parts d) then judgement_moded (judgement_form d) else []
+defined_judgements d = judgement_moded (judgement_form d)
 
 -- and the same with the names of their languages
 abbrev pub defined_languages : Sexp → List (List ℕ × List ℕ)
 defined_languages d = map (λ j. (j.0, language_text (judgement_form d))) (defined_judgements d)
 
--- the judgements that these forms define, in their order, each with the name of its language
+-- the judgements that these forms define, in their order, each with the name of its language, which may be `hole`
 abbrev pub languages_in : List Sexp → List (List ℕ × List ℕ)
 languages_in ds = flat_map defined_languages ds
 

@@ -1,6 +1,8 @@
 //! Laws of the definitions: functions that do nothing, whose contracts are the laws.
+ghost use Rattle.rdx_defs.specs.JudgementExamples as judgements;
 ghost use Rattle.rdx_defs.specs.JudgementExamples.{AheadMeans, BehindMeans, SeesNoOutput, ConfirmsTerm, ConclusionRefused, NoModeRefused, UnknownRefused};
 ghost use Rattle.rdx_defs.specs.JudgementLaws.{NeverBothJudgement, NeverNeitherJudgement, OneJudgement, OneJudgementRefusal};
+ghost use Rattle.rdx_defs.specs.MetafunctionExamples as metafunctions;
 ghost use Rattle.rdx_defs.specs.MetafunctionExamples.{CallsAnother, ClosesContract, NamedClauseRefused, OtherNameRefused};
 ghost use Rattle.rdx_defs.specs.MetafunctionLaws.{NeverBothMetafunction, NeverNeitherMetafunction, OneMetafunction, OneMetafunctionRefusal};
 
@@ -28,6 +30,9 @@ pub fn worked_metafunctions()
     ensures calls { CallsAnother }
     ensures other_name { OtherNameRefused }
     ensures named_clause { NamedClauseRefused }
+    ensures head { metafunctions.HeadRefused }
+    ensures shape { metafunctions.ShapeRefused }
+    ensures language { metafunctions.LanguageRefused }
 {}
 
 /// Worked examples: what data are as judgements, and where others are refused as ones.
@@ -39,4 +44,7 @@ pub fn worked_judgements()
     ensures conclusion { ConclusionRefused }
     ensures no_mode { NoModeRefused }
     ensures unknown_first { UnknownRefused }
+    ensures head { judgements.HeadRefused }
+    ensures language { judgements.LanguageRefused }
+    ensures shape { judgements.ShapeRefused }
 {}

@@ -3,13 +3,13 @@ ghost use Rattle.std.specs.Bool.{then_some};
 ghost use Rattle.std.specs.List.{list_all};
 ghost use Rattle.std.specs.Option.{option_to_list};
 ghost use Rattle.std.specs.Prelude.{◌≡◌, ◌++◌, [], Some, IfOk, map, option_map};
+ghost use Rattle.std.specs.Rc.{rc_str_bytes};
 ghost use Rattle.rdx_term.specs.Spelling.{is_name};
-ghost use Rattle.rdx_patterns.specs.Parts.{parts, text_of};
+ghost use Rattle.rdx_patterns.specs.Parts.{text_of};
 ghost use Rattle.rdx_patterns.specs.Reading.{name_in};
 ghost use Rattle.rdx_parts.specs.ExtraForms as all;
 ghost use Rattle.rdx_defs.specs.Inside.FormViews.{judgement_form_of, paired};
 ghost use Rattle.rdx_parts.specs.PartViews.{extra_form_of, place_of};
-ghost use Rattle.rdx_defs.specs.Inside.ScopeParts.{defining_form};
 ghost use Rattle.rdx_defs.specs.JudgementForms as rules;
 ghost use Rattle.rdx_defs.specs.MetafunctionForms as forms;
 ghost use Rattle.rdx_templates.specs.Scope as scope;
@@ -21,11 +21,12 @@ use crate::judgements::forms::{
 use crate::metafunctions::forms::{clause_form, function_in, metafunction_form};
 use rdx_parts::arguments::headed_list;
 use rdx_parts::extras::{ExtraForm, ExtraPlace, form_at};
-use rdx_patterns::shape::{is_word, items, symbol, text};
+use rdx_patterns::shape::{symbol, text};
 use rdx_sexp::Datum;
 use rdx_templates::Scope;
 use rdx_term::{Name, NoMemory};
 use std::alloc::Global;
+use std::rc::RcStr;
 
 // Whether it has its shape, and is no name.
 fn is_condition(extra: ExtraForm<'_>) -> bool
@@ -118,24 +119,11 @@ fn add_function(
     }
 }
 
-// Whether the datum is a list headed by this word.
-fn begins_with(word: &str, d: &Datum) -> bool
-    ensures { result ≡ model.begins_with word.now (parts d.now) }
-{
-    match items(d) {
-        Some([head, ..]) => is_word(head, word),
-        _ => false,
-    }
-}
-
 // Adds the metafunctions that a form defines.
 fn add_functions(d: &Datum, out: &mut Vec<Name>) -> Result<(), NoMemory>
     ensures { IfOk result (λ _.
         out.new.items ≡ out.old.items ++ model.defined_functions d.now) }
 {
-    if !begins_with("define-metafunction", d) {
-        return Ok(());
-    }
     match metafunction_form(d) {
         Some(form) => add_function(function_in(form), form.clauses, out),
         None => Ok(()),
@@ -223,17 +211,6 @@ fn moded_judgement(
     }
 }
 
-// The parts of a form that begins like that of a judgement.
-fn defining_form(d: &Datum) -> Option<JudgementForm<'_>>
-    ensures { option_map judgement_form_of result ≡ defining_form d.now }
-{
-    if begins_with("define-judgment-form", d) {
-        judgement_form(d)
-    } else {
-        None
-    }
-}
-
 // Adds the judgements that a form defines, with their modes.
 fn add_judgements(
     alloc: Global,
@@ -244,7 +221,7 @@ fn add_judgements(
         map (λ j. (j.0, j.1.items)) out.new.items
         ≡ map (λ j. (j.0, j.1.items)) out.old.items ++ model.defined_judgements d.now) }
 {
-    let Some(form) = defining_form(d) else {
+    let Some(form) = judgement_form(d) else {
         return Ok(());
     };
     if let Some(judgement) = moded_judgement(alloc, form)? {
@@ -254,26 +231,26 @@ fn add_judgements(
 }
 
 // Adds the judgements that a form defines, each with the name of its language.
-fn add_languages(alloc: Global, d: &Datum, out: &mut Vec<(Name, Name)>) -> Result<(), NoMemory>
+fn add_languages(alloc: Global, d: &Datum, out: &mut Vec<(Name, RcStr)>) -> Result<(), NoMemory>
     ensures { IfOk result (λ _.
-        out.new.items ≡ out.old.items ++ model.defined_languages d.now) }
+        map (λ l. (l.0, rc_str_bytes l.1)) out.new.items
+        ≡ map (λ l. (l.0, rc_str_bytes l.1)) out.old.items ++ model.defined_languages d.now) }
 {
-    let Some(form) = defining_form(d) else {
+    let Some(form) = judgement_form(d) else {
         return Ok(());
     };
     let Some((judgement, _)) = moded_judgement(alloc, form)? else {
         return Ok(());
     };
-    match name_of(form.language)? {
-        Some(language) => Ok(out.push((judgement, language))?),
-        None => Err(NoMemory),
-    }
+    let language = RcStr::from_str(alloc, text(form.language))?;
+    Ok(out.push((judgement, language))?)
 }
 
 /// For each judgement that these forms define, in their order, its name with the name of its
 /// language.
-pub fn judgement_languages(alloc: Global, forms: &[Datum]) -> Result<Vec<(Name, Name)>, NoMemory>
-    ensures { IfOk result (λ ls. ls.items ≡ model.languages_in forms.now) }
+pub fn judgement_languages(alloc: Global, forms: &[Datum]) -> Result<Vec<(Name, RcStr)>, NoMemory>
+    ensures { IfOk result (λ ls.
+        map (λ l. (l.0, rc_str_bytes l.1)) ls.items ≡ model.languages_in forms.now) }
 {
     let mut languages = Vec::new(alloc);
     for d in forms {

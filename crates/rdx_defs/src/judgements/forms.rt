@@ -10,7 +10,7 @@ ghost use Rattle.rdx_defs.specs.JudgementForms as model;
 use rdx_parts::arguments::{Headed, headed_list, in_conclusion};
 use rdx_parts::branches::RuleBranch;
 use rdx_patterns::shape::{is_symbol, is_word, items, text};
-use rdx_relations::{is_keyword, may_name};
+use rdx_relations::is_keyword;
 use rdx_sexp::{Datum, Form};
 use rdx_term::NoMemory;
 use std::alloc::Global;
@@ -189,10 +189,10 @@ fn judgement_over<'a>(language: &'a Datum, parts: &'a [Datum]) -> JudgementForm<
 pub(crate) fn judgement_form(d: &Datum) -> Option<JudgementForm<'_>>
     ensures { option_map judgement_form_of result ≡ model.judgement_form d.now }
 {
-    let [_, language, parts @ ..] = items(d)? else {
+    let [head, language, parts @ ..] = items(d)? else {
         return None;
     };
-    if may_name(language) {
+    if is_word(head, "define-judgment-form") && is_symbol(language) {
         Some(judgement_over(language, parts))
     } else {
         None

@@ -6,8 +6,8 @@ ghost use Rattle.rdx_lang.specs.TemplateView.{template_of};
 ghost use Rattle.rdx_patterns.specs.Ends.{Gained, ends_in};
 ghost use Rattle.rdx_patterns.specs.Nonterminals.{names_of};
 ghost use Rattle.rdx_patterns.specs.Readable.{IsReadable};
-ghost use Rattle.rdx_defs.specs.Answers.{ReadsPremise};
-ghost use Rattle.rdx_templates.specs.Scope.{scope_of};
+ghost use Rattle.rdx_defs.specs.Answers.{FitsBehind, IsValidPremise, ReadsPremise};
+ghost use Rattle.rdx_templates.specs.Scope.{callable, scope_of};
 ghost use Rattle.rdx_templates.specs.TemplateReading.{template_reading};
 ghost use Rattle.rdx_parts.specs.ExtraReading.{premise_reading};
 ghost use Rattle.rdx_parts.specs.Headed as headed;
@@ -130,6 +130,9 @@ pub fn read_premise_over(
         premise.now (option_map (λ d. d.now) behind.entry) result }
     ensures gains { Gained (language_in language.old) (ends_in premise.now) result
         (language_in language.new) }
+    ensures valid { IfOk result (λ read.
+        IsValidPremise (callable (scope_of scope.now)) (language_in language.new) read) }
+    ensures fits { IfOk result (λ read. FitsBehind (callable (scope_of scope.now)) read) }
 {
     if let Some(refusal) = refuse_question(alloc, scope, names, premise, behind)? {
         return Err(DefFault::Refused(refusal));
@@ -154,6 +157,9 @@ pub fn read_premise(
         premise.now (option_map (λ d. d.now) behind.entry) result }
     ensures gains { Gained (language_in language.old) (ends_in premise.now) result
         (language_in language.new) }
+    ensures valid { IfOk result (λ read.
+        IsValidPremise (callable (scope_of scope.now)) (language_in language.new) read) }
+    ensures fits { IfOk result (λ read. FitsBehind (callable (scope_of scope.now)) read) }
 {
     let names = Names::of_language(alloc, language)?;
     read_premise_over(alloc, scope, language, &names, premise, behind)

@@ -15,6 +15,7 @@ use crate::judgements::stands::{
 };
 use rdx_parts::stands::refusals::refuse_parts;
 use rdx_patterns::{DefRefusal, Names};
+use rdx_relations::refuse_over;
 use rdx_sexp::Datum;
 use rdx_templates::Scope;
 use rdx_term::NoMemory;
@@ -38,7 +39,8 @@ pub(crate) fn refuse_judgement(
 {
     let outline = judgement_outline(alloc, form, mode)?;
     let found = judgement_stands(alloc, scope, d, form, mode)?;
-    refuse_parts(alloc, scope, names, &found, &outline)
+    let refusal = refuse_parts(alloc, scope, names, &found, &outline)?;
+    refuse_over(alloc, form.language, refusal)
 }
 
 /// The refusal of a premise by itself, or of the template behind it, where there is one.

@@ -9,7 +9,6 @@ ghost use Rattle.rdx_defs.specs.MetafunctionReading.{text_in};
 use rdx_parts::branches::{Branch, Takes};
 use rdx_parts::extras::ExtraPlace;
 use rdx_patterns::shape::{is_symbol, is_word, items, text};
-use rdx_relations::may_name;
 use rdx_sexp::Datum;
 
 /// A clause: `((f p ...) t extra ...)`, with any symbol for f.
@@ -141,10 +140,10 @@ fn metafunction_over<'a>(language: &'a Datum, parts: &'a [Datum]) -> Option<Meta
 pub(crate) fn metafunction_form(d: &Datum) -> Option<MetafunctionForm<'_>>
     ensures { option_map metafunction_form_of result ≡ model.metafunction_form d.now }
 {
-    let [_, language, parts @ ..] = items(d)? else {
+    let [head, language, parts @ ..] = items(d)? else {
         return None;
     };
-    if may_name(language) {
+    if is_word(head, "define-metafunction") && is_symbol(language) {
         metafunction_over(language, parts)
     } else {
         None

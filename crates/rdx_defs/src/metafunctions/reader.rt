@@ -18,6 +18,7 @@ use rdx_parts::stands::refusals::refuse_parts;
 use rdx_patterns::refusal::unnamed;
 use rdx_patterns::unbuilt::has_word_to_come;
 use rdx_patterns::{DefFault, DefKind, Names};
+use rdx_relations::refuse_over;
 use rdx_sexp::Datum;
 use rdx_templates::Scope;
 use std::alloc::Global;
@@ -49,7 +50,8 @@ pub fn read_metafunction_over(
     let function = function_in(parts);
     let outline = metafunction_outline(alloc, parts, function)?;
     let found = function_stands(alloc, scope, parts, function, &outline)?;
-    if let Some(refusal) = refuse_parts(alloc, scope, names, &found, &outline)? {
+    let refusal = refuse_parts(alloc, scope, names, &found, &outline)?;
+    if let Some(refusal) = refuse_over(alloc, parts.language, refusal)? {
         return Err(DefFault::Refused(refusal));
     }
     let Some(name) = function else { unreachable!() };

@@ -1,4 +1,4 @@
-use Rattle.rdx_defs.proofs.FormExamples.{ahead_means, behind_means, sees_no_output, confirms_term, conclusion_refused, no_mode_refused, unknown_refused}
+use Rattle.rdx_defs.proofs.FormExamples.{ahead_means, behind_means, sees_no_output, confirms_term, conclusion_refused, no_mode_refused, unknown_refused, judgement_head, judgement_language, judgement_shape}
 use Rattle.rdx_defs.proofs.laws.worked_judgements.Goals as goal
 
 pub returns-clause-ahead : goal.returns-clause-ahead
@@ -21,3 +21,12 @@ returns-clause-no_mode c = no_mode_refused
 
 pub returns-clause-unknown_first : goal.returns-clause-unknown_first
 returns-clause-unknown_first c = unknown_refused
+
+pub returns-clause-head : goal.returns-clause-head
+returns-clause-head c = judgement_head
+
+pub returns-clause-language : goal.returns-clause-language
+returns-clause-language c = judgement_language
+
+pub returns-clause-shape : goal.returns-clause-shape
+returns-clause-shape c = judgement_shape

@@ -19,6 +19,7 @@ use Rattle.rdx_defs.specs.JudgementReading.{judgement_reading}
 use Rattle.rdx_defs.specs.JudgementRefusal.{judgement_refusal}
 use Rattle.rdx_defs.specs.MetafunctionReading.{text_in}
 use Rattle.rdx_templates.specs.Scope.{scope_of, callable}
+use Rattle.rdx_defs.proofs.FormRefusals.{judgement-none, judgement-nameable}
 use Rattle.rdx_defs.proofs.PassedForms.{gained, judgement-valid}
 use Rattle.rdx_defs.proofs.ReadJudgements.{no-name, no-mode}
 use Rattle.rdx_defs.proofs.InheritedParts.{judgement-has}
@@ -43,7 +44,7 @@ unreachable-requires c =
     let n : c.args.names.now ≡ names_of L = c.requires.names in
     let e : judgement_refusal S (names_of L) d ≡ None =
     (λ i. judgement_refusal S (sym n i) d) ∙ sym c.in_ok-refusal.ensures ∙ ap (option_map refusal_of) c.in_default-2.is in
-    let v = judgement-valid S L d f c.requires.readable g e in
+    let v = judgement-valid S L d f c.requires.readable g (judgement-none S (names_of L) d f g e).1 in
     no-name f v.moded (sym c.judgement_in.ensures ∙ ap (option_map (λ x. x.now)) c.in_default-judgement_in.is)
 
 pub unreachable-requires-in_default-mode : goal.unreachable-requires-in_default-mode
@@ -56,7 +57,7 @@ unreachable-requires-in_default-mode c =
     let n : c.args.names.now ≡ names_of L = c.requires.names in
     let e : judgement_refusal S (names_of L) d ≡ None =
     (λ i. judgement_refusal S (sym n i) d) ∙ sym c.in_ok-refusal.ensures ∙ ap (option_map refusal_of) c.in_default-2.is in
-    let v = judgement-valid S L d f c.requires.readable g e in
+    let v = judgement-valid S L d f c.requires.readable g (judgement-none S (names_of L) d f g e).1 in
     no-mode (own_mode f) v.moded (sym c.in_ok-mode.ensures ∙ ap (option_map (λ x. x.items)) c.in_default-mode.is)
 
 pub read_parts-requires-clause-rules : goal.read_parts-requires-clause-rules
@@ -69,7 +70,7 @@ read_parts-requires-clause-rules c =
     let n : c.args.names.now ≡ names_of L = c.requires.names in
     let e : judgement_refusal S (names_of L) d ≡ None =
     (λ i. judgement_refusal S (sym n i) d) ∙ sym c.in_ok-refusal.ensures ∙ ap (option_map refusal_of) c.in_default-2.is in
-    let v = judgement-valid S L d f c.requires.readable g e in
+    let v = judgement-valid S L d f c.requires.readable g (judgement-none S (names_of L) d f g e).1 in
     let w : language_in c.add_asked.new.language ≡ gained L d = c.in_ok-add_asked.ensures.added in
     subst (λ (xs : List (List ℕ)). RulesHave S (can_read S (language_in c.add_asked.new.language) xs) (judgement_outline f).rules) (sym n)
     (subst (λ (M : Language). RulesHave S (can_read S M (names_of L)) (judgement_outline f).rules) (sym w) v.parts.rules)
@@ -84,17 +85,22 @@ read_parts-requires-clause-contract c =
     let n : c.args.names.now ≡ names_of L = c.requires.names in
     let e : judgement_refusal S (names_of L) d ≡ None =
     (λ i. judgement_refusal S (sym n i) d) ∙ sym c.in_ok-refusal.ensures ∙ ap (option_map refusal_of) c.in_default-2.is in
-    let v = judgement-valid S L d f c.requires.readable g e in
+    let v = judgement-valid S L d f c.requires.readable g (judgement-none S (names_of L) d f g e).1 in
     let w : language_in c.add_asked.new.language ≡ gained L d = c.in_ok-add_asked.ensures.added in
     subst (λ (xs : List (List ℕ)). IsJudgementContract (language_in c.add_asked.new.language) xs (contract_form f)) (sym n)
     (subst (λ (M : Language). IsJudgementContract M (names_of L) (contract_form f)) (sym w) v.contract)
 
 pub read_parts-requires-clause-language : goal.read_parts-requires-clause-language
 read_parts-requires-clause-language c =
+    let S = scope_of c.args.scope.now in
+    let L = language_in c.args.language.now in
     let d = c.args.form.now in
     let f = judgement_form_of c.in-Some.parts in
     let g : judgement_form d ≡ Some f = sym c.judgement_form.ensures ∙ ap (option_map judgement_form_of) c.in-Some.is in
-    (judgement-has IsReadable IsReadableTaken readable-inherited d f c.requires.readable g).language
+    let n : c.args.names.now ≡ names_of L = c.requires.names in
+    let e : judgement_refusal S (names_of L) d ≡ None =
+    (λ i. judgement_refusal S (sym n i) d) ∙ sym c.in_ok-refusal.ensures ∙ ap (option_map refusal_of) c.in_default-2.is in
+    (judgement-has IsReadable IsReadableTaken readable-inherited d f c.requires.readable g).language (judgement-nameable S (names_of L) d f g e)
 
 pub read_parts-requires-clause-name : goal.read_parts-requires-clause-name
 read_parts-requires-clause-name c =
@@ -106,7 +112,7 @@ read_parts-requires-clause-name c =
     let n : c.args.names.now ≡ names_of L = c.requires.names in
     let e : judgement_refusal S (names_of L) d ≡ None =
     (λ i. judgement_refusal S (sym n i) d) ∙ sym c.in_ok-refusal.ensures ∙ ap (option_map refusal_of) c.in_default-2.is in
-    let v = judgement-valid S L d f c.requires.readable g e in
+    let v = judgement-valid S L d f c.requires.readable g (judgement-none S (names_of L) d f g e).1 in
     let x = c.in-Some-judgement_in.name.now in
     let j : judgement_in f ≡ Some x = sym c.judgement_in.ensures ∙ ap (option_map (λ y. y.now)) c.in-Some-judgement_in.is in
     subst (λ (o : Option Sexp). IsTrue (is_name (text_in o))) j v.named
@@ -121,7 +127,7 @@ returns-clause-reads c =
     let n : c.args.names.now ≡ names_of L = c.requires.names in
     let e : judgement_refusal S (names_of L) d ≡ None =
     (λ i. judgement_refusal S (sym n i) d) ∙ sym c.in_ok-refusal.ensures ∙ ap (option_map refusal_of) c.in_default-2.is in
-    let v = judgement-valid S L d f c.requires.readable g e in
+    let v = judgement-valid S L d f c.requires.readable g (judgement-none S (names_of L) d f g e).1 in
     let r : judgement_of c.in_ok-read_parts.field-0 ≡ judgement_reading S (names_of L) f =
     c.in_ok-read_parts.ensures ∙ (λ i. judgement_reading S (n i) f) in
     record { passes = e; parts = f; is_form = g; is_read = r }
@@ -136,7 +142,7 @@ returns-clause-valid c =
     let n : c.args.names.now ≡ names_of L = c.requires.names in
     let e : judgement_refusal S (names_of L) d ≡ None =
     (λ i. judgement_refusal S (sym n i) d) ∙ sym c.in_ok-refusal.ensures ∙ ap (option_map refusal_of) c.in_default-2.is in
-    let v = judgement-valid S L d f c.requires.readable g e in
+    let v = judgement-valid S L d f c.requires.readable g (judgement-none S (names_of L) d f g e).1 in
     let r : judgement_of c.in_ok-read_parts.field-0 ≡ judgement_reading S (names_of L) f =
     c.in_ok-read_parts.ensures ∙ (λ i. judgement_reading S (n i) f) in
     let w : language_in c.add_asked.new.language ≡ gained L d = c.in_ok-add_asked.ensures.added in

@@ -1,6 +1,7 @@
-use Rattle.std.proofs.Common.{◌≡◌, ◌∙◌, ap, sym, subst}
-use Rattle.std.specs.Prelude.{IfOk, Option, option_map}
-use Rattle.rdx_patterns.specs.Refusal.{Refusal, refusal_of}
+use Rattle.std.proofs.Common.{◌≡◌, ◌∙◌, Some, ap, sym, subst}
+use Rattle.std.proofs.lemmas.Result.{IfOk-weaker}
+use Rattle.std.specs.Prelude.{option_map}
+use Rattle.rdx_patterns.specs.Refusal.{refusal_of}
 use Rattle.rdx_patterns.specs.Readable.{IsReadable}
 use Rattle.rdx_defs.specs.Inside.BareForms as bare_stands
 use Rattle.rdx_defs.specs.Inside.FormOutlines.{judgement_outline}
@@ -10,7 +11,9 @@ use Rattle.rdx_defs.specs.Inside.FormViews.{judgement_form_of}
 use Rattle.rdx_templates.specs.Scope.{scope_of}
 use Rattle.rdx_parts.specs.PartViews.{outline_of, stands_of}
 use Rattle.rdx_parts.specs.PartsHave.{OutlineHas, can_bind, IsReadableTaken}
-use Rattle.rdx_defs.proofs.FormRefusals.{judgement-refused}
+use Rattle.rdx_defs.specs.JudgementStands.{judgement_stands}
+use Rattle.rdx_parts.specs.StandRefusal.{stands_refusal}
+use Rattle.rdx_defs.proofs.FormRefusals.{judgement-refused, rules-refused}
 use Rattle.rdx_defs.proofs.PassedForms.{judgement-early}
 use Rattle.rdx_defs.proofs.InheritedParts.{judgement-has, judgement_outline-has}
 use Rattle.rdx_relations.proofs.ReadableParts.{readable-inherited}
@@ -42,4 +45,7 @@ returns c =
     let f = judgement_form_of c.args.form in
     let q : stands_of c.deref.result.now ≡ bare_stands.judgement_stands S c.args.d.now f = ap stands_of c.deref.ensures.value ∙ c.in_ok-found.ensures in
     let o : outline_of c.in_ok-outline.outline ≡ judgement_outline f = c.in_ok-outline.ensures in
-    subst (λ (r : Option Refusal). IfOk c.refuse_parts.result (λ x. option_map refusal_of x ≡ r)) ((λ i. form_refusal S ns (q i) (o i)) ∙ sym (judgement-refused S ns c.args.d.now f c.requires.built c.requires.form)) c.refuse_parts.ensures
+    let ss = judgement_stands S ns c.args.d.now (Some f) in
+    let e : option_map refusal_of c.in_ok-refusal.refusal ≡ stands_refusal S ns ss =
+    c.in_ok-refusal.ensures ∙ (λ i. form_refusal S ns (q i) (o i)) ∙ sym (rules-refused S ns c.args.d.now f) in
+    IfOk-weaker c.refuse_over.result _ _ (λ x h. h S ns ss e ∙ sym (judgement-refused S ns c.args.d.now f c.requires.built c.requires.form)) c.refuse_over.ensures

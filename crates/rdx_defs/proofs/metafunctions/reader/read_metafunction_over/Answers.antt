@@ -24,7 +24,8 @@ use Rattle.rdx_defs.specs.MetafunctionForms.{metafunction_form, function_in}
 use Rattle.rdx_defs.specs.MetafunctionReading.{metafunction_reading}
 use Rattle.rdx_defs.specs.MetafunctionRefusal.{metafunction_refusal}
 use Rattle.rdx_templates.specs.Scope.{scope_of, callable}
-use Rattle.rdx_defs.proofs.FormRefusals.{metafunction-refused}
+use Rattle.rdx_defs.specs.MetafunctionStands as all_stands
+use Rattle.rdx_defs.proofs.FormRefusals.{metafunction-refused, function-refused, metafunction-none, metafunction-nameable}
 use Rattle.rdx_defs.proofs.PassedForms.{gained, metafunction-early, has-function, metafunction-valid}
 use Rattle.rdx_defs.proofs.InheritedParts.{metafunction-has, contract-has}
 use Rattle.rdx_relations.proofs.ReadableParts.{readable-inherited, are-readable}
@@ -71,7 +72,9 @@ returns-in-Some-2-clause-reads c =
     ap stands_of c.deref.ensures.value ∙ c.in_ok-found.ensures ∙ ap (function_stands S m) k in
     let u : unbuilt_at d ≡ None = ap (λ b. if b then Some (unnamed Unbuilt d) else None) (sym c.has_word_to_come.ensures ∙ c.if-has_word_to_come.false) in
     let n : c.args.names.now ≡ names_of L = c.requires.names in
-    metafunction-refused S (names_of L) d m u f ∙ (λ i. form_refusal S (sym n i) (sym q i) (sym o i)) ∙ sym c.in_ok-refusal.ensures ∙ ap (option_map refusal_of) c.in-Some-2.is
+    metafunction-refused S (names_of L) d m u f
+    ∙ sym (c.in_ok-refusal-2.ensures S (names_of L) (all_stands.function_stands S (names_of L) m (function_in m))
+    (c.in_ok-refusal.ensures ∙ (λ i. form_refusal S (n i) (q i) (o i)) ∙ sym (function-refused S (names_of L) m))) ∙ ap (option_map refusal_of) c.in-Some-2.is
 
 pub read_parts-requires-clause-branches : goal.read_parts-requires-clause-branches
 read_parts-requires-clause-branches c =
@@ -87,10 +90,12 @@ read_parts-requires-clause-branches c =
     let u : unbuilt_at d ≡ None = ap (λ b. if b then Some (unnamed Unbuilt d) else None) (sym c.has_word_to_come.ensures ∙ c.if-has_word_to_come.false) in
     let n : c.args.names.now ≡ names_of L = c.requires.names in
     let e : metafunction_refusal S (names_of L) d ≡ None =
-    metafunction-refused S (names_of L) d m u f ∙ (λ i. form_refusal S (sym n i) (sym q i) (sym o i)) ∙ sym c.in_ok-refusal.ensures ∙ ap (option_map refusal_of) c.in_default-2.is in
+    metafunction-refused S (names_of L) d m u f
+    ∙ sym (c.in_ok-refusal-2.ensures S (names_of L) (all_stands.function_stands S (names_of L) m (function_in m))
+    (c.in_ok-refusal.ensures ∙ (λ i. form_refusal S (n i) (q i) (o i)) ∙ sym (function-refused S (names_of L) m))) ∙ ap (option_map refusal_of) c.in_default-2.is in
     let x = c.in-Some-function.name.now in
     let p : function_in m ≡ Some x = sym k ∙ ap (option_map (λ y. y.now)) c.in-Some-function.is in
-    let v = metafunction-valid S L d m x c.requires.readable f p e in
+    let v = metafunction-valid S L d m x c.requires.readable f p (metafunction-none S (names_of L) d m f e).1 in
     let b : (outline_of c.in_ok-outline.outline).branches ≡ clause_branches (text_of x) m.clauses = ap (λ (z : Outline). z.branches) (o ∙ ap (metafunction_outline m) p) in
     let w : language_in c.add_asked.new.language ≡ gained L d = c.in_ok-add_asked.ensures.added in
     subst (λ (xs : List (List ℕ)). BranchesHave S (can_read S (language_in c.add_asked.new.language) xs) (outline_of c.in_ok-outline.outline).branches) (sym n)
@@ -111,20 +116,34 @@ read_parts-requires-clause-contract c =
     let u : unbuilt_at d ≡ None = ap (λ b. if b then Some (unnamed Unbuilt d) else None) (sym c.has_word_to_come.ensures ∙ c.if-has_word_to_come.false) in
     let n : c.args.names.now ≡ names_of L = c.requires.names in
     let e : metafunction_refusal S (names_of L) d ≡ None =
-    metafunction-refused S (names_of L) d m u f ∙ (λ i. form_refusal S (sym n i) (sym q i) (sym o i)) ∙ sym c.in_ok-refusal.ensures ∙ ap (option_map refusal_of) c.in_default-2.is in
+    metafunction-refused S (names_of L) d m u f
+    ∙ sym (c.in_ok-refusal-2.ensures S (names_of L) (all_stands.function_stands S (names_of L) m (function_in m))
+    (c.in_ok-refusal.ensures ∙ (λ i. form_refusal S (n i) (q i) (o i)) ∙ sym (function-refused S (names_of L) m))) ∙ ap (option_map refusal_of) c.in_default-2.is in
     let x = c.in-Some-function.name.now in
     let p : function_in m ≡ Some x = sym k ∙ ap (option_map (λ y. y.now)) c.in-Some-function.is in
-    let v = metafunction-valid S L d m x c.requires.readable f p e in
+    let v = metafunction-valid S L d m x c.requires.readable f p (metafunction-none S (names_of L) d m f e).1 in
     let w : language_in c.add_asked.new.language ≡ gained L d = c.in_ok-add_asked.ensures.added in
     subst (λ (xs : List (List ℕ)). IsContractIn (language_in c.add_asked.new.language) xs m.contract) (sym n)
     (subst (λ (M : Language). IsContractIn M (names_of L) m.contract) (sym w) v.good.contract)
 
 pub read_parts-requires-clause-language : goal.read_parts-requires-clause-language
 read_parts-requires-clause-language c =
+    let S = scope_of c.args.scope.now in
+    let L = language_in c.args.language.now in
     let d = c.args.form.now in
     let m = metafunction_form_of c.in-Some.parts in
     let f : metafunction_form d ≡ Some m = sym c.metafunction_form.ensures ∙ ap (option_map metafunction_form_of) c.in-Some.is in
-    (metafunction-has IsReadable IsReadableTaken readable-inherited d m c.requires.readable f).language
+    let k : option_map (λ x. x.now) c.function_in-function.result ≡ function_in m = c.function_in-function.ensures in
+    let o : outline_of c.in_ok-outline.outline ≡ metafunction_outline m (function_in m) = c.in_ok-outline.ensures ∙ ap (metafunction_outline m) k in
+    let q : stands_of c.deref.result.now ≡ function_stands S m (function_in m) =
+    ap stands_of c.deref.ensures.value ∙ c.in_ok-found.ensures ∙ ap (function_stands S m) k in
+    let u : unbuilt_at d ≡ None = ap (λ b. if b then Some (unnamed Unbuilt d) else None) (sym c.has_word_to_come.ensures ∙ c.if-has_word_to_come.false) in
+    let n : c.args.names.now ≡ names_of L = c.requires.names in
+    let e : metafunction_refusal S (names_of L) d ≡ None =
+    metafunction-refused S (names_of L) d m u f
+    ∙ sym (c.in_ok-refusal-2.ensures S (names_of L) (all_stands.function_stands S (names_of L) m (function_in m))
+    (c.in_ok-refusal.ensures ∙ (λ i. form_refusal S (n i) (q i) (o i)) ∙ sym (function-refused S (names_of L) m))) ∙ ap (option_map refusal_of) c.in_default-2.is in
+    (metafunction-has IsReadable IsReadableTaken readable-inherited d m c.requires.readable f).language (metafunction-nameable S (names_of L) d m f e)
 
 pub read_parts-requires-clause-name : goal.read_parts-requires-clause-name
 read_parts-requires-clause-name c =
@@ -140,10 +159,12 @@ read_parts-requires-clause-name c =
     let u : unbuilt_at d ≡ None = ap (λ b. if b then Some (unnamed Unbuilt d) else None) (sym c.has_word_to_come.ensures ∙ c.if-has_word_to_come.false) in
     let n : c.args.names.now ≡ names_of L = c.requires.names in
     let e : metafunction_refusal S (names_of L) d ≡ None =
-    metafunction-refused S (names_of L) d m u f ∙ (λ i. form_refusal S (sym n i) (sym q i) (sym o i)) ∙ sym c.in_ok-refusal.ensures ∙ ap (option_map refusal_of) c.in_default-2.is in
+    metafunction-refused S (names_of L) d m u f
+    ∙ sym (c.in_ok-refusal-2.ensures S (names_of L) (all_stands.function_stands S (names_of L) m (function_in m))
+    (c.in_ok-refusal.ensures ∙ (λ i. form_refusal S (n i) (q i) (o i)) ∙ sym (function-refused S (names_of L) m))) ∙ ap (option_map refusal_of) c.in_default-2.is in
     let x = c.in-Some-function.name.now in
     let p : function_in m ≡ Some x = sym k ∙ ap (option_map (λ y. y.now)) c.in-Some-function.is in
-    let v = metafunction-valid S L d m x c.requires.readable f p e in
+    let v = metafunction-valid S L d m x c.requires.readable f p (metafunction-none S (names_of L) d m f e).1 in
     v.named
 
 pub unreachable-requires : goal.unreachable-requires
@@ -160,8 +181,10 @@ unreachable-requires c =
     let u : unbuilt_at d ≡ None = ap (λ b. if b then Some (unnamed Unbuilt d) else None) (sym c.has_word_to_come.ensures ∙ c.if-has_word_to_come.false) in
     let n : c.args.names.now ≡ names_of L = c.requires.names in
     let e : metafunction_refusal S (names_of L) d ≡ None =
-    metafunction-refused S (names_of L) d m u f ∙ (λ i. form_refusal S (sym n i) (sym q i) (sym o i)) ∙ sym c.in_ok-refusal.ensures ∙ ap (option_map refusal_of) c.in_default-2.is in
-    has-function S (names_of L) d m c.requires.readable f e (sym k ∙ ap (option_map (λ y. y.now)) c.in_default-function.is)
+    metafunction-refused S (names_of L) d m u f
+    ∙ sym (c.in_ok-refusal-2.ensures S (names_of L) (all_stands.function_stands S (names_of L) m (function_in m))
+    (c.in_ok-refusal.ensures ∙ (λ i. form_refusal S (n i) (q i) (o i)) ∙ sym (function-refused S (names_of L) m))) ∙ ap (option_map refusal_of) c.in_default-2.is in
+    has-function S (names_of L) d m c.requires.readable f (metafunction-none S (names_of L) d m f e).1 (sym k ∙ ap (option_map (λ y. y.now)) c.in_default-function.is)
 
 pub returns-clause-reads : goal.returns-clause-reads
 returns-clause-reads c =
@@ -177,10 +200,12 @@ returns-clause-reads c =
     let u : unbuilt_at d ≡ None = ap (λ b. if b then Some (unnamed Unbuilt d) else None) (sym c.has_word_to_come.ensures ∙ c.if-has_word_to_come.false) in
     let n : c.args.names.now ≡ names_of L = c.requires.names in
     let e : metafunction_refusal S (names_of L) d ≡ None =
-    metafunction-refused S (names_of L) d m u f ∙ (λ i. form_refusal S (sym n i) (sym q i) (sym o i)) ∙ sym c.in_ok-refusal.ensures ∙ ap (option_map refusal_of) c.in_default-2.is in
+    metafunction-refused S (names_of L) d m u f
+    ∙ sym (c.in_ok-refusal-2.ensures S (names_of L) (all_stands.function_stands S (names_of L) m (function_in m))
+    (c.in_ok-refusal.ensures ∙ (λ i. form_refusal S (n i) (q i) (o i)) ∙ sym (function-refused S (names_of L) m))) ∙ ap (option_map refusal_of) c.in_default-2.is in
     let x = c.in-Some-function.name.now in
     let p : function_in m ≡ Some x = sym k ∙ ap (option_map (λ y. y.now)) c.in-Some-function.is in
-    let v = metafunction-valid S L d m x c.requires.readable f p e in
+    let v = metafunction-valid S L d m x c.requires.readable f p (metafunction-none S (names_of L) d m f e).1 in
     let b : (outline_of c.in_ok-outline.outline).branches ≡ clause_branches (text_of x) m.clauses = ap (λ (z : Outline). z.branches) (o ∙ ap (metafunction_outline m) p) in
     let g : metafunction_of c.in_ok-read_parts.field-0 ≡ metafunction_reading S (names_of L) m =
     c.in_ok-read_parts.ensures ∙ (λ i. branch_metafunction S (n i) m x (b i)) ∙ v.reading in
@@ -200,10 +225,12 @@ returns-clause-valid c =
     let u : unbuilt_at d ≡ None = ap (λ b. if b then Some (unnamed Unbuilt d) else None) (sym c.has_word_to_come.ensures ∙ c.if-has_word_to_come.false) in
     let n : c.args.names.now ≡ names_of L = c.requires.names in
     let e : metafunction_refusal S (names_of L) d ≡ None =
-    metafunction-refused S (names_of L) d m u f ∙ (λ i. form_refusal S (sym n i) (sym q i) (sym o i)) ∙ sym c.in_ok-refusal.ensures ∙ ap (option_map refusal_of) c.in_default-2.is in
+    metafunction-refused S (names_of L) d m u f
+    ∙ sym (c.in_ok-refusal-2.ensures S (names_of L) (all_stands.function_stands S (names_of L) m (function_in m))
+    (c.in_ok-refusal.ensures ∙ (λ i. form_refusal S (n i) (q i) (o i)) ∙ sym (function-refused S (names_of L) m))) ∙ ap (option_map refusal_of) c.in_default-2.is in
     let x = c.in-Some-function.name.now in
     let p : function_in m ≡ Some x = sym k ∙ ap (option_map (λ y. y.now)) c.in-Some-function.is in
-    let v = metafunction-valid S L d m x c.requires.readable f p e in
+    let v = metafunction-valid S L d m x c.requires.readable f p (metafunction-none S (names_of L) d m f e).1 in
     let b : (outline_of c.in_ok-outline.outline).branches ≡ clause_branches (text_of x) m.clauses = ap (λ (z : Outline). z.branches) (o ∙ ap (metafunction_outline m) p) in
     let g : metafunction_of c.in_ok-read_parts.field-0 ≡ metafunction_reading S (names_of L) m =
     c.in_ok-read_parts.ensures ∙ (λ i. branch_metafunction S (n i) m x (b i)) ∙ v.reading in
