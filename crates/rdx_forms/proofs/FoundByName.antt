@@ -1,6 +1,8 @@
 -- What is found: what is found by its name is one of those among which it is found.
-use Rattle.std.proofs.Common.{◌≡◌, ◌++◌, ℕ, Bool, true, false, List, [], ◌∷◌, Option, Some, None, refl, sym, ap, if◌then◌else◌}
-use Rattle.std.specs.Prelude.{bytes_eq, option_map}
+use Rattle.std.proofs.Common.{◌≡◌, ◌++◌, ℕ, Bool, true, false, List, [], ◌∷◌, Option, Some, None, refl, sym, ap, IsTrue, not, if◌then◌else◌}
+use Rattle.std.specs.Prelude.{bytes_eq, codes, is_some, option_map}
+use Rattle.rdx_term.specs.Spelling.{is_symbol_spelling, is_name}
+use Rattle.rdx_patterns.proofs.Booleans.{and_true, not_true}
 use Rattle.rdx_sexp.specs.Sexp.{Sexp}
 use Rattle.rdx_lang.specs.Members.{In, here, there}
 use Rattle.rdx_lang.specs.Patterns.{Language}
@@ -36,6 +38,22 @@ found-by false x y xs o f e = there (f e)
 pub language-among : (Ls : List Language) (x : List ℕ) (M : Language) → language_among Ls x ≡ Some M → In M Ls
 language-among [] x M e = absurd cc
 language-among (L ∷ Ls) x M e = found-by (bytes_eq L.name x) L M Ls (language_among Ls x) (language-among Ls x M) e
+
+-- none is found with one more of another name behind them
+pub no_more : (Ls : List Language) (L : Language) (x : List ℕ) → is_some (language_among Ls x) ≡ false → bytes_eq L.name x ≡ false
+    → is_some (language_among (Ls ++ L ∷ []) x) ≡ false
+no_more [] L x h e = ap (λ (b : Bool). is_some (if b then Some L else None)) e
+no_more (M ∷ Ls) L x h e = by_test (bytes_eq M.name x) h (λ f. no_more Ls L x f e)
+  where
+    by_test : (b : Bool) → is_some (if b then Some M else language_among Ls x) ≡ false
+        → (is_some (language_among Ls x) ≡ false → is_some (language_among (Ls ++ L ∷ []) x) ≡ false)
+        → is_some (if b then Some M else language_among (Ls ++ L ∷ []) x) ≡ false
+    by_test true f g = absurd cc
+    by_test false f g = g f
+
+-- a language's name is another than `hole`
+pub no_hole : (L : Language) → IsTrue (is_name L.name) → bytes_eq L.name (codes "hole") ≡ false
+no_hole L h = not_true (bytes_eq L.name (codes "hole")) (and_true (is_symbol_spelling L.name) (not (bytes_eq L.name (codes "hole"))) h).1
 
 -- so is a relation
 pub relation-among : (Rs : List Relation) (x : List ℕ) (M : Relation) → relation_among Rs x ≡ Some M → In M Rs

@@ -1,11 +1,12 @@
 -- Which check refuses a form that defines a judgement.
 use Rattle.std.proofs.Common.{◌≡◌, ℕ, Bool, true, false, List, [], ◌∷◌, Option, Some, None, Result, Ok, Err, refl, sym, ◌∙◌, ap, subst, arith, if◌then◌else◌}
-use Rattle.std.specs.Prelude.{option_map}
+use Rattle.std.specs.Prelude.{◌&&◌, codes, option_map, is_some}
 use Rattle.rdx_sexp.specs.Sexp.{Sexp}
 use Rattle.rdx_lang.specs.ProgramView.{judgement_of}
+use Rattle.rdx_lang.specs.Programs.{language_named}
 use Rattle.rdx_lang.specs.declared.program.Judgement.{Judgement}
 use Rattle.rdx_patterns.specs.Nonterminals.{names_of}
-use Rattle.rdx_patterns.specs.Parts.{parts}
+use Rattle.rdx_patterns.specs.Parts.{parts, is_symbol, is_word}
 use Rattle.rdx_patterns.specs.Refusal.{Refusal, refusal_of, unnamed, or_else, first_refusal}
 use Rattle.rdx_patterns.specs.Unbuilt.{has_word_to_come, unbuilt_at}
 use Rattle.rdx_patterns.specs.declared.shape.fault.DefFault.{DefFault}
@@ -17,36 +18,36 @@ use Rattle.rdx_defs.specs.JudgementForms.{JudgementForm, cut_options, judgement_
 use Rattle.rdx_defs.specs.JudgementReading.{judgement_reading}
 use Rattle.rdx_defs.specs.JudgementRefusal.{judgement_refusal}
 use Rattle.rdx_defs.specs.JudgementStands.{judgement_stands}
-use Rattle.rdx_relations.specs.RelationForms.{may_name}
+use Rattle.rdx_relations.specs.LanguageRefusal.{unnamable_language_at, refusal_over}
 use Rattle.rdx_templates.specs.Scope.{Scope}
 use Rattle.rdx_parts.specs.StandChecks.{shape_at, repeated_name_at, bad_name_at, bad_place_at, depth_fault_at, unknown_name_at, undriven_at, escape_at, mode_fault_at}
-use Rattle.rdx_parts.specs.StandRefusal.{stands_refusal}
 use Rattle.rdx_parts.specs.Stands.{Stand}
 use Rattle.rdx_forms.specs.Definitions.{judgement}
 use Rattle.rdx_forms.specs.OneForm.{by_check}
 use Rattle.rdx_forms.specs.FormKinds as kind
 use Rattle.rdx_forms.specs.FormKinds.{defines, form_kind}
 use Rattle.rdx_forms.specs.Forms.{refusal_by_kind, late_refusal_by_kind, definition_by_kind}
-use Rattle.rdx_forms.specs.JudgementForms.{define_judgement_refusal, judgement_refusal_by, judgement_by}
+use Rattle.rdx_forms.specs.JudgementForms.{form_language, define_judgement_refusal, judgement_refusal_by, judgement_by}
 use Rattle.rdx_forms.specs.Known.{Known}
 use Rattle.rdx_forms.specs.LanguageForms.{named_base, unknown_at}
 use Rattle.rdx_forms.specs.Answers.{JudgementsBy}
 use Rattle.rdx_forms.specs.Inside.Defining.{taken_at_item}
 use Rattle.rdx_forms.specs.Inside.Earlier.{earlier, IsUnless}
 use Rattle.rdx_forms.specs.Faults.{IsRefusedBy}
-use Rattle.rdx_forms.specs.Inside.PartViews.{language_item, may_name_item, second_among}
+use Rattle.rdx_forms.specs.Inside.PartViews.{language_item, symbol_item, second_among}
+use Rattle.rdx_patterns.proofs.Booleans.{and_true}
 use Rattle.rdx_forms.proofs.CheckNumbers.{Checks, AreChecks, merged, or_none, unnamed-number}
 use Rattle.rdx_forms.proofs.LanguageChecks.{unbuilt-number, unknown-number, item-number, taken-same}
-use Rattle.rdx_forms.proofs.StandNumbers.{stand_checks, stand-checks}
+use Rattle.rdx_forms.proofs.StandNumbers.{over_checks, over-checks, over-refusal, unknown-unnamable, absorbed}
 
 -- ---- the checks
 
 -- those of the form by itself
-abbrev form_checks : Scope → List (List ℕ) → Sexp → List Stand → Checks
-form_checks S ns d ss = (0, unbuilt_at d) ∷ stand_checks S ns ss
+abbrev form_checks : Scope → List (List ℕ) → Option Sexp → Sexp → List Stand → Checks
+form_checks S ns l d ss = (0, unbuilt_at d) ∷ over_checks S ns l ss
 
-form-checks : (S : Scope) (ns : List (List ℕ)) (d : Sexp) (ss : List Stand) → AreChecks 0 (form_checks S ns d ss)
-form-checks S ns d ss = (omega arith, (unbuilt-number (has_word_to_come d) d, stand-checks S ns ss))
+form-checks : (S : Scope) (ns : List (List ℕ)) (l : Option Sexp) (d : Sexp) (ss : List Stand) → AreChecks 0 (form_checks S ns l d ss)
+form-checks S ns l d ss = (omega arith, (unbuilt-number (has_word_to_come d) d, over-checks S ns l ss))
 
 -- those of the names
 abbrev name_checks : Known → Option Sexp → Option Sexp → Checks
@@ -58,17 +59,18 @@ name-checks K l x = (omega arith, (unknown-number K l, (omega arith, (item-numbe
 -- ---- the language's name
 
 -- among items
-among-language : (o : Option (List Sexp)) (f : JudgementForm) → judgement_among o ≡ Some f → may_name_item (second_among o) ≡ Some f.language
+among-language : (o : Option (List Sexp)) (f : JudgementForm) → judgement_among o ≡ Some f → symbol_item (second_among o) ≡ Some f.language
 among-language None f e = absurd cc
 among-language (Some []) f e = absurd cc
 among-language (Some (h ∷ [])) f e = absurd cc
-among-language (Some (h ∷ l ∷ ds)) f e = by_test (may_name l) e
+among-language (Some (h ∷ l ∷ ds)) f e = by_test (is_word (codes "define-judgment-form") h && is_symbol l) refl e
   where
-    by_test : (b : Bool) → (if b then Some (record { language = l; options = (cut_options ds).0; rules = (cut_options ds).1 }) else None) ≡ Some f → (if b then Some l else None) ≡ Some f.language
-    by_test true g =
+    by_test : (b : Bool) → (is_word (codes "define-judgment-form") h && is_symbol l) ≡ b
+        → (if b then Some (record { language = l; options = (cut_options ds).0; rules = (cut_options ds).1 }) else None) ≡ Some f → (if is_symbol l then Some l else None) ≡ Some f.language
+    by_test true k g =
         let i : record { language = l; options = (cut_options ds).0; rules = (cut_options ds).1 } ≡ f = cc in
-        ap (λ (g : JudgementForm). Some g.language) i
-    by_test false g = absurd cc
+        ap (λ (b : Bool). if b then Some l else None) (and_true (is_word (codes "define-judgment-form") h) (is_symbol l) k).1 ∙ ap (λ (g : JudgementForm). Some g.language) i
+    by_test false k g = absurd cc
 
 -- of a form that has its parts
 language-item : (d : Sexp) (f : JudgementForm) → judgement_form d ≡ Some f → language_item d ≡ Some f.language
@@ -86,7 +88,7 @@ judgement-refused S ns d (Err NoMemory) a = tt
 abbrev pub IsNameOf : Sexp → Option Sexp → Type 0
 IsNameOf d x = (f : JudgementForm) → judgement_form d ≡ Some f → x ≡ judgement_in f
 
-module _ (K : Known) (d : Sexp) (x : Option Sexp) (n : IsNameOf d x) where
+module _ (K : Known) (h : is_some (language_named K.program (codes "hole")) ≡ false) (d : Sexp) (x : Option Sexp) (n : IsNameOf d x) where
   -- what is refused of the names l and y
   abbrev names_refusal : Option Sexp → Option Sexp → Option Refusal
   names_refusal l y = first_refusal (unknown_at K l ∷ taken_at_item K y ∷ [])
@@ -95,21 +97,24 @@ module _ (K : Known) (d : Sexp) (x : Option Sexp) (n : IsNameOf d x) where
   abbrev form_refusal : Option Sexp → Option JudgementForm → Option Refusal
   form_refusal l o =
       or_else (unbuilt_at d)
-      (or_else (stands_refusal K.scope (names_of (named_base K l)) (judgement_stands K.scope (names_of (named_base K l)) d o)) None)
+      (or_else (refusal_over K.scope (names_of (named_base K l)) (form_language o) (judgement_stands K.scope (names_of (named_base K l)) d o)) None)
 
   -- a form that has its parts
   known-parts : (f : JudgementForm) → judgement_refusal_by K d (Some f) ≡ earlier (names_refusal (Some f.language) (judgement_in f)) (form_refusal (Some f.language) (Some f))
   known-parts f =
       let ns = names_of (named_base K (Some f.language)) in
       let ss = judgement_stands K.scope ns d (Some f) in
+      let l = Some f.language in
       let last =
       first_refusal
       (repeated_name_at ss ∷ bad_name_at ss ∷ bad_place_at K.scope ns ss ∷ depth_fault_at K.scope ns ss ∷ unknown_name_at K.scope ss
       ∷ undriven_at K.scope ss ∷ escape_at K.scope ss ∷ mode_fault_at ss ∷ [])
       in
-      (λ i. or_else (unbuilt_at d) (or_else (shape_at ss) (or_else (unknown_at K (Some f.language)) (or_else (taken-same K (judgement_in f) i) last))))
-      ∙ merged 0 (name_checks K (Some f.language) (judgement_in f)) (form_checks K.scope ns d ss) (name-checks K (Some f.language) (judgement_in f)) (form-checks K.scope ns d ss)
-      ∙ ap (λ o. earlier (names_refusal (Some f.language) (judgement_in f)) (or_else (unbuilt_at d) o)) (sym (or_none (stands_refusal K.scope ns ss)))
+      (λ i. or_else (unbuilt_at d) (or_else (shape_at ss) (or_else (unknown_at K l) (or_else (taken-same K (judgement_in f) i) last))))
+      ∙ ap (λ (o : Option Refusal). or_else (unbuilt_at d) (or_else (shape_at ss) o))
+      (absorbed (unknown_at K l) (unnamable_language_at l) (or_else (taken_at_item K (judgement_in f)) last) (unknown-unnamable K h l))
+      ∙ merged 0 (name_checks K l (judgement_in f)) (form_checks K.scope ns l d ss) (name-checks K l (judgement_in f)) (form-checks K.scope ns l d ss)
+      ∙ ap (λ o. earlier (names_refusal l (judgement_in f)) (or_else (unbuilt_at d) o)) (sym (or_none (refusal_over K.scope ns l ss) ∙ over-refusal K.scope ns l ss))
 
   -- one that has them not
   no-parts : (l y : Option Sexp) → judgement_refusal_by K d None ≡ earlier (names_refusal l y) (form_refusal l None)

@@ -1,8 +1,9 @@
 -- Which check refuses a form that defines a metafunction.
 use Rattle.std.proofs.Common.{◌≡◌, ℕ, Bool, true, false, List, [], ◌∷◌, Option, Some, None, Result, Ok, Err, refl, sym, ◌∙◌, ap, subst, arith, if◌then◌else◌}
-use Rattle.std.specs.Prelude.{◌&&◌, codes, option_map}
+use Rattle.std.specs.Prelude.{◌&&◌, codes, option_map, is_some}
 use Rattle.rdx_sexp.specs.Sexp.{Sexp}
 use Rattle.rdx_lang.specs.ProgramView.{metafunction_of}
+use Rattle.rdx_lang.specs.Programs.{language_named}
 use Rattle.rdx_lang.specs.declared.program.Metafunction.{Metafunction}
 use Rattle.rdx_patterns.specs.Nonterminals.{names_of}
 use Rattle.rdx_patterns.specs.Parts.{parts, is_symbol, is_word}
@@ -17,10 +18,9 @@ use Rattle.rdx_defs.specs.MetafunctionForms.{ContractForm, MetafunctionForm, cut
 use Rattle.rdx_defs.specs.MetafunctionReading.{metafunction_reading}
 use Rattle.rdx_defs.specs.MetafunctionRefusal.{metafunction_refusal}
 use Rattle.rdx_defs.specs.MetafunctionStands.{metafunction_stands}
-use Rattle.rdx_relations.specs.RelationForms.{may_name}
+use Rattle.rdx_relations.specs.LanguageRefusal.{unnamable_language_at, refusal_over}
 use Rattle.rdx_templates.specs.Scope.{Scope}
 use Rattle.rdx_parts.specs.StandChecks.{shape_at, bad_name_at, bad_place_at, depth_fault_at, unknown_name_at, undriven_at, escape_at, mode_fault_at}
-use Rattle.rdx_parts.specs.StandRefusal.{stands_refusal}
 use Rattle.rdx_parts.specs.Stands.{Stand}
 use Rattle.rdx_forms.specs.Definitions.{metafunction}
 use Rattle.rdx_forms.specs.OneForm.{by_check}
@@ -29,25 +29,26 @@ use Rattle.rdx_forms.specs.FormKinds.{defines, form_kind}
 use Rattle.rdx_forms.specs.Forms.{refusal_by_kind, late_refusal_by_kind, definition_by_kind}
 use Rattle.rdx_forms.specs.Known.{Known}
 use Rattle.rdx_forms.specs.LanguageForms.{named_base, unknown_at}
-use Rattle.rdx_forms.specs.MetafunctionForms.{function_refusal, function_refusal_by, function_by}
+use Rattle.rdx_forms.specs.MetafunctionForms.{function_language, function_refusal, function_refusal_by, function_by}
 use Rattle.rdx_forms.specs.Answers.{FunctionsBy}
 use Rattle.rdx_forms.specs.Inside.Defining.{taken_at_item}
 use Rattle.rdx_forms.specs.Inside.Earlier.{earlier, IsUnless}
 use Rattle.rdx_forms.specs.Faults.{IsRefusedBy}
-use Rattle.rdx_forms.specs.Inside.PartViews.{language_item, may_name_item, second_among}
+use Rattle.rdx_forms.specs.Inside.PartViews.{language_item, symbol_item, second_among}
+use Rattle.rdx_patterns.proofs.Booleans.{and_true}
 use Rattle.rdx_forms.proofs.CheckNumbers.{Checks, AreChecks, refused, merged, or_none, unnamed-number}
 use Rattle.rdx_forms.proofs.ClauseStands.{AreNameless, of_function}
 use Rattle.rdx_forms.proofs.LanguageChecks.{unbuilt-number, unknown-number, item-number, taken-same}
-use Rattle.rdx_forms.proofs.StandNumbers.{nameless_checks, nameless-checks, nameless-refusal}
+use Rattle.rdx_forms.proofs.StandNumbers.{nameless_over_checks, nameless-over-checks, nameless-over, unknown-unnamable, absorbed}
 
 -- ---- the checks
 
 -- those of the form by itself
-abbrev form_checks : Scope → List (List ℕ) → Sexp → List Stand → Checks
-form_checks S ns d ss = (0, unbuilt_at d) ∷ nameless_checks S ns ss
+abbrev form_checks : Scope → List (List ℕ) → Option Sexp → Sexp → List Stand → Checks
+form_checks S ns l d ss = (0, unbuilt_at d) ∷ nameless_over_checks S ns l ss
 
-form-checks : (S : Scope) (ns : List (List ℕ)) (d : Sexp) (ss : List Stand) → AreChecks 0 (form_checks S ns d ss)
-form-checks S ns d ss = (omega arith, (unbuilt-number (has_word_to_come d) d, nameless-checks S ns ss))
+form-checks : (S : Scope) (ns : List (List ℕ)) (l : Option Sexp) (d : Sexp) (ss : List Stand) → AreChecks 0 (form_checks S ns l d ss)
+form-checks S ns l d ss = (omega arith, (unbuilt-number (has_word_to_come d) d, nameless-over-checks S ns l ss))
 
 -- those of the names
 abbrev name_checks : Known → Option Sexp → Option Sexp → Checks
@@ -57,8 +58,8 @@ name-checks : (K : Known) (l x : Option Sexp) → AreChecks 0 (name_checks K l x
 name-checks K l x = (omega arith, (unknown-number K l, (omega arith, (item-number K x, tt))))
 
 -- the form is refused by those, where it has its parts
-stands-refusal : (S : Scope) (ns : List (List ℕ)) (d : Sexp) (ss : List Stand) → AreNameless ss → or_else (unbuilt_at d) (or_else (stands_refusal S ns ss) None) ≡ refused (form_checks S ns d ss)
-stands-refusal S ns d ss a = ap (or_else (unbuilt_at d)) (or_none (stands_refusal S ns ss) ∙ nameless-refusal S ns ss a)
+stands-refusal : (S : Scope) (ns : List (List ℕ)) (l : Option Sexp) (d : Sexp) (ss : List Stand) → AreNameless ss → or_else (unbuilt_at d) (or_else (refusal_over S ns l ss) None) ≡ refused (form_checks S ns l d ss)
+stands-refusal S ns l d ss a = ap (or_else (unbuilt_at d)) (or_none (refusal_over S ns l ss) ∙ nameless-over S ns l ss a)
 
 -- ---- the language's name
 
@@ -86,15 +87,17 @@ over-language l (f ∷ c ∷ ds) m e = by_test (is_symbol f && is_word (codes ":
     by_test false g = with-language l None (f ∷ c ∷ ds) m g
 
 -- among items
-among-language : (o : Option (List Sexp)) (m : MetafunctionForm) → metafunction_among o ≡ Some m → may_name_item (second_among o) ≡ Some m.language
+among-language : (o : Option (List Sexp)) (m : MetafunctionForm) → metafunction_among o ≡ Some m → symbol_item (second_among o) ≡ Some m.language
 among-language None m e = absurd cc
 among-language (Some []) m e = absurd cc
 among-language (Some (h ∷ [])) m e = absurd cc
-among-language (Some (h ∷ l ∷ ds)) m e = by_test (may_name l) e
+among-language (Some (h ∷ l ∷ ds)) m e = by_test (is_word (codes "define-metafunction") h && is_symbol l) refl e
   where
-    by_test : (b : Bool) → (if b then metafunction_over l ds else None) ≡ Some m → (if b then Some l else None) ≡ Some m.language
-    by_test true g = ap Some (sym (over-language l ds m g))
-    by_test false g = absurd cc
+    by_test : (b : Bool) → (is_word (codes "define-metafunction") h && is_symbol l) ≡ b → (if b then metafunction_over l ds else None) ≡ Some m
+        → (if is_symbol l then Some l else None) ≡ Some m.language
+    by_test true k g =
+        ap (λ (b : Bool). if b then Some l else None) (and_true (is_word (codes "define-metafunction") h) (is_symbol l) k).1 ∙ ap Some (sym (over-language l ds m g))
+    by_test false k g = absurd cc
 
 -- of a form that has its parts
 language-item : (d : Sexp) (m : MetafunctionForm) → metafunction_form d ≡ Some m → language_item d ≡ Some m.language
@@ -112,7 +115,7 @@ function-refused S ns d (Err NoMemory) a = tt
 abbrev pub IsNameOf : Sexp → Option Sexp → Type 0
 IsNameOf d x = (m : MetafunctionForm) → metafunction_form d ≡ Some m → x ≡ function_in m
 
-module _ (K : Known) (d : Sexp) (x : Option Sexp) (n : IsNameOf d x) where
+module _ (K : Known) (h : is_some (language_named K.program (codes "hole")) ≡ false) (d : Sexp) (x : Option Sexp) (n : IsNameOf d x) where
   -- what is refused of the names l and y
   abbrev names_refusal : Option Sexp → Option Sexp → Option Refusal
   names_refusal l y = first_refusal (unknown_at K l ∷ taken_at_item K y ∷ [])
@@ -120,21 +123,25 @@ module _ (K : Known) (d : Sexp) (x : Option Sexp) (n : IsNameOf d x) where
   -- of the form by itself, with these parts, over the language l
   abbrev form_refusal : Option Sexp → Option MetafunctionForm → Option Refusal
   form_refusal l o =
-      or_else (unbuilt_at d) (or_else (stands_refusal K.scope (names_of (named_base K l)) (metafunction_stands K.scope (names_of (named_base K l)) d o)) None)
+      or_else (unbuilt_at d)
+      (or_else (refusal_over K.scope (names_of (named_base K l)) (function_language o) (metafunction_stands K.scope (names_of (named_base K l)) d o)) None)
 
   -- a form that has its parts
   known-parts : (m : MetafunctionForm) → function_refusal_by K d (Some m) ≡ earlier (names_refusal (Some m.language) (function_in m)) (form_refusal (Some m.language) (Some m))
   known-parts m =
       let ns = names_of (named_base K (Some m.language)) in
       let ss = metafunction_stands K.scope ns d (Some m) in
+      let l = Some m.language in
       let last =
       first_refusal
       (bad_name_at ss ∷ bad_place_at K.scope ns ss ∷ depth_fault_at K.scope ns ss ∷ unknown_name_at K.scope ss ∷ undriven_at K.scope ss
       ∷ escape_at K.scope ss ∷ mode_fault_at ss ∷ [])
       in
-      (λ i. or_else (unbuilt_at d) (or_else (shape_at ss) (or_else (unknown_at K (Some m.language)) (or_else (taken-same K (function_in m) i) last))))
-      ∙ merged 0 (name_checks K (Some m.language) (function_in m)) (form_checks K.scope ns d ss) (name-checks K (Some m.language) (function_in m)) (form-checks K.scope ns d ss)
-      ∙ ap (earlier (names_refusal (Some m.language) (function_in m))) (sym (stands-refusal K.scope ns d ss (of_function K.scope ns m (function_in m))))
+      (λ i. or_else (unbuilt_at d) (or_else (shape_at ss) (or_else (unknown_at K l) (or_else (taken-same K (function_in m) i) last))))
+      ∙ ap (λ (o : Option Refusal). or_else (unbuilt_at d) (or_else (shape_at ss) o))
+      (absorbed (unknown_at K l) (unnamable_language_at l) (or_else (taken_at_item K (function_in m)) last) (unknown-unnamable K h l))
+      ∙ merged 0 (name_checks K l (function_in m)) (form_checks K.scope ns l d ss) (name-checks K l (function_in m)) (form-checks K.scope ns l d ss)
+      ∙ ap (earlier (names_refusal l (function_in m))) (sym (stands-refusal K.scope ns l d ss (of_function K.scope ns m (function_in m))))
 
   -- one that has them not
   no-parts : (l y : Option Sexp) → function_refusal_by K d None ≡ earlier (names_refusal l y) (form_refusal l None)

@@ -1,6 +1,9 @@
 -- What a name stands for, at the place that the table of its kind has for it.
-use Rattle.std.proofs.Common.{◌≡◌, ◌∙◌, ◌<◌, ℕ, List, length, get_or, map, Option, Some, None, IfSome, IfNone, refl, ap}
+use Rattle.std.proofs.Common.{◌≡◌, ◌∙◌, ◌<◌, ℕ, List, Global, length, get_or, map, Option, Some, None, IfSome, IfNone, refl, ap}
 use Rattle.std.specs.Prelude.{is_some}
+use Rattle.std.specs.Rc.{rc_str_bytes}
+use Rattle.std.specs.declared.rc.RcStr.{RcStr}
+use Rattle.rdx_term.specs.declared.name.Name.{Name}
 use Rattle.rdx_lang.specs.Checked.{language_in}
 use Rattle.rdx_lang.specs.Model.Places.{place_from}
 use Rattle.rdx_lang.specs.ProgramView.{relation_of}
@@ -51,15 +54,21 @@ module _ (rs : List Relation) (x : List ℕ) (o : Option ℕ) (e : o ≡ first_p
   pub no-relation : o ≡ None → relation_among (map relation_of rs) x ≡ None
   no-relation f = none-stands (λ r. (relation_of r).name) relation_of (λ ks. relation_among (map relation_of ks)) (λ y. refl) (λ k ks y. refl) rs x o relation-place f
 
-module _ (ps : List (List ℕ × List ℕ)) (x : List ℕ) (o : Option ℕ) (e : o ≡ first_place x (map (λ p. p.0) ps)) where
-  pair-place : o ≡ place_from (λ (p : List ℕ × List ℕ). p.0) 0 x ps
+-- the name of a judgement with that of its language
+abbrev pub in_language : Name × RcStr Global → List ℕ × List ℕ
+in_language p = (p.0, rc_str_bytes p.1)
+
+module _ (ps : List (Name × RcStr Global)) (x : List ℕ) (o : Option ℕ) (e : o ≡ first_place x (map (λ p. p.0) ps)) where
+  pair-place : o ≡ place_from (λ (p : Name × RcStr Global). p.0) 0 x ps
   pair-place = e ∙ place-map (λ y. y) (λ p. p.0) 0 x ps
 
-  pub pair-stands : (j : ℕ) → o ≡ Some j → (j < length ps) × ((d : List ℕ × List ℕ) → paired_with ps x ≡ Some (get_or ps j d).1)
-  pair-stands j f = let s = stands-at (λ p. p.0) (λ p. p.1) paired_with (λ y. refl) (λ k ks y. refl) ps x o j pair-place f in (s.within, s.stands)
+  pub pair-stands : (j : ℕ) → o ≡ Some j → (j < length ps) × ((d : Name × RcStr Global) → paired_with (map in_language ps) x ≡ Some (rc_str_bytes (get_or ps j d).1))
+  pair-stands j f =
+      let s = stands-at (λ p. p.0) (λ p. rc_str_bytes p.1) (λ qs. paired_with (map in_language qs)) (λ y. refl) (λ k ks y. refl) ps x o j pair-place f in
+      (s.within, s.stands)
 
-  pub no-pair : o ≡ None → paired_with ps x ≡ None
-  no-pair f = none-stands (λ p. p.0) (λ p. p.1) paired_with (λ y. refl) (λ k ks y. refl) ps x o pair-place f
+  pub no-pair : o ≡ None → paired_with (map in_language ps) x ≡ None
+  no-pair f = none-stands (λ p. p.0) (λ p. rc_str_bytes p.1) (λ qs. paired_with (map in_language qs)) (λ y. refl) (λ k ks y. refl) ps x o pair-place f
 
 -- a metafunction has a name where it has a place
 pub is-function : (Ms : List Metafunction) (x : List ℕ) (o : Option ℕ) → o ≡ first_place x (map (λ M. M.name) Ms) → is_some o ≡ is_some (metafunction_among Ms x)

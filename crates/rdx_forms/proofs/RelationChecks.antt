@@ -2,8 +2,8 @@
 use Rattle.std.proofs.Common.{◌≡◌, ℕ, Bool, true, false, List, [], ◌∷◌, Option, Some, None, Result, Ok, Err, IfOk, refl, sym, ◌∙◌, ap, subst, arith, if◌then◌else◌}
 use Rattle.std.proofs.lemmas.Bool.{and_parts, and_from}
 use Rattle.std.specs.List.{list_all}
-use Rattle.std.specs.Prelude.{◌&&◌, codes, option_map}
-use Rattle.rdx_sexp.specs.Sexp.{Sexp}
+use Rattle.std.specs.Prelude.{◌&&◌, bytes_eq, codes, option_map, is_some}
+use Rattle.rdx_sexp.specs.Sexp.{integer, truth, text, symbol, keyword, Sexp, leaf, list}
 use Rattle.rdx_lang.specs.Closures.{has_well_formed_patterns}
 use Rattle.rdx_lang.specs.Depths.{uses}
 use Rattle.rdx_lang.specs.Fitting.{fits}
@@ -18,22 +18,23 @@ use Rattle.rdx_lang.specs.WellFormed.{is_well_formed_in}
 use Rattle.rdx_lang.specs.declared.program.Relation.{Relation}
 use Rattle.rdx_patterns.specs.Names.{is_bad_name}
 use Rattle.rdx_patterns.specs.Nonterminals.{names_of}
-use Rattle.rdx_patterns.specs.Parts.{parts, text_of}
+use Rattle.rdx_patterns.specs.Parts.{parts, is_symbol, is_word, text_of}
 use Rattle.rdx_patterns.specs.Refusal.{Refusal, refusal_of, or_else, first_refusal}
 use Rattle.rdx_patterns.specs.Unbuilt.{has_word_to_come}
 use Rattle.rdx_patterns.specs.declared.shape.fault.DefFault.{DefFault}
 use Rattle.rdx_patterns.specs.declared.shape.fault.DefFault.TheVariants.{Refused, NoMemory}
 use Rattle.rdx_patterns.specs.declared.shape.fault.DefRefusal.{DefRefusal}
 use Rattle.rdx_relations.specs.Answers.{ReadsRelation}
-use Rattle.rdx_relations.specs.RelationForms.{RelationForm, is_keyword, may_name, relation_among, relation_over, relation_form}
+use Rattle.rdx_relations.specs.LanguageRefusal.{unnamable_language_at, refusal_over}
+use Rattle.rdx_relations.specs.RelationForms.{RelationForm, is_keyword, relation_among, relation_over, relation_form}
 use Rattle.rdx_relations.specs.RelationReading.{relation_reading}
 use Rattle.rdx_relations.specs.RelationRefusal.{relation_refusal}
 use Rattle.rdx_relations.specs.RelationStands.{relation_stands}
 use Rattle.rdx_templates.specs.Scope.{Scope}
-use Rattle.rdx_parts.specs.StandRefusal.{stands_refusal}
+use Rattle.rdx_parts.specs.StandChecks.{shape_at, repeated_name_at, bad_name_at, bad_place_at, depth_fault_at, unknown_name_at, undriven_at, escape_at, mode_fault_at}
 use Rattle.rdx_parts.specs.Stands.{Stand}
 use Rattle.rdx_forms.specs.DefineForms.{define_refusal, define_refusal_by, defined_relation, relation_by}
-use Rattle.rdx_forms.specs.DefineParts.{by_cases, define_parts}
+use Rattle.rdx_forms.specs.DefineParts.{DefineKind, by_cases, by_contexts, by_crosses, kind_by_head, kind_among, DefineParts, define_by, define_among, define_parts}
 use Rattle.rdx_forms.specs.FormKinds as kind
 use Rattle.rdx_forms.specs.FormKinds.{defines, form_kind}
 use Rattle.rdx_forms.specs.Known.{Known}
@@ -44,14 +45,15 @@ use Rattle.rdx_forms.specs.Answers.{RelatesBy}
 use Rattle.rdx_forms.specs.Inside.Earlier.{earlier, IsUnless}
 use Rattle.rdx_forms.specs.Faults.{IsFaultAt, IsRefusedBy}
 use Rattle.rdx_forms.specs.Fitting.{IsRelationOf, language_at}
-use Rattle.rdx_forms.specs.Inside.PartViews.{second_among, may_name_item, language_item}
+use Rattle.rdx_forms.specs.Inside.PartViews.{second_among, symbol_item, language_item}
+use Rattle.rdx_patterns.proofs.Booleans.{and_true}
 use Rattle.rdx_patterns.proofs.Firsts.{none_of}
 use Rattle.rdx_forms.proofs.CheckNumbers.{or_none, Checks, AreChecks, refused, merge, merged}
 use Rattle.rdx_forms.proofs.DefineChecks.{bad-number, good_name, sole_parts, body-built, relates-by}
 use Rattle.rdx_forms.proofs.FormParts.{unbuilt_at-built}
 use Rattle.rdx_forms.proofs.FoundByName.{language-found}
 use Rattle.rdx_forms.proofs.LanguageChecks.{unknown-number, taken-number}
-use Rattle.rdx_forms.proofs.StandNumbers.{stand_checks, stand-checks}
+use Rattle.rdx_forms.proofs.StandNumbers.{stand_checks, over_checks, over-checks, over-refusal, unknown-unnamable, absorbed}
 
 -- ---- the language's name
 
@@ -69,20 +71,76 @@ over-language l (k ∷ p ∷ cs) = by_test (is_keyword (codes "domain") k)
     by_test true = refl
     by_test false = refl
 
--- among items
-language-among : (o : Option (List Sexp)) → option_map (λ (r : RelationForm). r.language) (relation_among o) ≡ may_name_item (second_among o)
-language-among None = refl
-language-among (Some []) = refl
-language-among (Some (h ∷ [])) = refl
-language-among (Some (h ∷ l ∷ ds)) = by_test (may_name l)
+-- the word at the head of cases
+head-cases : (h : Sexp) → kind_by_head h ≡ Some by_cases → is_word (codes "reduction-relation") h ≡ true
+head-cases (leaf (integer n) s) e = absurd cc
+head-cases (leaf (truth b) s) e = absurd cc
+head-cases (leaf (text x) s) e = absurd cc
+head-cases (leaf (symbol x) s) e = by_test (bytes_eq x (codes "reduction-relation")) (bytes_eq x (codes "context-closure")) (bytes_eq x (codes "compatible-closure")) e
+  where
+    by_test : (b k m : Bool) → (if b then Some by_cases else if k then Some by_contexts else if m then Some by_crosses else None) ≡ Some by_cases → b ≡ true
+    by_test true k m f = refl
+    by_test false true m f = absurd cc
+    by_test false false true f = absurd cc
+    by_test false false false f = absurd cc
+head-cases (leaf (keyword k) s) e = absurd cc
+head-cases (list ds s) e = absurd cc
+
+-- among items behind that word
+language-among : (o : Option (List Sexp)) → kind_among o ≡ Some by_cases → option_map (λ (r : RelationForm). r.language) (relation_among o) ≡ symbol_item (second_among o)
+language-among None e = absurd cc
+language-among (Some []) e = absurd cc
+language-among (Some (h ∷ [])) e = refl
+language-among (Some (h ∷ l ∷ ds)) e =
+    ap (λ (b : Bool). option_map (λ (r : RelationForm). r.language) (if b && is_symbol l then Some (relation_over l ds) else None)) (head-cases h e)
+    ∙ by_test (is_symbol l)
   where
     by_test : (b : Bool) → option_map (λ (r : RelationForm). r.language) (if b then Some (relation_over l ds) else None) ≡ (if b then Some l else None)
     by_test true = ap Some (over-language l ds)
     by_test false = refl
 
--- of a list that says what a relation is
-language-item : (d : Sexp) → option_map (λ (r : RelationForm). r.language) (relation_form d) ≡ language_item d
-language-item d = language-among (parts d)
+-- of a list that gives cases
+language-item : (d : Sexp) → kind_among (parts d) ≡ Some by_cases → option_map (λ (r : RelationForm). r.language) (relation_form d) ≡ language_item d
+language-item d e = language-among (parts d) e
+
+-- of one that has the parts of a relation
+item-among : (o : Option (List Sexp)) (r : RelationForm) → relation_among o ≡ Some r → symbol_item (second_among o) ≡ Some r.language
+item-among None r e = absurd cc
+item-among (Some []) r e = absurd cc
+item-among (Some (h ∷ [])) r e = absurd cc
+item-among (Some (h ∷ l ∷ ds)) r e = by_test (is_word (codes "reduction-relation") h && is_symbol l) refl e
+  where
+    by_test : (b : Bool) → (is_word (codes "reduction-relation") h && is_symbol l) ≡ b → (if b then Some (relation_over l ds) else None) ≡ Some r
+        → (if is_symbol l then Some l else None) ≡ Some r.language
+    by_test true k g =
+        let i : relation_over l ds ≡ r = cc in
+        ap (λ (b : Bool). if b then Some l else None) (and_true (is_word (codes "reduction-relation") h) (is_symbol l) k).1
+        ∙ ap Some (sym (over-language l ds) ∙ ap language_of i)
+    by_test false k g = absurd cc
+
+form-item : (d : Sexp) (r : RelationForm) → relation_form d ≡ Some r → language_item d ≡ Some r.language
+form-item d r e = item-among (parts d) r e
+
+-- the list of a form that defines a relation by cases gives cases
+among-cases : (o : Option (List Sexp)) (q : DefineParts) → define_among o ≡ Some q → kind_among (parts q.body) ≡ Some q.kind
+among-cases None q e = absurd cc
+among-cases (Some []) q e = absurd cc
+among-cases (Some (h ∷ [])) q e = absurd cc
+among-cases (Some (h ∷ x ∷ [])) q e = absurd cc
+among-cases (Some (h ∷ x ∷ body ∷ ds)) q e = by_test (is_symbol x) e
+  where
+    by_kind : (k : Option DefineKind) → kind_among (parts body) ≡ k → define_by k x body ds ≡ Some q → kind_among (parts q.body) ≡ Some q.kind
+    by_kind None f g = absurd cc
+    by_kind (Some k) f g =
+        let i : record { kind = k; name = x; body = body; rest = ds } ≡ q = cc in
+        subst (λ (p : DefineParts). kind_among (parts p.body) ≡ Some p.kind) i f
+
+    by_test : (b : Bool) → (if b then define_by (kind_among (parts body)) x body ds else None) ≡ Some q → kind_among (parts q.body) ≡ Some q.kind
+    by_test true f = by_kind (kind_among (parts body)) refl f
+    by_test false f = absurd cc
+
+gives-cases : (d : Sexp) (q : DefineParts) → define_parts d ≡ Some q → kind_among (parts q.body) ≡ Some q.kind
+gives-cases d q e = among-cases (parts d) q e
 
 -- ---- the checks of the names
 
@@ -139,7 +197,10 @@ module _ (K : Known) (x body : Sexp) where
 
 -- ---- a form with these parts, behind which nothing stands
 
-module _ (K : Known) (d x body : Sexp) (e : define_parts d ≡ Some (sole_parts by_cases x body)) (b : has_word_to_come d ≡ false) where
+module _ (K : Known) (h : is_some (language_named K.program (codes "hole")) ≡ false) (d x body : Sexp) (e : define_parts d ≡ Some (sole_parts by_cases x body)) (b : has_word_to_come d ≡ false) where
+  k : kind_among (parts body) ≡ Some by_cases
+  k = gives-cases d (sole_parts by_cases x body) e
+
   -- the nonterminals of its language
   abbrev names : List (List ℕ)
   names = names_of (named_base K (language_item body))
@@ -149,30 +210,39 @@ module _ (K : Known) (d x body : Sexp) (e : define_parts d ≡ Some (sole_parts 
   stands = relation_stands K.scope names body (relation_form body)
 
   -- the list is refused by its checks
-  body-refusal : relation_refusal K.scope names body ≡ refused (stand_checks K.scope names stands)
+  body-refusal : relation_refusal K.scope names body ≡ refused (over_checks K.scope names (language_item body) stands)
   body-refusal =
-      (λ i. or_else (unbuilt_at-built body (body-built d by_cases x body e b) i) (or_else (stands_refusal K.scope names stands) None))
-      ∙ or_none (refused (stand_checks K.scope names stands))
+      (λ i. or_else (unbuilt_at-built body (body-built d by_cases x body e b) i) (or_else (refusal_over K.scope names (language-item body k i) stands) None))
+      ∙ or_none (refusal_over K.scope names (language_item body) stands)
+      ∙ over-refusal K.scope names (language_item body) stands
 
   -- the form is refused by those of the names and of the list
-  chain : define_refusal K d ≡ refused (merge (name_checks K (language_item body) x) (stand_checks K.scope names stands))
+  chain : define_refusal K d ≡ refused (merge (name_checks K (language_item body) x) (over_checks K.scope names (language_item body) stands))
   chain =
+      let l = language_item body in
+      let last =
+      first_refusal
+      (name_taken_at K x ∷ repeated_name_at stands ∷ bad_relation_at x ∷ bad_name_at stands ∷ bad_place_at K.scope names stands ∷ depth_fault_at K.scope names stands
+      ∷ unknown_name_at K.scope stands ∷ undriven_at K.scope stands ∷ escape_at K.scope stands ∷ mode_fault_at stands ∷ [])
+      in
       ap (define_refusal_by K d) e
-      ∙ λ i. or_else (unbuilt_at-built d b i) (refused (merge (name_checks K (language-item body i) x)
-      (stand_checks K.scope (names_of (named_base K (language-item body i))) (relation_stands K.scope (names_of (named_base K (language-item body i))) body (relation_form body)))))
+      ∙ (λ i. or_else (unbuilt_at-built d b i) (refused (merge (name_checks K (language-item body k i) x)
+      (stand_checks K.scope (names_of (named_base K (language-item body k i))) (relation_stands K.scope (names_of (named_base K (language-item body k i))) body (relation_form body))))))
+      ∙ ap (or_else (shape_at stands)) (absorbed (unknown_at K l) (unnamable_language_at l) last (unknown-unnamable K h l))
 
   -- so the parts are
   define-refusal : define_refusal K d ≡ parts_refusal K x body
   define-refusal =
       chain
-      ∙ merged 0 (name_checks K (language_item body) x) (stand_checks K.scope names stands) (name-checks K (language_item body) x) (stand-checks K.scope names stands)
+      ∙ merged 0 (name_checks K (language_item body) x) (over_checks K.scope names (language_item body) stands) (name-checks K (language_item body) x)
+      (over-checks K.scope names (language_item body) stands)
       ∙ ap (earlier (refused (name_checks K (language_item body) x))) (sym body-refusal)
 
   -- the relation that the form defines
   define-relation : defined_relation K d ≡ parts_relation K x body
   define-relation =
       ap (relation_by K) e
-      ∙ λ i. option_map (relation_reading K.scope (names_of (named_base K (language-item body i))) (text_of x)) (relation_form body)
+      ∙ λ i. option_map (relation_reading K.scope (names_of (named_base K (language-item body k i))) (text_of x)) (relation_form body)
 
   -- what is said of its parts is said of the form
   pub relates-cases : (y : Result Relation DefFault) → form_kind d ≡ defines kind.relation → RelatesOver K x body y → RelatesBy K d y
@@ -198,7 +268,7 @@ read-fits : (K : Known) (o : Option Sexp) (ns : List (List ℕ)) (y : List ℕ) 
     → ((L : Language) → language_at K o ≡ Some L → has_well_formed_patterns L (relation_of q) ≡ true) → IsRelationOf K.program (relation_of q)
 read-fits K o ns y body q e u a f =
     let l : Sexp = a.parts.language in
-    let is : o ≡ Some l = e ∙ sym (language-item body) ∙ ap (option_map language_of) a.is_form in
+    let is : o ≡ Some l = e ∙ form-item body a.parts a.is_form in
     let h = language-found (language_named K.program (text_of l)) l (ap (unknown_at K) (sym is) ∙ u) in
     record {
       language = h.value;

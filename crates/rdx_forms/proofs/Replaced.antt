@@ -1,5 +1,6 @@
 -- Places of a list, and an element that is put in the place of another.
 use Rattle.std.proofs.Common.{◌≡◌, ℕ, zero, suc, ◌<◌, length, get_or, set, List, [], ◌∷◌, Option, Some, IfSome, map, ap, sym, subst, arith}
+use Rattle.std.specs.Rc.{rc_str_bytes}
 use Rattle.rdx_lang.specs.Checked.{language_in}
 use Rattle.rdx_lang.specs.Patterns.{Language}
 use Rattle.rdx_lang.specs.ProgramView.{program_of}
@@ -25,7 +26,7 @@ some-within o i n h e = subst (λ (p : Option ℕ). IfSome p (λ j. j < n)) e h
 abbrev over_languages : Known → List CheckedLang → model.Known
 over_languages k ls = record {
   scope = scope_of k.scope;
-  languages = k.languages.items;
+  languages = map (λ l. (l.0, rc_str_bytes l.1)) k.languages.items;
   ends = k.ends.items;
   program = record {
     languages = map language_in ls;
@@ -39,7 +40,7 @@ over_languages k ls = record {
 pub same-known : (k : Known) (i : ℕ) (x y : CheckedLang) → i < length k.program.languages.items → language_in y ≡ language_in (get_or k.program.languages.items i x)
     → over_languages k (set k.program.languages.items i y) ≡ known_of k
 same-known k i x y h e =
-    ap (λ (Ls : List Language). let P : Program = record (program_of k.program) { languages = Ls } in let K : model.Known = record { scope = scope_of k.scope; languages = k.languages.items; ends = k.ends.items; program = P } in K)
+    ap (λ (Ls : List Language). let P : Program = record (program_of k.program) { languages = Ls } in let K : model.Known = record { scope = scope_of k.scope; languages = map (λ l. (l.0, rc_str_bytes l.1)) k.languages.items; ends = k.ends.items; program = P } in K)
     (map-set language_in k.program.languages.items i x y h e)
 
 -- what is defined is found in the tables as before

@@ -60,10 +60,10 @@ fn refuse_asked(
     let Some(language) = judgement_language(known, text(head)) else {
         return Ok(None);
     };
-    if place_named(known, language.text()).is_some() {
+    if place_named(known, language).is_some() {
         return Ok(None);
     }
-    Ok(Some(named_at(alloc, DefKind::UnknownLanguage, head, language.text())?))
+    Ok(Some(named_at(alloc, DefKind::UnknownLanguage, head, language)?))
 }
 
 // The place of the language of the judgement that a premise asks, where it is known.
@@ -75,7 +75,7 @@ fn asked_place(known: &Known, premise: &Datum) -> Option<usize>
     ensures none { IfNone result (asked_names (known_of known.now) (headed premise.now) ≡ []) }
 {
     let language = judgement_language(known, text(judgement_head(premise)?))?;
-    place_named(known, language.text())
+    place_named(known, language)
 }
 
 // The premise, and the template behind it, over the language of the judgement that it asks; over an

@@ -7,6 +7,7 @@ use crate::tables::Tables;
 use rdx_lang::Program;
 use rdx_templates::Scope;
 use rdx_term::Name;
+use std::rc::RcStr;
 
 /// What the whole file defines, and what the forms before a form define, with tables by which it is
 /// found by name.
@@ -15,7 +16,7 @@ pub struct Known {
     pub scope: Scope,
     /// The names of judgements with those of their languages, in the order of their forms. Of several
     /// with one name the first counts.
-    pub languages: Vec<(Name, Name)>,
+    pub languages: Vec<(Name, RcStr)>,
     /// The nonterminals to which the file asks for cross nonterminals.
     pub ends: Vec<Name>,
     pub program: Program,

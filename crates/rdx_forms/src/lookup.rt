@@ -15,7 +15,6 @@ use crate::known::Known;
 use rdx_lang::Relation;
 use rdx_patterns::shape::text;
 use rdx_sexp::Datum;
-use rdx_term::Name;
 
 /// The place of the language of this name.
 pub(crate) fn place_named(known: &Known, name: &str) -> Option<usize>
@@ -51,12 +50,12 @@ pub(crate) fn place_of(known: &Known, language: Option<&Datum>) -> Option<usize>
 }
 
 /// The name of the language of the judgement of this name, where the file has one.
-pub(crate) fn judgement_language<'a>(known: &'a Known, name: &str) -> Option<&'a Name>
+pub(crate) fn judgement_language<'a>(known: &'a Known, name: &str) -> Option<&'a str>
     ensures { option_map (λ x. x.now) result
         ≡ model.judgement_language (known_of known.now) name.now }
 {
     match known.tables.asked.get(name).copied() {
-        Some(place) => Some(&known.languages[place].1),
+        Some(place) => Some(known.languages[place].1.as_str()),
         None => None,
     }
 }

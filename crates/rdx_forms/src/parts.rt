@@ -9,7 +9,7 @@ ghost use Rattle.rdx_forms.specs.DefineParts.{closure_among, closure_parts, defi
 ghost use Rattle.rdx_forms.specs.StepForms.{step_parts};
 ghost use Rattle.rdx_forms.specs.TestForms.{equal_parts, leading_parts};
 
-use rdx_patterns::shape::{is_symbol, is_word, items, symbol};
+use rdx_patterns::shape::{is_symbol, items, symbol};
 use rdx_sexp::Datum;
 
 /// The name of a language, a pattern, and the host expression that gives the term.
@@ -90,17 +90,13 @@ pub(crate) fn second_item(d: &Datum) -> Option<&Datum>
     }
 }
 
-/// The second item, where it may name a language: in a form that defines a metafunction or a
-/// judgement, or in a list that says what a relation is.
+/// The second item, where it is a symbol, which names a language in a form that defines a
+/// metafunction or a judgement, and in a list that says what a relation is.
 pub(crate) fn language_item(d: &Datum) -> Option<&Datum>
     ensures { option_map (λ d. d.now) result ≡ language_item d.now }
 {
     let name = second_item(d)?;
-    if is_symbol(name) && !is_word(name, "hole") {
-        Some(name)
-    } else {
-        None
-    }
+    if is_symbol(name) { Some(name) } else { None }
 }
 
 /// The name of the language that an extension extends.

@@ -8,6 +8,7 @@ use rdx_patterns::Names;
 use rdx_term::{Name, NoMemory};
 use std::alloc::Global;
 use std::collections::BTreeMap;
+use std::rc::RcStr;
 
 /// The names of what is defined, of each kind, each with the first place at which it stands in the
 /// program, and those of nonterminals.
@@ -64,7 +65,7 @@ pub(crate) fn make_room<T>(
 }
 
 // The names of judgements by their places.
-fn asked_table(alloc: Global, pairs: &[(Name, Name)]) -> Result<BTreeMap<String, usize>, NoMemory>
+fn asked_table(alloc: Global, pairs: &[(Name, RcStr)]) -> Result<BTreeMap<String, usize>, NoMemory>
     ensures { IfOk result (λ firsts. FindsFirsts firsts (map (λ p. p.0) pairs.now)) }
 {
     let mut firsts = BTreeMap::new(alloc);
@@ -76,7 +77,7 @@ fn asked_table(alloc: Global, pairs: &[(Name, Name)]) -> Result<BTreeMap<String,
 
 impl Tables {
     /// The tables where nothing is defined, in a file of judgements with these languages.
-    pub(crate) fn new(alloc: Global, pairs: &[(Name, Name)]) -> Result<Tables, NoMemory>
+    pub(crate) fn new(alloc: Global, pairs: &[(Name, RcStr)]) -> Result<Tables, NoMemory>
         ensures tabled { IfOk result (λ tables. AreTabled tables empty_program) }
         ensures asked { IfOk result (λ tables. FindsFirsts tables.asked
             (map (λ p. p.0) pairs.now)) }

@@ -1,8 +1,7 @@
 -- The parts that values of the code stand for.
 use Rattle.std.specs.Prelude.{Bool, true, false, List, [], ◌∷◌, Option, Some, None, option_map, if◌then◌else◌}
-use Rattle.rdx_patterns.specs.Parts.{parts}
+use Rattle.rdx_patterns.specs.Parts.{parts, is_symbol}
 use Rattle.rdx_parts.specs.Headed.{headed}
-use Rattle.rdx_relations.specs.RelationForms.{may_name}
 use Rattle.rdx_sexp.specs.Sexp.{Sexp}
 use Rattle.rdx_forms.specs.HoldsForms as holding
 use Rattle.rdx_forms.specs.MatchForms as matching
@@ -87,11 +86,12 @@ second_among o = None
 abbrev pub second_item : Sexp → Option Sexp
 second_item d = second_among (parts d)
 
--- an item, where it may name a language
-abbrev pub may_name_item : Option Sexp → Option Sexp
-may_name_item None = None
-may_name_item (Some l) = if may_name l then Some l else None
+-- an item, where it is a symbol
+abbrev pub symbol_item : Option Sexp → Option Sexp
+symbol_item None = None
+symbol_item (Some l) = if is_symbol l then Some l else None
 
--- the second item, where it may name a language: in a form that defines a metafunction or a judgement, or in a list that says what a relation is
+-- the second item, where it is a symbol, which names a language in a form that defines a metafunction or a judgement, and in a list that says what a
+-- relation is
 abbrev pub language_item : Sexp → Option Sexp
-language_item d = may_name_item (second_item d)
+language_item d = symbol_item (second_item d)

@@ -87,7 +87,7 @@ returns-in-Cases-clause-relates c =
     let e = parts-shown c.args.form.now (defining_of p) c.in-Some.ensures c.if-parts.false in
     let f : define_parts c.args.form.now ≡ Some (sole_parts by_cases p.name.now p.body.now) =
     e ∙ ap (λ (l : code.DefineKind). let o : Option DefineParts = Some (sole_parts (define_kind_of l) p.name.now p.body.now) in o) c.in-Cases.is in
-    relates-cases (known_of c.args.known.now) c.args.form.now p.name.now p.body.now f (sym c.if-has_word_to_come.ensures) c.define_by_cases.result c.requires.relation
+    relates-cases (known_of c.args.known.now) c.args.known.now.tabled.nameable c.args.form.now p.name.now p.body.now f (sym c.if-has_word_to_come.ensures) c.define_by_cases.result c.requires.relation
     c.define_by_cases.ensures.relates
 
 pub returns-in-Contexts-clause-relates : goal.returns-in-Contexts-clause-relates

@@ -1,5 +1,6 @@
 use Rattle.std.proofs.Common.{◌∙◌, ◌<◌, length, Some, ap, sym, arith}
 use Rattle.std.proofs.lemmas.Grind.{common_steps}
+use Rattle.std.specs.Rc.{rc_str_bytes}
 use Rattle.rdx_forms.proofs.PlacesKnown.{no-pair, pair-stands}
 use Rattle.rdx_forms.proofs.lookup.judgement_language.Goals as goal
 
@@ -12,9 +13,10 @@ index-requires c =
 
 pub returns-in-Some : goal.returns-in-Some
 returns-in-Some c =
-    sym ((pair-stands c.args.known.now.languages.items c.args.name.now c.copied.result
+    ap Some c.as_str.ensures.value
+    ∙ sym ((pair-stands c.args.known.now.languages.items c.args.name.now c.copied.result
     (c.copied.ensures ∙ c.get.ensures.value ∙ c.args.known.now.asked c.args.name.now) c.in-Some.place c.in-Some.is).1 c.index.result.now
-    ∙ ap (λ p. Some p.1) (sym c.index.ensures))
+    ∙ ap (λ p. Some (rc_str_bytes p.1)) (sym c.index.ensures))
 
 pub returns-in-None : goal.returns-in-None
 returns-in-None c =
