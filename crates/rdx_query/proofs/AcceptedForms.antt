@@ -8,17 +8,15 @@ use Rattle.rdx_patterns.proofs.Firsts.{none_or}
 use Rattle.rdx_grammar.specs.Forms.{GrammarForm}
 use Rattle.rdx_grammar.specs.Languages.{language_over}
 use Rattle.rdx_patterns.specs.Parts.{text_of}
-use Rattle.rdx_patterns.specs.Refusal.{or_else, first_refusal}
+use Rattle.rdx_patterns.specs.Refusal.{or_else}
 use Rattle.rdx_grammar.specs.Refused as grammar
 use Rattle.rdx_grammar.specs.Stands.{form_stands}
 use Rattle.rdx_patterns.specs.Unbuilt.{unbuilt_at}
 use Rattle.rdx_defs.specs.JudgementForms.{JudgementForm, judgement_form, judgement_in}
 use Rattle.rdx_defs.specs.JudgementReading.{judgement_reading}
-use Rattle.rdx_defs.specs.JudgementRefusal.{judgement_refusal}
 use Rattle.rdx_defs.specs.JudgementStands.{judgement_stands}
 use Rattle.rdx_defs.specs.MetafunctionForms.{MetafunctionForm, metafunction_form, function_in}
 use Rattle.rdx_defs.specs.MetafunctionReading.{metafunction_reading}
-use Rattle.rdx_defs.specs.MetafunctionRefusal.{metafunction_refusal}
 use Rattle.rdx_defs.specs.MetafunctionStands.{metafunction_stands}
 use Rattle.rdx_relations.specs.RelationForms.{RelationForm, relation_form}
 use Rattle.rdx_relations.specs.RelationReading.{relation_reading}
@@ -79,7 +77,8 @@ pub record IsFunctionOf (K : Known) (d : Sexp) (F : Metafunction) : Type 0 where
   pub parts : MetafunctionForm
   pub is_form : metafunction_form d ≡ Some parts
   pub means : metafunction_reading K.scope (function_names K (Some parts)) parts ≡ F
-  pub passes : metafunction_refusal K.scope (function_names K (Some parts)) d ≡ None
+  pub passes :
+      stands_refusal K.scope (function_names K (Some parts)) (metafunction_stands K.scope (function_names K (Some parts)) d (Some parts)) ≡ None
   pub known : unknown_at K (Some parts.language) ≡ None
   pub free : function_taken_at K (function_in parts) ≡ None
 
@@ -101,7 +100,7 @@ function-parts K d (Some p) F e r m =
       parts = p;
       is_form = e;
       means = cc;
-      passes = (λ i. first_refusal (a.0 i ∷ stands_refusal S ns (metafunction_stands S ns d (e i)) ∷ [])) ∙ (λ i. or_else (stands i) None);
+      passes = stands;
       known = c.0;
       free = f.0;
     }
@@ -113,7 +112,7 @@ pub record IsJudgementOf (K : Known) (d : Sexp) (J : Judgement) : Type 0 where
   pub parts : JudgementForm
   pub is_form : judgement_form d ≡ Some parts
   pub means : judgement_reading K.scope (form_names K (Some parts)) parts ≡ J
-  pub passes : judgement_refusal K.scope (form_names K (Some parts)) d ≡ None
+  pub passes : stands_refusal K.scope (form_names K (Some parts)) (judgement_stands K.scope (form_names K (Some parts)) d (Some parts)) ≡ None
   pub known : unknown_at K (Some parts.language) ≡ None
   pub free : function_taken_at K (judgement_in parts) ≡ None
 
@@ -134,7 +133,7 @@ judgement-parts K d (Some p) J e r m =
       parts = p;
       is_form = e;
       means = cc;
-      passes = (λ i. first_refusal (a.0 i ∷ stands_refusal S ns (judgement_stands S ns d (e i)) ∷ [])) ∙ (λ i. or_else (stands i) None);
+      passes = stands;
       known = c.0;
       free = f.0;
     }

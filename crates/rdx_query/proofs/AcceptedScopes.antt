@@ -1,5 +1,5 @@
 -- The scope of a file that is accepted is what its program may call.
-use Rattle.std.proofs.Common.{◌≡◌, ◌++◌, ◌∙◌, ℕ, Bool, true, false, not, List, [], ◌∷◌, Option, Some, None, map, IsTrue, refl, sym, ap, subst, if◌then◌else◌}
+use Rattle.std.proofs.Common.{◌≡◌, ◌++◌, ◌∙◌, ℕ, Bool, true, false, List, [], ◌∷◌, Option, Some, None, map, IsTrue, refl, sym, ap, subst, if◌then◌else◌}
 use Rattle.std.proofs.lemmas.List.{append_assoc, append-nil, map-append}
 use Rattle.std.specs.Cmp.Lexicographic.{bytes_decides}
 use Rattle.std.specs.List.{list_all, list_any}
@@ -9,24 +9,24 @@ use Rattle.rdx_sexp.specs.Sexp.{integer, truth, text, symbol, keyword, Sexp, lea
 use Rattle.rdx_term.specs.Spelling.{is_name}
 use Rattle.rdx_lang.specs.Programs.{Mode, Metafunction, Judgement, Program, metafunction_among, judgement_among}
 use Rattle.rdx_lang.specs.Valid.{callable_in}
-use Rattle.rdx_patterns.proofs.Booleans.{and_both, and_true, or_true, not_true, not_either_way}
+use Rattle.rdx_patterns.proofs.Booleans.{and_both, not_either_way}
 use Rattle.rdx_patterns.proofs.Firsts.{none_both}
 use Rattle.rdx_patterns.specs.PatternChecks as patterns
-use Rattle.rdx_patterns.specs.Parts.{parts, text_of}
+use Rattle.rdx_patterns.specs.Parts.{parts, is_symbol, text_of}
 use Rattle.rdx_patterns.specs.Readable.{IsReadable}
 use Rattle.rdx_patterns.specs.Reading.{name_in}
 use Rattle.rdx_parts.specs.ExtraForms.{of_clause}
 use Rattle.rdx_defs.specs.JudgementForms.{judgement_form}
+use Rattle.rdx_defs.specs.MetafunctionForms as forms
 use Rattle.rdx_defs.specs.MetafunctionForms.{ClauseForm, clause_form, MetafunctionForm, metafunction_form, function_in}
 use Rattle.rdx_defs.specs.MetafunctionReading.{text_in}
-use Rattle.rdx_defs.specs.MetafunctionRefusal.{metafunction_refusal}
 use Rattle.rdx_defs.specs.MetafunctionStands.{bound_by_arguments, bound_by_clause, clause_stands, clauses_stand, contract_stands, function_stands}
 use Rattle.rdx_templates.specs.Scope.{Scope, has_metafunction, mode_among, mode_of, callable}
-use Rattle.rdx_defs.specs.Scopes.{are_conditions, is_clause_of, function_of_all, metafunction_name, judgement_moded, begins_with, defined_functions, defined_judgements, language_text, defined_languages, languages_in, scope_in}
+use Rattle.rdx_defs.specs.Scopes.{are_conditions, is_clause_of, function_of_all, metafunction_name, judgement_moded, defined_functions, defined_judgements, language_text, defined_languages, languages_in, scope_in}
 use Rattle.rdx_parts.specs.StandChecks.{bad_name, bad_names}
 use Rattle.rdx_parts.specs.Stands.{Stand, misshaped, function, pattern, template, argument_occurrences, names_bound, extras_stand}
-use Rattle.rdx_relations.proofs.FormRefusals.{ArePassed}
-use Rattle.rdx_defs.proofs.FormRefusals.{metafunction-passed}
+use Rattle.rdx_parts.specs.StandRefusal.{stands_refusal}
+use Rattle.rdx_relations.proofs.FormRefusals.{ArePassed, stands-passed}
 use Rattle.rdx_relations.proofs.PartsOfForms.{Each}
 use Rattle.rdx_defs.proofs.PassedForms.{has-function, metafunction-valid}
 use Rattle.rdx_relations.proofs.PassedStands.{passed-both, pattern-first, template-first}
@@ -44,46 +44,12 @@ use Rattle.rdx_forms.specs.LanguageForms.{named_base, plain_language, extended_l
 use Rattle.rdx_forms.specs.MetafunctionForms.{function_names, defined_function}
 use Rattle.rdx_answer.specs.Queries.{Query}
 use Rattle.rdx_query.proofs.AcceptedForms.{function-parts, judgement-parts}
-use Rattle.rdx_query.proofs.DefinedJudgements.{mapped-some}
+use Rattle.rdx_query.proofs.DefinedJudgements.{mapped-some, begins_with, no-judgement}
 
 -- ---- forms by their heads
 
--- Forms with this head are those of some kind, which is not that of host expressions.
-module _ (t : FormKind → Bool) (w : List ℕ) (none : t (asks kind.value) ≡ false) (own : t (kind_in heads w) ≡ true)
-    (only : list_all (λ r. not (t r.1) || bytes_eq r.0 w) heads ≡ true) where
-  -- a text that is a head of such forms is this one
-  by_rows : (rows : List (List ℕ × FormKind)) (x : List ℕ) → list_all (λ r. not (t r.1) || bytes_eq r.0 w) rows ≡ true
-      → t (kind_in rows x) ≡ true → bytes_eq x w ≡ true
-  by_rows [] x e f = absurd (not_either_way (t (asks kind.value)) f none)
-  by_rows (r ∷ rows) x e f =
-      let k = and_true (not (t r.1) || bytes_eq r.0 w) (list_all (λ r. not (t r.1) || bytes_eq r.0 w) rows) e in
-      by_test (bytes_eq x r.0) refl k.0 f (by_rows rows x k.1)
-    where
-      by_test : (b : Bool) → bytes_eq x r.0 ≡ b → (not (t r.1) || bytes_eq r.0 w) ≡ true → t (if b then r.1 else kind_in rows x) ≡ true
-          → (t (kind_in rows x) ≡ true → bytes_eq x w ≡ true) → bytes_eq x w ≡ true
-      by_test true g h k rest =
-          or_true (not (t r.1)) (bytes_eq r.0 w) (bytes_eq x w ≡ true) h (λ n. absurd (not_either_way (t r.1) k (not_true (t r.1) n)))
-          (λ e. subst (λ (y : List ℕ). bytes_eq y w ≡ true) (sym ((bytes_decides x r.0).0 g)) e)
-      by_test false g h k rest = rest k
-
-  -- so has a form with it
-  by_head : (h : Sexp) (ds : List Sexp) → t (kind_by_head h) ≡ true → begins_with w (Some (h ∷ ds)) ≡ true
-  by_head (leaf (integer n) s) ds e = absurd (not_either_way (t (asks kind.value)) e none)
-  by_head (leaf (truth b) s) ds e = absurd (not_either_way (t (asks kind.value)) e none)
-  by_head (leaf (text x) s) ds e = absurd (not_either_way (t (asks kind.value)) e none)
-  by_head (leaf (symbol x) s) ds e = by_rows heads x only e
-  by_head (leaf (keyword k) s) ds e = absurd (not_either_way (t (asks kind.value)) e none)
-  by_head (list es s) ds e = absurd (not_either_way (t (asks kind.value)) e none)
-
-  by_items : (o : Option (List Sexp)) → t (kind_among o) ≡ true → begins_with w o ≡ true
-  by_items None e = absurd (not_either_way (t (asks kind.value)) e none)
-  by_items (Some []) e = absurd (not_either_way (t (asks kind.value)) e none)
-  by_items (Some (h ∷ ds)) e = by_head h ds e
-
-  -- a form of that kind has the head
-  kind-begins : (d : Sexp) → t (form_kind d) ≡ true → begins_with w (parts d) ≡ true
-  kind-begins d e = by_items (parts d) e
-
+-- forms with this head are of some kind
+module _ (t : FormKind → Bool) (w : List ℕ) (own : t (kind_in heads w) ≡ true) where
   -- a form with the head is of that kind
   head-kind : (h : Sexp) (ds : List Sexp) → begins_with w (Some (h ∷ ds)) ≡ true → t (kind_by_head h) ≡ true
   head-kind (leaf (integer n) s) ds e = absurd cc
@@ -128,22 +94,14 @@ of_judgements (asks k) = false
 of_judgements (passes k) = false
 of_judgements to_come = false
 
--- the head of each, which no other has
+-- the head of each
 functions-own : of_functions (kind_in heads (codes "define-metafunction")) ≡ true
 unfolding chars
 functions-own = refl
 
-functions-only : list_all (λ r. not (of_functions r.1) || bytes_eq r.0 (codes "define-metafunction")) heads ≡ true
-unfolding chars
-functions-only = refl
-
 judgements-own : of_judgements (kind_in heads (codes "define-judgment-form")) ≡ true
 unfolding chars
 judgements-own = refl
-
-judgements-only : list_all (λ r. not (of_judgements r.1) || bytes_eq r.0 (codes "define-judgment-form")) heads ≡ true
-unfolding chars
-judgements-only = refl
 
 -- ---- the shape of clauses that pass
 
@@ -210,31 +168,32 @@ moded_in (metafunction F) = []
 moded_in (judgement J) = (J.name, J.mode) ∷ []
 moded_in (relation R) = []
 
+-- without the head it has not the parts of a metafunction
+no-function : (o : Option (List Sexp)) → begins_with (codes "define-metafunction") o ≡ false → forms.metafunction_among o ≡ None
+no-function None e = refl
+no-function (Some []) e = refl
+no-function (Some (h ∷ [])) e = refl
+no-function (Some (h ∷ l ∷ ds)) e = ap (λ (b : Bool). if b && is_symbol l then forms.metafunction_over l ds else None) e
+
 -- a form with another head defines no metafunction
 no-functions : (d : Sexp) → of_functions (form_kind d) ≡ false → defined_functions d ≡ []
-no-functions d e =
-    ap (λ b. if b then metafunction_name (metafunction_form d) else [])
-    (other-begins of_functions (codes "define-metafunction") refl functions-own functions-only d e)
+no-functions d e = ap metafunction_name (no-function (parts d) (other-begins of_functions (codes "define-metafunction") functions-own d e))
 
 -- nor a judgement
 no-judgements : (d : Sexp) → of_judgements (form_kind d) ≡ false → defined_judgements d ≡ []
-no-judgements d e =
-    ap (λ b. if b then judgement_moded (judgement_form d) else [])
-    (other-begins of_judgements (codes "define-judgment-form") refl judgements-own judgements-only d e)
+no-judgements d e = ap judgement_moded (no-judgement (parts d) (other-begins of_judgements (codes "define-judgment-form") judgements-own d e))
 
 -- the metafunction of a form that is accepted
 function-defined : (K : Known) (d : Sexp) (F : Metafunction) → IsReadable d → form_kind d ≡ defines kind.metafunction
     → refusal_by_kind K d (defines kind.metafunction) ≡ None → defined_function K d ≡ Some F → defined_functions d ≡ F.name ∷ []
 function-defined K d F z k r m =
     let p = function-parts K d (metafunction_form d) F refl r m in
-    let begins : begins_with (codes "define-metafunction") (parts d) ≡ true =
-    kind-begins of_functions (codes "define-metafunction") refl functions-own functions-only d (ap of_functions k) in
-    ap (λ b. if b then metafunction_name (metafunction_form d) else []) begins
-    ∙ ap metafunction_name p.is_form
+    ap metafunction_name p.is_form
     ∙ by_name p.parts p.is_form p.passes (function_in p.parts) refl
     ∙ ap (λ (G : Metafunction). G.name ∷ []) p.means
   where
-    by_name : (m : MetafunctionForm) → metafunction_form d ≡ Some m → metafunction_refusal K.scope (function_names K (Some m)) d ≡ None
+    by_name : (m : MetafunctionForm) → metafunction_form d ≡ Some m
+        → stands_refusal K.scope (function_names K (Some m)) (function_stands K.scope (function_names K (Some m)) m (function_in m)) ≡ None
         → (o : Option Sexp) → function_in m ≡ o → function_of_all (function_in m) m.clauses ≡ text_in (function_in m) ∷ []
     by_name m f g None e = absurd (has-function K.scope (function_names K (Some m)) d m z f g e)
     by_name m f g (Some x) e =
@@ -242,7 +201,7 @@ function-defined K d F z k r m =
         let ns = function_names K (Some m) in
         let n : IsTrue (is_name (text_of x)) = (metafunction-valid S (named_base K (Some m.language)) d m x z f e g).named in
         let a : ArePassed S ns (function_stands S ns m (Some x)) =
-        subst (λ (o : Option Sexp). ArePassed S ns (function_stands S ns m o)) e (metafunction-passed S ns d m f g) in
+        subst (λ (o : Option Sexp). ArePassed S ns (function_stands S ns m o)) e (stands-passed S ns (function_stands S ns m (function_in m)) g) in
         ap (λ (o : Option Sexp). function_of_all o m.clauses) e
         ∙ ap (λ b. if b then name_in x else []) (own-clauses S ns m x a)
         ∙ ap (λ b. if b then text_of x ∷ [] else []) n
@@ -254,10 +213,8 @@ judgement-defined : (K : Known) (d : Sexp) (J : Judgement) → IsReadable d → 
     → (defined_judgements d ≡ (J.name, J.mode) ∷ []) × (defined_languages d ≡ (J.name, J.language) ∷ [])
 judgement-defined K d J z k r m =
     let p = judgement-parts K d (judgement_form d) J refl r m in
-    let begins : begins_with (codes "define-judgment-form") (parts d) ≡ true =
-    kind-begins of_judgements (codes "define-judgment-form") refl judgements-own judgements-only d (ap of_judgements k) in
     let s : defined_judgements d ≡ (J.name, J.mode) ∷ [] =
-    in-scope K.scope _ d p.parts z p.is_form begins p.passes ∙ ap (λ (I : Judgement). (I.name, I.mode) ∷ []) p.means in
+    in-scope K.scope _ d p.parts z p.is_form p.passes ∙ ap (λ (I : Judgement). (I.name, I.mode) ∷ []) p.means in
     let l : language_text (judgement_form d) ≡ J.language = ap language_text p.is_form ∙ ap (λ (I : Judgement). I.language) p.means in
     (s, λ i. map (λ j. (j.0, l i)) (s i))
 

@@ -7,12 +7,13 @@ use Rattle.std.specs.Str.{chars}
 use Rattle.rdx_sexp.specs.Sexp.{integer, truth, text, symbol, keyword, Sexp, leaf, list}
 use Rattle.rdx_lang.specs.Programs.{Judgement, Mode, judgement_among}
 use Rattle.rdx_term.specs.Spelling.{is_name}
-use Rattle.rdx_patterns.specs.Parts.{parts, text_of}
+use Rattle.rdx_patterns.specs.Parts.{parts, is_symbol, is_word, text_of}
+use Rattle.rdx_defs.specs.JudgementForms as forms
 use Rattle.rdx_defs.specs.JudgementForms.{JudgementForm, rule_form, judgement_form, judgement_in, own_mode, are_fit_options}
 use Rattle.rdx_defs.specs.JudgementReading.{judgement_reading}
 use Rattle.rdx_defs.specs.MetafunctionReading.{text_in}
 use Rattle.rdx_templates.specs.Scope.{mode_among}
-use Rattle.rdx_defs.specs.Scopes.{is_rule_of, with_mode, judgement_by as judgement_in_scope, judgement_moded, begins_with, defined_judgements}
+use Rattle.rdx_defs.specs.Scopes.{is_rule_of, with_mode, judgement_by as judgement_in_scope, judgement_moded, defined_judgements}
 use Rattle.rdx_forms.specs.DefineForms.{defined_relation}
 use Rattle.rdx_forms.specs.Definitions.{Defined, language, metafunction, judgement, relation}
 use Rattle.rdx_forms.specs.OneForm.{Defines, Asks, IsPassedOver}
@@ -50,6 +51,20 @@ head-defines = refl
 by_text : (x : List ℕ) → bytes_eq x (codes "define-judgment-form") ≡ true → is_one (kind_in heads x) ≡ true
 by_text x e = subst (λ (y : List ℕ). is_one (kind_in heads y) ≡ true) (sym ((bytes_decides x (codes "define-judgment-form")).0 e)) head-defines
 
+-- a list of these parts is headed by this word
+abbrev pub begins_with : List ℕ → Option (List Sexp) → Bool
+begins_with x None = false
+begins_with x (Some []) = false
+begins_with x (Some (h ∷ ds)) = is_word x h
+
+-- without the head it has not the parts of a judgement
+pub no-judgement : (o : Option (List Sexp)) → begins_with (codes "define-judgment-form") o ≡ false → forms.judgement_among o ≡ None
+no-judgement None e = refl
+no-judgement (Some []) e = refl
+no-judgement (Some (h ∷ [])) e = refl
+no-judgement (Some (h ∷ l ∷ ds)) e =
+    ap (λ (b : Bool). if b && is_symbol l then Some (record { language = l; options = (forms.cut_options ds).0; rules = (forms.cut_options ds).1 }) else None) e
+
 by_head : (h : Sexp) (ds : List Sexp) → begins_with (codes "define-judgment-form") (Some (h ∷ ds)) ≡ true → is_one (kind_by_head h) ≡ true
 by_head (leaf (integer n) s) ds e = absurd cc
 by_head (leaf (truth b) s) ds e = absurd cc
@@ -67,11 +82,11 @@ by_items (Some (h ∷ ds)) e = by_head h ds e
 none-defined : (d : Sexp) (k : FormKind) → form_kind d ≡ k → is_one k ≡ false → defined_judgements d ≡ []
 none-defined d k e f = by_test (begins_with (codes "define-judgment-form") (parts d)) refl
   where
-    by_test : (b : Bool) → begins_with (codes "define-judgment-form") (parts d) ≡ b → (if b then judgement_moded (judgement_form d) else []) ≡ []
+    by_test : (b : Bool) → begins_with (codes "define-judgment-form") (parts d) ≡ b → defined_judgements d ≡ []
     by_test true g =
         let h : true ≡ false = sym (by_items (parts d) g) ∙ ap is_one e ∙ f in
         absurd cc
-    by_test false g = refl
+    by_test false g = ap judgement_moded (no-judgement (parts d) g)
 
 -- ---- the name of a judgement of the scope
 
@@ -142,9 +157,7 @@ by_form K (Some f) J x m e =
     only-judgement J (bytes_eq J.name x) (ap (λ (I : Judgement). bytes_eq I.name x) (sym g) ∙ named-by f (judgement_in f) x e)
 
 of_judgement : (K : Known) (d : Sexp) (J : Judgement) → defined_judgement K d ≡ Some J → IsOf d (judgement J)
-of_judgement K d J m y e =
-    by_form K (judgement_form d) J y m
-    (tested-mode (begins_with (codes "define-judgment-form") (parts d)) (judgement_moded (judgement_form d)) y e)
+of_judgement K d J m y e = by_form K (judgement_form d) J y m e
 
 by_kind : (K : Known) (d : Sexp) (k : FormKind) (x : Defined) → form_kind d ≡ k → definition_by_kind K d k ≡ Some x → IsOf d x
 by_kind K d (asks k) x e m = absurd cc

@@ -9,7 +9,7 @@ use Rattle.rdx_patterns.specs.Kinds.{is_among}
 use Rattle.rdx_patterns.specs.Parts.{listed, parts, is_symbol, is_word, text_of}
 use Rattle.rdx_patterns.specs.Readable.{IsReadable}
 use Rattle.rdx_relations.specs.Expansion.{replaced, replaced_in, by_shortcut, expanded_case, settled, expanded_by, used_shortcuts, expanded_cases, expanded_form}
-use Rattle.rdx_relations.specs.RelationForms.{CaseForm, case_among, case_form, RelationForm, is_keyword, relation_over, may_name, relation_among, relation_form}
+use Rattle.rdx_relations.specs.RelationForms.{CaseForm, case_among, case_form, RelationForm, is_keyword, relation_over, relation_among, relation_form}
 use Rattle.rdx_relations.specs.Shorthand.{before_with, behind_with, Shortcut, is_new_arrow, shortcut_among, shortcut_of_lists, shortcut_form, with_shortcut, shortcuts_of, first_of_each}
 use Rattle.rdx_relations.proofs.InheritedParts.{relation-has}
 use Rattle.rdx_relations.proofs.PartsOfForms.{Each, RelationHas, IsInherited}
@@ -382,7 +382,7 @@ module _ (Q : List ℕ → Type 0) where
   among-few n None h = tt
   among-few n (Some []) h = tt
   among-few n (Some (w ∷ [])) h = tt
-  among-few n (Some (w ∷ l ∷ ds)) h = by_test (may_name l)
+  among-few n (Some (w ∷ l ∷ ds)) h = by_test (is_word (codes "reduction-relation") w && is_symbol l)
     where
       by_test : (b : Bool) → FewCasesIn n (if b then Some (relation_over l ds) else None)
       by_test true = over-few n l ds (omega (arith, h))

@@ -39,7 +39,6 @@ use Rattle.rdx_patterns.specs.declared.shape.fault.DefKind.TheVariants.{Unbuilt,
 use Rattle.rdx_relations.specs.Expansion.{expanded_form}
 use Rattle.rdx_parts.specs.Headed.{Headed}
 use Rattle.rdx_relations.specs.Inside.FormOutlines.{domain_patterns}
-use Rattle.rdx_relations.specs.Inside.ExpandedAnswers.{expanded_refusal}
 use Rattle.rdx_defs.specs.JudgementForms.{judgement_form, judgement_in, mode_form, mode_given}
 use Rattle.rdx_defs.specs.MetafunctionForms.{metafunction_form, function_in}
 use Rattle.rdx_defs.specs.MetafunctionReading.{text_in}
@@ -54,7 +53,7 @@ use Rattle.rdx_relations.proofs.AskingParts.{AsksWithin, TakenWithin, within-inh
 use Rattle.rdx_relations.proofs.BareForms.{bare-relation}
 use Rattle.rdx_parts.proofs.BareChecks.{bad_names-bare}
 use Rattle.rdx_relations.proofs.BoundParts.{relation-binds}
-use Rattle.rdx_relations.proofs.FormRefusals.{relation-passed}
+use Rattle.rdx_relations.proofs.FormRefusals.{stands-passed}
 use Rattle.rdx_relations.proofs.InheritedParts.{relation_outline-has}
 use Rattle.rdx_relations.proofs.PartsOfForms.{Each, RelationHas}
 use Rattle.rdx_relations.proofs.PassedForms.{relation-valid}
@@ -384,7 +383,7 @@ module _ (n : ℕ) (K : Known) (V : AreValidSoFar n K) (d : Sexp) (depth : sexp_
         let small = relation-small (IsOwn d) q.body p.parts body-small few-nodes p.is_form in
         let h : RelationHas IsReadable f =
         record { domain = each-readable (domain_patterns f.domain) small.domain; cases = each-readable f.cases small.cases; language = small.language } in
-        let e : expanded_refusal S ns f ds ≡ None = ap (λ (o : Option RelationForm). stands_refusal S ns (relation_stands S ns q.body o)) (sym p.is_form) ∙ p.passes in
+        let e : stands_refusal S ns (expanded_stands S ns f ++ shortcuts_stand [] ds) ≡ None = ap (λ (o : Option RelationForm). stands_refusal S ns (relation_stands S ns q.body o)) (sym p.is_form) ∙ p.passes in
         let w = relation-valid S B f ds x h e in
         let named : relation_language q ≡ Some p.parts.language = ap (option_map (λ (y : RelationForm). y.language)) p.is_form in
         let u : unknown_at K (Some p.parts.language) ≡ None = ap (unknown_at K) (sym named) ∙ p.known in
@@ -392,7 +391,7 @@ module _ (n : ℕ) (K : Known) (V : AreValidSoFar n K) (d : Sexp) (depth : sexp_
         let over : language_named K.program R.language ≡ Some (crossed_for ys B) =
         ap (λ (T : Relation). language_named K.program T.language) (sym p.means) ∙ read-over K V.crossed p.parts.language ys u a
         ∙ ap (λ (o : Option Sexp). Some (crossed_for ys (named_base K o))) (sym named) in
-        let passed = relation-passed S ns f ds e in
+        let passed = stands-passed S ns (expanded_stands S ns f ++ shortcuts_stand [] ds) e in
         let bare : bad_names (bare_stands.relation_stands S f ds) ≡ [] =
         ap bad_names (sym (bare-relation S ns f ds)) ∙ bad_names-bare (expanded_stands S ns f ++ shortcuts_stand [] ds) ∙ passed.names in
         let outline = relation_outline-has (AsksWithin ys) (TakenWithin ys) (within-inherited ys) S f (relation-asks f h) in
