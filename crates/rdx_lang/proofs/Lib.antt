@@ -41,6 +41,7 @@ pub mod VariantLaws
 pub mod Nameless
 pub mod KnownCrosses
 pub mod KnownNonterminals
+pub mod FactLaws
 pub mod DefinedNonterminals
 pub mod NewCrosses
 pub mod LeftEdges

@@ -34,6 +34,7 @@ pub mod Ranks
 pub mod LeftNumbers
 pub mod Listing
 pub mod Names
+pub mod Facts
 pub mod Laws
 pub mod Examples
 pub mod RepetitionExamples

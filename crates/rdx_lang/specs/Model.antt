@@ -3,3 +3,4 @@ pub mod RankProps
 pub mod ValueOrder
 pub mod TotalOrders
 pub mod Places
+pub mod FactProps

@@ -1,13 +1,16 @@
 // Languages and patterns that have passed their checks.
 ghost use Rattle.std.proofs.Props.{props};
+ghost use Rattle.std.specs.Prelude.{IfSome};
+ghost use Rattle.rdx_lang.specs.Facts.{AreFacts};
 ghost use Rattle.rdx_lang.specs.PatternView.{language_of, ranks_of};
 ghost use Rattle.rdx_lang.specs.Ranks.{AreRanks};
+ghost use Rattle.rdx_lang.specs.Model.FactProps.{some-prop};
 ghost use Rattle.rdx_lang.specs.Model.RankProps.{AreRanks-prop};
 ghost use Rattle.rdx_lang.specs.WellFormed.{IsWellFormed};
 
 use crate::lookup::alternatives;
 use crate::well_formed::is_well_formed;
-use crate::{Language, Pat, Ranks, Ref};
+use crate::{Facts, Known, Language, Pat, Ranks, Ref};
 use rdx_term::NoMemory;
 use std::alloc::Global;
 
@@ -17,13 +20,16 @@ use std::alloc::Global;
 pub struct CheckedLang {
     language: Language,
     ranks: Ranks,
+    facts: Option<Facts>,
     pub ghost well_formed: { IsWellFormed (language_of language) } by { Prim.hlevel props },
     pub ghost ranked: { AreRanks (language_of language) (ranks_of ranks) } by { AreRanks-prop _ _ },
+    pub ghost known: { IfSome facts (λ f. AreFacts (language_of language) f) } by { some-prop _ _ },
 }
 
 impl CheckedLang {
-    ghost use Rattle.std.specs.Prelude.{◌≡◌};
+    ghost use Rattle.std.specs.Prelude.{◌≡◌, IfSome};
     ghost use Rattle.rdx_lang.specs.Checked.{language_in, ranks_in};
+    ghost use Rattle.rdx_lang.specs.Facts.{AreFacts, IsKnown};
     ghost use Rattle.rdx_lang.specs.Lookup.{alternatives_of};
     ghost use Rattle.rdx_lang.specs.PatternView.{patterns_of};
     ghost use Rattle.rdx_lang.specs.Rules.{AreAlternatives};
@@ -35,7 +41,11 @@ impl CheckedLang {
         ensures language { language_in result ≡ language_of language }
         ensures ranks { ranks_in result ≡ ranks_of ranks }
     {
-        CheckedLang { language, ranks }
+        CheckedLang {
+            language,
+            ranks,
+            facts: None,
+        }
     }
 
     /// The language itself.
@@ -62,6 +72,45 @@ impl CheckedLang {
         ensures ranked { AreRanks (language_in self.now) (ranks_in self.now) }
     {
         alternatives(&self.language, name)
+    }
+
+    /// The same language, of which these facts are kept.
+    pub fn know(self, facts: Facts) -> CheckedLang
+        requires { AreFacts (language_in self) facts }
+        ensures language { language_in result ≡ language_in self }
+        ensures ranks { ranks_in result ≡ ranks_in self }
+    {
+        CheckedLang {
+            language: self.language,
+            ranks: self.ranks,
+            facts: Some(facts),
+        }
+    }
+
+    /// What is known of the language, if anything is.
+    pub fn facts(&self) -> Option<&Facts>
+        ensures { IfSome result (λ f. AreFacts (language_in self.now) f.now) }
+    {
+        self.facts.as_ref()
+    }
+
+    /// The alternatives of a nonterminal, in their order, and what is known of it and of them, where
+    /// it stands at this place of the language and anything is known; `None` elsewhere.
+    pub fn nonterminal(&self, place: usize, name: &Ref) -> Option<(&[Pat], &Known)>
+        ensures same { IfSome result (λ r.
+            patterns_of r.0.now ≡ alternatives_of (language_in self.now) name.now) }
+        ensures all { IfSome result (λ r.
+            AreAlternatives (language_in self.now) name.now (patterns_of r.0.now)) }
+        ensures known { IfSome result (λ r.
+            IsKnown (language_in self.now) (name.now, patterns_of r.0.now) r.1.now) }
+    {
+        let known = self.facts.as_ref()?.nonterminals.get(place)?;
+        let (other, alternatives) = self.language.nts.get(place)?;
+        if name.same(other) {
+            Some((alternatives, known))
+        } else {
+            None
+        }
     }
 
     /// The language and its ranks, each by itself.

@@ -1,0 +1,45 @@
+// What patterns never do, as far as it is known.
+
+use rdx_term::Name;
+
+/// What a pattern may do: where one of these is false, it never does it.
+#[derive(Clone, Copy)]
+pub struct May {
+    /// It splits some term.
+    pub split: bool,
+    /// It matches a term that is no list.
+    pub atoms: bool,
+    /// It matches a list.
+    pub lists: bool,
+    /// It matches a term in which there is no hole.
+    pub solid: bool,
+    /// It has names.
+    pub bind: bool,
+}
+
+/// What is known of an alternative.
+#[derive(Drop)]
+pub struct Each {
+    /// What it may do.
+    pub may: May,
+    /// Where it is a nonterminal, the place of that one among those of the language: a hint.
+    pub to: Option<usize>,
+}
+
+/// What is known of a nonterminal.
+#[derive(Drop)]
+pub struct Known {
+    /// What it may do.
+    pub may: May,
+    /// What is known of each of its alternatives, in their order.
+    pub each: Vec<Each>,
+}
+
+/// What is known of a language.
+#[derive(Drop)]
+pub struct Facts {
+    /// What is known of each of its nonterminals, in their order.
+    pub nonterminals: Vec<Known>,
+    /// The symbols that it has as literals, where these were asked for.
+    pub mentioned: Option<Vec<Name>>,
+}
