@@ -1,0 +1,330 @@
+-- Where each nonterminal may do what its alternatives may, no pattern does what it may not.
+use Rattle.std.proofs.Common.{◌≡◌, ℕ, Bool, true, false, List, [], ◌∷◌, map, refl, sym, ap, ◌∙◌, subst, arith}
+use Rattle.std.proofs.lemmas.Bool.{and_parts, and_from, or_left, or_right, both_ways}
+use Rattle.std.specs.Prelude.{not, ◌&&◌, ◌||◌, Option, Some, None, is_some, nat_eq}
+use Rattle.rdx_term.proofs.Bare.{tree_holes-same_bare}
+use Rattle.rdx_term.specs.Bare.{bare}
+use Rattle.rdx_term.specs.Tree.{Tree, integer, truth, text, symbol, list, Trees, tree_holes, trees_holes}
+use Rattle.rdx_term.specs.Tree.{hole as the_hole}
+use Rattle.rdx_lang.specs.Bindings.{Binding}
+use Rattle.rdx_lang.specs.Facts.{is_list, IsAtMost, AreEach, AreKnown}
+use Rattle.rdx_lang.specs.Members.{In, here, there}
+use Rattle.rdx_lang.specs.Names.{names, item_names, add_names, with_length_name}
+use Rattle.rdx_lang.specs.Patterns.{Pattern, wild, of_kind, except, prefix, hole, lit, nt, named, in_hole, hide_hole, closed, seq, Items, nil, one, many, Definition, Language}
+use Rattle.rdx_lang.specs.Rules.{Match, MatchItems, MatchRun, match_wild, match_kind, match_except, match_prefix, match_hole, match_lit, match_nt, match_named, match_in_hole, match_hide_hole, match_closed, match_seq, match_none, match_one, match_many, run_end, run_more, is_of_kind, IsAlternative}
+use Rattle.rdx_lang.specs.Rules.{Split, SplitItems, SplitRun, split_hole, split_nt, split_named, split_in_hole, split_closed, split_seq, split_here, split_behind, split_many, run_here, run_there, run_behind}
+use Rattle.rdx_lang.specs.declared.facts.Each.{Each}
+use Rattle.rdx_lang.specs.declared.facts.Known.{Known}
+use Rattle.rdx_lang.specs.declared.facts.May.{May}
+use Rattle.rdx_lang.specs.declared.pattern.Kind.{Kind}
+use Rattle.rdx_lang.specs.declared.pattern.Kind.TheVariants.{Any, Number, Natural, Integer, Real, Text, Boolean, Variable, Unmentioned}
+use Rattle.rdx_lang.specs.declared.pattern.Ref.{Ref}
+use Rattle.rdx_facts.specs.Inside.Flags.{atoms, kind_may, literal, filled, empty, with_one, with_many, may_of, items_may, is_within, are_within, is_closed, mays, flags_of, flags_by}
+use Rattle.rdx_facts.proofs.Parts.{part-solid, part-same}
+
+-- ---- flags
+
+-- what m says, where a term is matched
+pub record Fits (m : May) (t : Tree) : Type 0 where
+  pub atoms : is_list t ≡ false → m.atoms ≡ true
+  pub lists : is_list t ≡ true → m.lists ≡ true
+  pub solid : tree_holes t ≡ 0 → m.solid ≡ true
+
+-- what is so of the first of two tests is so of the second
+leads : (a b : Bool) → (not a || b) ≡ true → a ≡ true → b ≡ true
+leads true b h e = h
+leads false b h e = absurd cc
+
+-- the tests of which `is_within` consists
+record Within (m k : May) : Type 0 where
+  pub split : m.split ≡ true → k.split ≡ true
+  pub atoms : m.atoms ≡ true → k.atoms ≡ true
+  pub lists : m.lists ≡ true → k.lists ≡ true
+  pub solid : m.solid ≡ true → k.solid ≡ true
+
+within-tests : (m k : May) → is_within m k ≡ true → Within m k
+within-tests m k h =
+    let a = and_parts ((not m.split || k.split) && (not m.atoms || k.atoms) && (not m.lists || k.lists)) (not m.solid || k.solid) h in
+    let b = and_parts ((not m.split || k.split) && (not m.atoms || k.atoms)) (not m.lists || k.lists) a.0 in
+    let c = and_parts (not m.split || k.split) (not m.atoms || k.atoms) b.0 in
+    record {
+      split = leads m.split k.split c.0;
+      atoms = leads m.atoms k.atoms c.1;
+      lists = leads m.lists k.lists b.1;
+      solid = leads m.solid k.solid a.1;
+    }
+
+-- what fits fits what may do more
+fits-within : (m k : May) (t : Tree) → Within m k → Fits m t → Fits k t
+fits-within m k t w f = record {
+  atoms = λ h. w.atoms (f.atoms h);
+  lists = λ h. w.lists (f.lists h);
+  solid = λ h. w.solid (f.solid h);
+}
+
+-- each term fits where all may be matched
+fits-anything : (m : May) (t : Tree) → m.atoms ≡ true → m.lists ≡ true → m.solid ≡ true → Fits m t
+fits-anything m t a l s = record { atoms = λ h. a; lists = λ h. l; solid = λ h. s }
+
+-- atoms fit where these may be matched
+fits-atoms : (t : Tree) → is_list t ≡ false → Fits atoms t
+fits-atoms t f = record { atoms = λ h. refl; lists = λ h. absurd (both_ways (is_list t) f h); solid = λ h. refl }
+
+-- each built-in name stands for atoms
+kind-atoms : (k : Kind) → ((kind_may k).atoms ≡ true) × ((kind_may k).solid ≡ true)
+kind-atoms Any = (refl, refl)
+kind-atoms Number = (refl, refl)
+kind-atoms Natural = (refl, refl)
+kind-atoms Integer = (refl, refl)
+kind-atoms Real = (refl, refl)
+kind-atoms Text = (refl, refl)
+kind-atoms Boolean = (refl, refl)
+kind-atoms Variable = (refl, refl)
+kind-atoms Unmentioned = (refl, refl)
+
+-- only one stands for lists
+kind-list : (L : Language) (k : Kind) (m : Option ℕ) (ts : Trees) → is_of_kind L k (list m ts) ≡ true → (kind_may k).lists ≡ true
+kind-list L Any m ts h = refl
+kind-list L Number m ts h = absurd cc
+kind-list L Natural m ts h = absurd cc
+kind-list L Integer m ts h = absurd cc
+kind-list L Real m ts h = absurd cc
+kind-list L Text m ts h = absurd cc
+kind-list L Boolean m ts h = absurd cc
+kind-list L Variable m ts h = absurd cc
+kind-list L Unmentioned m ts h = absurd cc
+
+kind-lists : (L : Language) (k : Kind) (t : Tree) → is_of_kind L k t ≡ true → is_list t ≡ true → (kind_may k).lists ≡ true
+kind-lists L k the_hole h e = absurd cc
+kind-lists L k (integer z) h e = absurd cc
+kind-lists L k (truth b) h e = absurd cc
+kind-lists L k (text s) h e = absurd cc
+kind-lists L k (symbol s) h e = absurd cc
+kind-lists L k (list m ts) h e = kind-list L k m ts h
+
+-- what a built-in name stands for fits
+kind-fits : (L : Language) (k : Kind) (t : Tree) → is_of_kind L k t ≡ true → Fits (kind_may k) t
+kind-fits L k t h = record { atoms = λ e. (kind-atoms k).0; lists = λ e. kind-lists L k t h e; solid = λ e. (kind-atoms k).1 }
+
+-- marks don't make lists
+bare-list : (t : Tree) → is_list (bare t) ≡ is_list t
+bare-list the_hole = refl
+bare-list (integer z) = refl
+bare-list (truth b) = refl
+bare-list (text s) = refl
+bare-list (symbol s) = refl
+bare-list (list m ts) = refl
+
+-- what a literal matches fits
+literal-fits : (u t : Tree) → bare t ≡ bare u → Fits (literal u) t
+literal-fits u t e =
+    let l : is_list t ≡ is_list u = sym (bare-list t) ∙ ap is_list e ∙ bare-list u in
+    record {
+      atoms = λ h. ap not (sym l ∙ h);
+      lists = λ h. sym l ∙ h;
+      solid = λ h. ap (λ n. nat_eq n 0) (sym (tree_holes-same_bare t u e) ∙ h);
+    }
+
+-- what is filled fits, where the part does: in a term without a hole it has none, and in what is no list it is all
+filled-fits : (l r : May) (t u : Tree) → l.split ≡ true → (tree_holes t ≡ 0 → tree_holes u ≡ 0) → (is_list t ≡ false → u ≡ t) → Fits r u → Fits (filled l r) t
+filled-fits l r t u s solid same f = record {
+  atoms = λ h. and_from l.split r.atoms s (f.atoms (ap is_list (same h) ∙ h));
+  lists = λ h. and_from l.split (r.atoms || r.lists) s (either (is_list u) refl);
+  solid = λ h. and_from l.split r.solid s (f.solid (solid h));
+}
+  where
+    either : (b : Bool) → is_list u ≡ b → (r.atoms || r.lists) ≡ true
+    either true e = or_right r.atoms r.lists (f.lists e)
+    either false e = or_left r.atoms r.lists (f.atoms e)
+
+-- ---- items
+
+module _ (E : Ref → May) where
+  -- more items take no split away
+  split-stays : (ps : Items) (m : May) → m.split ≡ true → (items_may E m ps).split ≡ true
+  split-stays nil m h = h
+  split-stays (one p ps) m h = split-stays ps (with_one m (may_of E p)) (or_left m.split (may_of E p).split h)
+  split-stays (many p n ps) m h =
+      split-stays ps (with_many m (may_of E p) (is_some n)) (or_left m.split (may_of E p).split h)
+
+  -- they leave it a list
+  lists-stay : (ps : Items) (m : May) → m.lists ≡ true → (items_may E m ps).lists ≡ true
+  lists-stay nil m h = h
+  lists-stay (one p ps) m h = lists-stay ps (with_one m (may_of E p)) refl
+  lists-stay (many p n ps) m h = lists-stay ps (with_many m (may_of E p) (is_some n)) refl
+
+  -- ---- names
+
+  -- both are false where either is not
+  neither : (a b : Bool) → (a || b) ≡ false → (a ≡ false) × (b ≡ false)
+  neither true b h = absurd cc
+  neither false b h = (refl, h)
+
+  -- what is not counted has no length name
+  no_length : (n : Option (List ℕ)) → is_some n ≡ false → with_length_name n [] ≡ []
+  no_length None h = refl
+  no_length (Some x) h = absurd cc
+
+  mutual
+    -- what may bind nothing has no names
+    pub bind-sound : (p : Pattern) → (may_of E p).bind ≡ false → names p ≡ []
+    bind-sound wild h = refl
+    bind-sound (of_kind k) h = refl
+    bind-sound (except rs) h = refl
+    bind-sound (prefix r) h = refl
+    bind-sound hole h = refl
+    bind-sound (lit u) h = refl
+    bind-sound (nt x) h = refl
+    bind-sound (named x q) h = absurd cc
+    bind-sound (in_hole q r) h =
+        let k = neither (may_of E q).bind (may_of E r).bind h in (λ i. add_names (bind-sound q k.0 i) (bind-sound r k.1 i))
+    bind-sound (hide_hole q) h = bind-sound q h
+    bind-sound (closed q) h = refl
+    bind-sound (seq ps) h = (items-bind ps empty h).1
+
+    -- nor have items that add none
+    items-bind : (ps : Items) (m : May) → (items_may E m ps).bind ≡ false → (m.bind ≡ false) × (item_names ps ≡ [])
+    items-bind nil m h = (h, refl)
+    items-bind (one p ps) m h =
+        let k = items-bind ps (with_one m (may_of E p)) h in
+        let j = neither m.bind (may_of E p).bind k.0 in
+        (j.0, λ i. add_names (bind-sound p j.1 i) (k.1 i))
+    items-bind (many p n ps) m h =
+        let k = items-bind ps (with_many m (may_of E p) (is_some n)) h in
+        let j = neither m.bind ((may_of E p).bind || is_some n) k.0 in
+        let g = neither (may_of E p).bind (is_some n) j.1 in
+        (j.0, λ i. add_names ((ap (with_length_name n) (bind-sound p g.0) ∙ no_length n g.1) i) (k.1 i))
+
+-- ---- derivations
+
+module _ (L : Language) (E : Ref → May) (all : (x : Ref) (p : Pattern) → IsAlternative L x p → is_within (may_of E p) (E x) ≡ true) where
+  mutual
+    -- what splits a term may split
+    pub split-sound : {p : Pattern} {t C s : Tree} {b : Binding} → Split L p t C s b → (may_of E p).split ≡ true
+    split-sound split_hole = refl
+    split-sound (split_nt {x = x} {p = p} a h) = (within-tests (may_of E p) (E x) (all x p a)).split (split-sound h)
+    split-sound (split_named h j) = split-sound h
+    split-sound (split_in_hole {q = q} {r = r} h g e j) =
+        and_from (may_of E q).split (may_of E r).split (split-sound h) (split-sound g)
+    split-sound (split_closed h) = split-sound h
+    split-sound (split_seq h e) = split_items-sound h empty
+
+    split_items-sound : {ps : Items} {ts : Trees} {k : ℕ} {D s : Tree} {b : Binding} → SplitItems L ps ts k D s b
+        → (m : May) → (items_may E m ps).split ≡ true
+    split_items-sound (split_here {p = p} {ps = ps} h g j) m =
+        split-stays E ps (with_one m (may_of E p)) (or_right m.split (may_of E p).split (split-sound h))
+    split_items-sound (split_behind {p = p} {ps = ps} h g j) m = split_items-sound g (with_one m (may_of E p))
+    split_items-sound (split_many {p = p} {n = n} {ps = ps} h r j) m =
+        split_run-sound h (with_many m (may_of E p) (is_some n)) (λ e. or_right m.split (may_of E p).split e)
+
+    split_run-sound : {p : Pattern} {ps : Items} {ts : Trees} {k : ℕ} {D s : Tree} {cs : List Binding} {d : Binding} → SplitRun L p ps ts k D s cs d
+        → (m : May) → ((may_of E p).split ≡ true → m.split ≡ true) → (items_may E m ps).split ≡ true
+    split_run-sound (run_here {ps = ps} h r) m f = split-stays E ps m (f (split-sound h))
+    split_run-sound (run_there h r) m f = split_run-sound r m f
+    split_run-sound (run_behind h) m f = split_items-sound h m
+
+  mutual
+    -- what is matched may be matched
+    pub match-sound : {p : Pattern} {t : Tree} {b : Binding} → Match L p t b → Fits (may_of E p) t
+    match-sound (match_wild {t = t}) = fits-anything (may_of E wild) t refl refl refl
+    match-sound (match_kind {k = k} {t = t} h) = kind-fits L k t h
+    match-sound (match_except {s = s} h) = fits-atoms (symbol s) refl
+    match-sound (match_prefix {s = s} h) = fits-atoms (symbol s) refl
+    match-sound match_hole = record { atoms = λ h. refl; lists = λ h. absurd cc; solid = λ h. absurd (omega arith) }
+    match-sound (match_lit {u = u} {t = t} e) = literal-fits u t e
+    match-sound (match_nt {x = x} {p = p} {t = t} a h) =
+        fits-within (may_of E p) (E x) t (within-tests (may_of E p) (E x) (all x p a)) (match-sound h)
+    match-sound (match_named h j) =
+        let f = match-sound h in record { atoms = f.atoms; lists = f.lists; solid = f.solid }
+    match-sound (match_in_hole {q = q} {r = r} {t = t} {u = u} h g j) =
+        filled-fits (may_of E q) (may_of E r) t u (split-sound h) (part-solid h) (part-same h) (match-sound g)
+    match-sound (match_hide_hole h) =
+        let f = match-sound h in record { atoms = f.atoms; lists = f.lists; solid = f.solid }
+    match-sound (match_closed h) =
+        let f = match-sound h in record { atoms = f.atoms; lists = f.lists; solid = f.solid }
+    match-sound (match_seq {ps = ps} h) =
+        record { atoms = λ e. absurd cc; lists = λ e. lists-stay E ps empty refl; solid = λ z. items-sound h empty refl z }
+
+    items-sound : {ps : Items} {ts : Trees} {b : Binding} → MatchItems L ps ts b
+        → (m : May) → m.solid ≡ true → trees_holes ts ≡ 0 → (items_may E m ps).solid ≡ true
+    items-sound match_none m s z = s
+    items-sound (match_one {p = p} {t = t} {ts = ts} h g j) m s z =
+        let y : tree_holes t ≡ 0 = omega arith in
+        let x : trees_holes ts ≡ 0 = omega arith in
+        items-sound g (with_one m (may_of E p)) (and_from m.solid (may_of E p).solid s ((match-sound h).solid y)) x
+    items-sound (match_many {p = p} {n = n} h r j) m s z = run-sound h (with_many m (may_of E p) (is_some n)) s z
+
+    run-sound : {p : Pattern} {ps : Items} {ts : Trees} {cs : List Binding} {d : Binding} → MatchRun L p ps ts cs d
+        → (m : May) → m.solid ≡ true → trees_holes ts ≡ 0 → (items_may E m ps).solid ≡ true
+    run-sound (run_end h) m s z = items-sound h m s z
+    run-sound (run_more {t = t} {ts = ts} h r) m s z = let x : trees_holes ts ≡ 0 = omega arith in run-sound r m s x
+
+  -- ---- facts
+
+  -- what a pattern may not do it never does
+  pub at_most : (p : Pattern) → IsAtMost L (may_of E p) p
+  at_most p = record {
+    split = λ f t C s b h. both_ways (may_of E p).split f (split-sound h);
+    atoms = λ f t b h. by_list (is_list t) (λ e. both_ways (may_of E p).atoms f ((match-sound h).atoms e));
+    lists = λ f t b h. by_atom (is_list t) (λ e. both_ways (may_of E p).lists f ((match-sound h).lists e));
+    solid = λ f t b h z. both_ways (may_of E p).solid f ((match-sound h).solid z);
+    bind = λ f. bind-sound E p f;
+  }
+    where
+      by_list : (b : Bool) → (b ≡ false → ⊥) → b ≡ true
+      by_list true f = refl
+      by_list false f = absurd (f refl)
+
+      by_atom : (b : Bool) → (b ≡ true → ⊥) → b ≡ false
+      by_atom true f = absurd (f refl)
+      by_atom false f = refl
+
+  -- nor do alternatives
+  pub each-known : (ps : List Pattern) (es : List Each) → mays es ≡ map (λ p. may_of E p) ps → AreEach L ps es
+  each-known [] [] h = tt
+  each-known [] (e ∷ es) h = absurd cc
+  each-known (p ∷ ps) [] h = absurd cc
+  each-known (p ∷ ps) (e ∷ es) h =
+      let f : e.may ≡ may_of E p = cc in
+      let g : mays es ≡ map (λ q. may_of E q) ps = cc in
+      (subst (λ (m : May). IsAtMost L m p) (sym f) (at_most p), each-known ps es g)
+
+  -- nor do nonterminals
+  pub all-known : (ds : List Definition) (ks : List Known) → map flags_of ks ≡ map (λ d. flags_by E d) ds → AreKnown L ds ks
+  all-known [] [] h = tt
+  all-known [] (k ∷ ks) h = absurd cc
+  all-known (d ∷ ds) [] h = absurd cc
+  all-known (d ∷ ds) (k ∷ ks) h =
+      let e : flags_of k ≡ flags_by E d = cc in
+      let g : map flags_of ks ≡ map (λ c. flags_by E c) ds = cc in
+      let f : k.may ≡ E d.0 = ap (λ (w : May × List May). w.0) e in (
+        record {
+          whole = subst (λ (m : May). IsAtMost L m (nt d.0)) (sym f) (at_most (nt d.0));
+          each = each-known d.1 k.each.items (ap (λ (w : May × List May). w.1) e);
+        },
+        all-known ds ks g,
+      )
+
+-- ---- what was tested
+
+module _ (E : Ref → May) where
+  -- of each of the patterns
+  pattern-within : (ps : List Pattern) (k : May) (p : Pattern) → are_within E ps k ≡ true → In p ps → is_within (may_of E p) k ≡ true
+  pattern-within [] k p h i = elim i [ ]
+  pattern-within (q ∷ ps) k p h (here e) =
+      ap (λ (r : Pattern). is_within (may_of E r) k) e ∙ (and_parts (is_within (may_of E q) k) (are_within E ps k) h).0
+  pattern-within (q ∷ ps) k p h (there i) =
+      pattern-within ps k p (and_parts (is_within (may_of E q) k) (are_within E ps k) h).1 i
+
+  -- of those of each of the definitions
+  definition-within : (ds : List Definition) (x : Ref) (ps : List Pattern) → is_closed E ds ≡ true → In (x, ps) ds → are_within E ps (E x) ≡ true
+  definition-within [] x ps h i = elim i [ ]
+  definition-within (d ∷ ds) x ps h (here e) =
+      ap (λ (c : Definition). are_within E c.1 (E c.0)) e ∙ (and_parts (are_within E d.1 (E d.0)) (is_closed E ds) h).0
+  definition-within (d ∷ ds) x ps h (there i) =
+      definition-within ds x ps (and_parts (are_within E d.1 (E d.0)) (is_closed E ds) h).1 i
+
+  -- of each alternative
+  pub closed-within : (L : Language) → is_closed E L.nonterminals ≡ true
+      → (x : Ref) (p : Pattern) → IsAlternative L x p → is_within (may_of E p) (E x) ≡ true
+  closed-within L h x p a = pattern-within a.all (E x) p (definition-within L.nonterminals x a.all h a.defined) a.among
