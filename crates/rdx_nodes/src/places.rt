@@ -11,6 +11,9 @@ use rdx_term::NoMemory;
 use std::alloc::Global;
 use std::collections::BTreeMap;
 
+/// So many nonterminals are found sooner one by one than by their places.
+pub const FEW: usize = 16;
+
 // What nonterminals are put in order by: the text of a name, or the two of contexts.
 fn key(name: &Ref) -> (&str, &str) {
     match name {
@@ -35,8 +38,8 @@ fn in_order(alloc: Global, nts: &[(Ref, Vec<Pat>)]) -> Result<Vec<usize>, NoMemo
     Ok(places)
 }
 
-// The place that is found for the nonterminal among places in the order of their keys.
-fn place_of(nts: &[(Ref, Vec<Pat>)], places: &[usize], name: &Ref) -> Option<usize> {
+/// The place that is found for the nonterminal among places in the order of their keys: a hint.
+pub fn place_of(nts: &[(Ref, Vec<Pat>)], places: &[usize], name: &Ref) -> Option<usize> {
     let sought = Some(key(name));
     let found = places.binary_search_by_key(&sought, |place| key_at(nts, *place));
     Some(places[found.ok()?])
@@ -57,17 +60,15 @@ fn defined_at<'a>(nts: &'a [(Ref, Vec<Pat>)], place: usize, name: &Ref) -> Optio
 
 /// The alternatives of a nonterminal; none where it isn't defined. Where the places don't lead to
 /// it, they are sought along the whole language.
-pub(crate) fn alternatives_at<'a>(
-    language: &'a CheckedLang,
-    places: &[usize],
-    name: &Ref,
-) -> &'a [Pat]
+pub fn alternatives_at<'a>(language: &'a CheckedLang, places: &[usize], name: &Ref) -> &'a [Pat]
     ensures { AreAlternatives (language_in language.now) name.now (patterns_of result.now) }
 {
     let nts = &language.language().nts;
-    if let Some(place) = place_of(nts, places, name) {
-        if let Some(alternatives) = defined_at(nts, place, name) {
-            return alternatives;
+    if nts.len() > FEW {
+        if let Some(place) = place_of(nts, places, name) {
+            if let Some(alternatives) = defined_at(nts, place, name) {
+                return alternatives;
+            }
         }
     }
     language.alternatives(name)
@@ -89,9 +90,9 @@ impl Places {
     }
 
     /// Has a language seen. Its places are put in order where there are none for its name, or those
-    /// of another number of nonterminals.
+    /// of another number of nonterminals, and they are not few.
     pub fn see(&mut self, alloc: Global, language: &Language) -> Result<(), NoMemory> {
-        if self.of(language).len() != language.nts.len() {
+        if language.nts.len() > FEW && self.of(language).len() != language.nts.len() {
             let places = in_order(alloc, &language.nts)?;
             let name = String::from_str(alloc, language.name.text())?;
             self.by_language.insert(name, places)?;
@@ -99,8 +100,11 @@ impl Places {
         Ok(())
     }
 
-    /// The places that are kept for a language of this name.
+    /// The places that are kept for a language of this name; none where its nonterminals are few.
     pub fn of(&self, language: &Language) -> &[usize] {
+        if language.nts.len() <= FEW {
+            return &[];
+        }
         match self.by_language.get(language.name.text()) {
             Some(places) => places,
             None => &[],

@@ -13,6 +13,7 @@ use crate::solve::solve;
 use crate::task::Goal;
 use rdx_bind::listing;
 use rdx_bind::rows::Row;
+use rdx_direct::try_matches;
 use rdx_lang::{Binding, CheckedLang, CheckedPat, Matcher, Split};
 use rdx_nodes::interned::Interned;
 use rdx_nodes::places::Places;
@@ -21,13 +22,14 @@ use rdx_nodes::splitting::sorted_splits;
 use rdx_term::{NoMemory, Term};
 use std::alloc::Global;
 
-/// A matcher that works out each pattern at each term once, and keeps what is pending on a stack
-/// in memory. It holds the ids of the last term's parts, for a call with the same term, and where
-/// the nonterminals of the languages stand that it was called with.
+/// A matcher that walks over pattern and term where that answers, and else works out each pattern at
+/// each term once, and keeps what is pending on a stack in memory. It holds the ids of the parts of
+/// the last term that was worked out so, for a call with the same term, and where the nonterminals of
+/// the languages stand that it was called with.
 #[derive(Drop)]
 pub struct Table {
     alloc: Global,
-    // The term of the last call, if memory sufficed for its row.
+    // The last term that was worked out, if memory sufficed for its row.
     last: Option<Interned>,
     // Where the nonterminals of the languages stand that were seen so far.
     places: Places,
@@ -94,6 +96,11 @@ impl Matcher for Table {
         pat: &CheckedPat,
         t: &Term,
     ) -> Result<Vec<Binding>, NoMemory> {
+        self.places.see(self.alloc, language.language())?;
+        let places = self.places.of(language.language());
+        if let Some(found) = try_matches(self.alloc, language, places, pat, t)? {
+            return Ok(found);
+        }
         let row = self.row(language, pat, t, false)?;
         listing(self.alloc, row.matches)
     }

@@ -1,0 +1,10 @@
+pub mod GoingLaws
+pub mod ItemLaws
+pub mod PlainLaws
+pub mod SplitLaws
+pub mod InHoleLaws
+pub mod RunLaws
+pub mod TogetherLaws
+pub mod ReachLaws
+pub mod MayLaws
+pub mod KnownLaws

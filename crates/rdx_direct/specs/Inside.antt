@@ -1,0 +1,4 @@
+pub mod Going
+pub mod Together
+pub mod Reaching
+pub mod Known
