@@ -7,6 +7,7 @@ ghost use Rattle.rdx_query.specs.Views.{IsFileFault};
 
 use crate::forms::read_form;
 use rdx_answer::CheckedFile;
+use rdx_facts::with_facts;
 use rdx_forms::nothing_known;
 use rdx_patterns::DefFault;
 use rdx_sexp::Datum;
@@ -24,8 +25,6 @@ pub fn check_file(alloc: Global, forms: &[Datum]) -> Result<CheckedFile, DefFaul
     for form in forms {
         read_form(alloc, &mut known, &mut queries, form)?;
     }
-    Ok(CheckedFile {
-        program: known.program,
-        queries,
-    })
+    let program = with_facts(alloc, known.program)?;
+    Ok(CheckedFile { program, queries })
 }

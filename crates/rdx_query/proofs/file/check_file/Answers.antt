@@ -1,5 +1,6 @@
 use Rattle.std.proofs.Common.{[], map, refl, sym, subst, arith}
 use Rattle.std.proofs.lemmas.Result.{err_from_is_err_and}
+use Rattle.rdx_lang.specs.Programs.{Program}
 use Rattle.rdx_defs.specs.Scopes.{languages_in, scope_in}
 use Rattle.rdx_forms.specs.Ends.{file_ends}
 use Rattle.rdx_forms.specs.Before.{known_before}
@@ -7,6 +8,7 @@ use Rattle.rdx_forms.specs.Fitting.{IsFitting}
 use Rattle.rdx_forms.specs.KnownView.{known_of}
 use Rattle.rdx_forms.specs.Known.{Known}
 use Rattle.rdx_answer.specs.Views.{query_of}
+use Rattle.rdx_query.specs.File.{IsFile}
 use Rattle.rdx_query.proofs.FileRead.{SoFar, so_far-start, so_far-next, so_far-fault, so_far-end, file-named, form-readable, form-ends-among}
 use Rattle.rdx_query.proofs.FittingKnown.{fitting-nothing}
 use Rattle.rdx_query.proofs.file.check_file.Goals as goal
@@ -37,12 +39,14 @@ loop-form-preserved c = (
 
 pub returns-clause-accepted : goal.returns-clause-accepted
 returns-clause-accepted c =
-    so_far-end c.args.forms.now c.loop-form.form-index (known_of c.loop-form.known) (map query_of c.loop-form.queries.items) (omega arith) c.loop-form.invariant.0
+    subst (λ (P : Program). IsFile c.args.forms.now P (map query_of c.loop-form.queries.items)) (sym c.in_ok-program.ensures)
+    (so_far-end c.args.forms.now c.loop-form.form-index (known_of c.loop-form.known) (map query_of c.loop-form.queries.items) (omega arith) c.loop-form.invariant.0)
 
 pub returns-clause-named : goal.returns-clause-named
 returns-clause-named c =
     file-named c.args.forms.now _ (map query_of c.loop-form.queries.items)
-    (so_far-end c.args.forms.now c.loop-form.form-index (known_of c.loop-form.known) (map query_of c.loop-form.queries.items) (omega arith) c.loop-form.invariant.0)
+    (subst (λ (P : Program). IsFile c.args.forms.now P (map query_of c.loop-form.queries.items)) (sym c.in_ok-program.ensures)
+    (so_far-end c.args.forms.now c.loop-form.form-index (known_of c.loop-form.known) (map query_of c.loop-form.queries.items) (omega arith) c.loop-form.invariant.0))
 
 pub loop-form-init : goal.loop-form-init
 loop-form-init c =
