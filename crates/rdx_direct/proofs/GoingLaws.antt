@@ -1,5 +1,5 @@
 -- What a walk makes of bindings: nothing where a part has no match, the same where it binds nothing, and in two steps what both bind.
-use Rattle.std.proofs.Common.{◌≡◌, ◌∙◌, ◌≤◌, Bool as Truth, true, false, IsTrue, IsFalse, if◌then◌else◌, List, [], ◌∷◌, length, map, drop, ℕ, zero, suc, nat_eq, nat_le, refl, sym, subst, arith}
+use Rattle.std.proofs.Common.{◌≡◌, ◌∙◌, ◌≤◌, inl, inr, Bool as Truth, true, false, IsTrue, IsFalse, if◌then◌else◌, List, [], ◌∷◌, length, map, drop, ℕ, zero, suc, nat_eq, nat_le, refl, sym, subst, arith}
 use Rattle.std.proofs.lemmas.Bool.Decides.{nat_tests}
 use Rattle.rdx_lang.proofs.Rest.{rest_none}
 use Rattle.std.specs.Prelude.{◌↔◌, not}
@@ -11,7 +11,7 @@ use Rattle.rdx_lang.proofs.NameLaws.{match-ascends}
 use Rattle.rdx_lang.proofs.RuleSteps.{nt_inside, named_inside, hide_hole_inside, closed_inside}
 use Rattle.rdx_lang.specs.Bindings.{Binding, no_names, one_name, HasAscendingNames}
 use Rattle.rdx_lang.specs.Bindings.{one as one_term}
-use Rattle.rdx_lang.specs.Collecting.{HasExactly}
+use Rattle.rdx_lang.specs.Collecting.{Adds, HasExactly}
 use Rattle.rdx_lang.specs.Join.{IsJoin}
 use Rattle.rdx_lang.specs.Listing.{IsListing, Matches}
 use Rattle.rdx_lang.specs.Members.{In, here}
@@ -250,3 +250,10 @@ rest_done f xs i n e h = rest_none f xs i (grind (arith, nat_tests))
 
 pub rest_more : {A B : Type 0} (f : A → B) (xs : List A) (i n : ℕ) → i ≡ n → IsFalse (nat_le (length xs) n) → map f (drop i xs) ≡ [] → ⊥
 rest_more f xs i n e h k = let l : length xs ≤ i = rest_left f xs i k in absurd (grind (arith, nat_tests))
+
+-- what comes of one binding alone
+pub only_joined : (d g : Binding) (gs old new : List Binding) → gs ≡ g ∷ [] → old ≡ [] → Adds (IsJoin g d) old new → HasExactly new (Joins d gs)
+only_joined d g gs old new e z a = record {
+  sound = λ b i. elim ((a b).0 i) [ inl o ↦ no_member (In_along old [] z o) | inr j ↦ record { from = g; among = In_along (g ∷ []) gs (sym e) (here refl); by = j } ];
+  complete = λ b k. (a b).1 (inr (subst (λ h. IsJoin h d b) (only (In_along gs (g ∷ []) e k.among)) k.by));
+}

@@ -1,19 +1,18 @@
 -- What follows from what is known of nonterminals and of their alternatives.
-use Rattle.std.proofs.Common.{arith, ◌≡◌, ◌<◌, ◌≢◌, ℕ, zero, suc, Bool as Truth, true, false, IsTrue, IsFalse, List, [], ◌∷◌, length, get_or, drop, refl, sym, ◌∙◌, ap, subst}
+use Rattle.std.proofs.Common.{arith, ◌≡◌, ◌<◌, ℕ, zero, suc, Bool as Truth, IsTrue, IsFalse, List, [], ◌∷◌, length, get_or, drop, sym, ◌∙◌, ap, subst}
 use Rattle.std.specs.Prelude.{◌↔◌}
 use Rattle.rdx_term.specs.Tree.{Tree, tree_holes}
 use Rattle.rdx_lang.proofs.RuleSteps.{nt_inside}
-use Rattle.rdx_lang.specs.Bindings.{Binding}
 use Rattle.rdx_lang.specs.Facts.{AreEach, IsAtMost, is_list}
 use Rattle.rdx_lang.specs.Members.{In}
 use Rattle.rdx_lang.specs.Patterns.{Pattern, Language, nt}
 use Rattle.rdx_lang.specs.PatternView.{pattern_of, patterns_of}
-use Rattle.rdx_lang.specs.Rules.{AreAlternatives, Match, match_nt}
+use Rattle.rdx_lang.specs.Rules.{AreAlternatives, match_nt}
 use Rattle.rdx_lang.specs.declared.facts.Each.{Each}
 use Rattle.rdx_lang.specs.declared.facts.May.{May}
 use Rattle.rdx_lang.specs.declared.pattern.Pat.{Pat}
 use Rattle.rdx_lang.specs.declared.pattern.Ref.{Ref}
-use Rattle.rdx_bind.specs.Searching.{AnyMatches, MatchesNone, SplitsNone}
+use Rattle.rdx_bind.specs.Searching.{AnyMatches, MatchesNone}
 use Rattle.rdx_direct.specs.declared.choices.Hint.{Hint}
 use Rattle.rdx_direct.specs.Inside.Going.{Fits}
 use Rattle.rdx_direct.specs.Inside.Known.{IsHint}

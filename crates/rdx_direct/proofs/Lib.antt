@@ -8,3 +8,7 @@ pub mod TogetherLaws
 pub mod ReachLaws
 pub mod MayLaws
 pub mod KnownLaws
+pub mod WantedLaws
+pub mod PathLaws
+pub mod Neighbours
+pub mod SplitsInto

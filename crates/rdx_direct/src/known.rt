@@ -1,5 +1,6 @@
 // What is known of nonterminals and of their alternatives, as the facts of a language tell.
-ghost use Rattle.std.specs.Prelude.{IfSome, IsTrue, drop, map};
+ghost use Rattle.std.specs.Prelude.{◌≡◌, IfSome, IsTrue, bytes_eq, drop, map};
+ghost use Rattle.rdx_lang.specs.References as references;
 ghost use Rattle.rdx_term.specs.View.{tree_of};
 ghost use Rattle.rdx_lang.specs.Checked.{language_in};
 ghost use Rattle.rdx_lang.specs.Facts.{AreKnown, IsAtMost, IsKnown};
@@ -32,6 +33,31 @@ fn choices_at<'a>(language: &'a CheckedLang, place: usize, name: &Ref) -> Option
     Some(Choices { pats, known })
 }
 
+// Whether both texts are the same. Those of one byte, as names of nonterminals often are, are compared
+// without a call.
+#[inline(always)]
+fn is_same_text(a: &[u8], b: &[u8]) -> bool
+    ensures { result ≡ bytes_eq a.now b.now }
+{
+    if a.len() == 1 && b.len() == 1 {
+        return a[0] == b[0];
+    }
+    a == b
+}
+
+// Whether both are the same nonterminal.
+#[inline(always)]
+fn is_same(name: &Ref, other: &Ref) -> bool
+    ensures { result ≡ references.is_same name.now other.now }
+{
+    match (name, other) {
+        (Ref::Nt(a), Ref::Nt(b)) => is_same_text(a.text().as_bytes(), b.text().as_bytes()),
+        (Ref::Cross(_, _), Ref::Cross(_, _) | Ref::Nt(_)) | (Ref::Nt(_), Ref::Cross(_, _)) => {
+            name.same(other)
+        }
+    }
+}
+
 // The nonterminal, if it is the one at this place of these, of which these are known.
 fn found_at<'a>(
     nts: &'a [(Ref, Vec<Pat>)],
@@ -47,7 +73,7 @@ fn found_at<'a>(
 {
     let known = known.get(place)?;
     let (other, pats) = nts.get(place)?;
-    if name.same(other) {
+    if is_same(name, other) {
         let known = Some(known);
         Some(Choices { pats, known })
     } else {

@@ -1,18 +1,20 @@
 // Bindings with one name more.
-ghost use Rattle.std.specs.Prelude.{◌∷◌, [], OnOk, IfOk};
+ghost use Rattle.std.specs.Prelude.{◌≡◌, ◌∷◌, [], ℕ, List, OnOk, IfOk, IfSome};
 ghost use Rattle.rdx_lang.specs.BindingView.{value_of};
 ghost use Rattle.rdx_lang.specs.Bindings.{one, one_name};
 ghost use Rattle.rdx_lang.specs.Collecting.{HasExactly, Arises};
 ghost use Rattle.rdx_lang.specs.Join.{IsJoin};
 ghost use Rattle.rdx_lang.specs.Shown.{binding_of, bindings_of};
-ghost use Rattle.rdx_term.specs.AtPaths.{context_at, IsPlace};
+ghost use Rattle.rdx_term.specs.AtPaths.{context_at, tree_at, IsPlace};
+ghost use Rattle.rdx_term.specs.Tree.{tree_nodes};
+ghost use Rattle.rdx_lang.specs.Members.{In};
 ghost use Rattle.rdx_term.specs.View.{tree_of};
 ghost use Rattle.rdx_bind.specs.Combining.{AddsBindings};
-ghost use Rattle.rdx_direct.specs.Inside.Going.{Joins};
+ghost use Rattle.rdx_direct.specs.Inside.Going.{Joins, OnlyOf};
 
 use crate::halt::Halt;
 use rdx_fill::context_around;
-use rdx_lang::{Binding, Value};
+use rdx_lang::{Binding, Item, Pat, Value};
 use rdx_term::{Name, NoMemory, Term};
 use std::alloc::Global;
 
@@ -44,6 +46,13 @@ pub(crate) fn with_value(
         (Joins (one_name name.now (value_of value.now)) (bindings_of given.items))) }
 {
     let mut rest = given;
+    if rest.len() == 1 {
+        let Some(binding) = rest.pop() else {
+            return Ok(rest);
+        };
+        add_with(binding, name, value, &mut rest)?;
+        return Ok(rest);
+    }
     let mut found = Vec::with_capacity(alloc, rest.len())?;
     while let Some(binding) = rest.pop() {
         add_with(binding, name, value, &mut found)?;
@@ -84,4 +93,51 @@ pub(crate) fn with_context(
     }
     let context = context_around(alloc, t, path)?;
     with(alloc, given, name, &context)
+}
+
+/// How many nodes the part has around which a context stands that the name is bound to, where one
+/// binding is given and has it.
+pub(crate) fn part_nodes(given: &[Binding], name: &Name, t: &Term) -> Option<u32>
+    ensures { IfSome result (λ k. (w : List ℕ) (g : _) → IsPlace (tree_of t.now) w
+        → In g (bindings_of given.now) → OnlyOf name.now (one (context_at (tree_of t.now) w)) g
+        → tree_nodes (tree_at (tree_of t.now) w) ≡ k) }
+{
+    if given.len() != 1 {
+        return None;
+    }
+    match given[0].get(name)? {
+        Value::One(context) => Some((t.nodes() + 1).saturating_sub(context.nodes())),
+        Value::Len(_) | Value::Many(_) => None,
+    }
+}
+
+/// Whether the pattern has the name.
+#[cycle(has)]
+pub(crate) fn has_name(pat: &Pat, name: &Name) -> bool {
+    match pat {
+        Pat::Wild
+        | Pat::Kind(_)
+        | Pat::Except(_)
+        | Pat::Prefix(_)
+        | Pat::Hole
+        | Pat::Lit(_)
+        | Pat::Nt(_)
+        | Pat::Closed(_) => false,
+        Pat::Named(other, inner) => other.text() == name.text() || has_name(inner, name),
+        Pat::InHole(left, right) => has_name(left, name) || has_name(right, name),
+        Pat::HideHole(inner) => has_name(inner, name),
+        Pat::Seq(items) => have_name(items, name),
+    }
+}
+
+// Whether the items have it.
+#[cycle(has)]
+fn have_name(items: &[Item], name: &Name) -> bool {
+    for item in items {
+        let (Item::One(pat) | Item::Many(pat, _)) = item;
+        if has_name(pat, name) {
+            return true;
+        }
+    }
+    false
 }

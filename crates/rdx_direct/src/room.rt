@@ -5,12 +5,17 @@ use crate::halt::Halt;
 use rdx_term::Term;
 
 /// How many calls deep a walk may go. Measured in the program as `./redex` builds it, such a call takes
-/// 60 bytes of the machine's stack along a chain of nonterminals that are to match, 350 where they are
-/// to split, 890 where contexts with repetitions are, 1,040 at a list pattern with names, and 1,160 on
-/// average at repetitions in one another. So a walk this deep takes 1.3 MB at most, which an evaluation
-/// leaves of a stack of 8 MiB. A term 500 deep takes two such calls at each of its lists, where each list
-/// is an alternative of a nonterminal.
-const DEEPEST: usize = 1_100;
+/// up to 2,050 bytes of the machine's stack where contexts pass the items of a list, and 1,650 at most
+/// elsewhere. So a walk this deep takes 1.85 MB at most, of the 1.98 MB that an evaluation leaves of a
+/// stack of 8 MiB. A term takes two such calls at each of its lists, where each list is an alternative of
+/// a nonterminal.
+const DEEPEST: usize = 900;
+
+// How many steps a walk may be given besides in all.
+const MOST: usize = 4_000_000;
+
+// How many steps more a walk has that lists splits, at most.
+const MOST_FOR_SPLITS: usize = 500_000;
 
 /// How many calls deeper a walk may still go.
 #[derive(Clone, Copy)]
@@ -46,12 +51,23 @@ pub(crate) struct Fuel {
 }
 
 impl Fuel {
-    /// The steps for a walk over a term of so many nodes.
-    pub(crate) fn new(nodes: u32) -> Fuel {
+    /// The steps for a walk over a term of so many nodes, so deep.
+    pub(crate) fn new(nodes: u32, depth: u32) -> Fuel {
         let nodes = nodes as usize;
+        let levels = depth as usize;
         Fuel {
             left: nodes.saturating_mul(16).saturating_add(1_000),
-            more: nodes.saturating_mul(1_000),
+            more: nodes.saturating_mul(levels).saturating_mul(20).min(MOST),
+        }
+    }
+
+    /// The same where the splits are listed, whose contexts have as many nodes as the term each.
+    pub(crate) fn for_splits(nodes: u32, depth: u32) -> Fuel {
+        let Fuel { left, more } = Fuel::new(nodes, depth);
+        let levels = (nodes as usize).saturating_mul(depth as usize);
+        Fuel {
+            left: left.saturating_add(levels.min(MOST_FOR_SPLITS)),
+            more,
         }
     }
 }

@@ -39,14 +39,6 @@ pub(crate) fn are_single(items: &[Item]) -> bool
     true
 }
 
-/// Whether each of the items is one term's, but perhaps for a repetition at the end.
-pub(crate) fn are_straight(items: &[Item]) -> bool {
-    match items.split_last() {
-        Some((_, firsts)) => are_single(firsts),
-        None => true,
-    }
-}
-
 // Whether more than one of the items is a repetition.
 fn have_repetitions(items: &[Item]) -> bool {
     let mut one = false;

@@ -12,9 +12,6 @@ ghost use Rattle.rdx_lang.specs.PatternView.{pattern_of, patterns_of, slot_of, i
 ghost use Rattle.rdx_lang.specs.Facts.{IsAtMost};
 ghost use Rattle.rdx_lang.specs.Rules.{Match, MatchItems};
 ghost use Rattle.rdx_lang.specs.Shown.{binding_of, bindings_of};
-ghost use Rattle.rdx_bind.specs.Searching.{AnySplits};
-ghost use Rattle.rdx_bind.specs.Spots.{ItemsSplitAt, PlacedAt, SplitsAt};
-ghost use Rattle.rdx_bind.specs.Splitting.{Finds};
 ghost use Rattle.rdx_direct.specs.Inside.Going.{EndsAt, Fits, FitAll, Goes, GoesOn, Sole};
 ghost use Rattle.rdx_direct.specs.Inside.Known.{AreChoices};
 ghost use Rattle.rdx_direct.specs.Inside.Together.{Together, pairs_of};
@@ -22,7 +19,6 @@ ghost use Rattle.rdx_lang.specs.Singles as singles;
 
 use crate::atoms::{decided, where_so};
 use crate::choices::{Choices, Hint};
-use crate::extending::with_contexts;
 use crate::halt::Halt;
 use crate::joined::{add_all, with_binding};
 use crate::known::{choices_from, choices_of, hint_at, leaves_out, may_of};
@@ -30,23 +26,20 @@ use crate::later::Later;
 use crate::named::with;
 use crate::plainness::{are_plain, is_plain};
 use crate::room::{Fuel, Room, spend};
-use crate::spots::{kept_and_more, spots_where};
 use crate::turns::{are_single, is_hard, with_turns};
 use rdx_bind::combining::empty_where;
-use rdx_bind::extending::add_going_on;
 use rdx_bind::parts::pattern_in;
-use rdx_bind::rows::{placed, shared_bindings};
-use rdx_bind::spots::{Gathered, Spot, whole};
+use rdx_bind::rows::shared_bindings;
 use rdx_fill::part_at;
 use rdx_lang::{Binding, CheckedLang, Item, Pat, Ref};
 use rdx_term::{Name, Term};
 use std::alloc::Global;
-use std::slice::from_ref;
 
 // How many items a list pattern may have. The table joins what more items bind by halves.
 const LONGEST: usize = 256;
 
 mod reach;
+mod splits;
 
 /// A walk in a language.
 #[derive(Clone, Copy)]
@@ -289,6 +282,9 @@ impl<'a> Walk<'a> {
         ensures { IfOk result (λ any. IsTrue any ↔ Fits (language_in self.now.language.now)
             (pattern_of pat.now) (tree_of t.now)) }
     {
+        if let Pat::Nt(name) = pat {
+            return self.fits_nt(name, self.choices(name), t, room.inside()?, fuel);
+        }
         match decided(self.language, pat, t) {
             Some(so) => Ok(so),
             None => self.fits_inside(pat, t, room, fuel),
@@ -657,183 +653,5 @@ impl<'a> Walk<'a> {
             add_all(&mut found, inners)?;
         }
         Ok(found)
-    }
-
-    // The spots of all of the patterns, with no names.
-    #[cycle(walk)]
-    #[inline(never)]
-    fn any_splits(
-        &self,
-        pats: &[Pat],
-        t: &Term,
-        room: Room,
-        fuel: &mut Fuel,
-    ) -> Result<Vec<Spot>, Halt>
-        ensures { Finds result (AnySplits (language_in self.now.language.now)
-            (patterns_of pats.now) (tree_of t.now)) }
-    {
-        spend(fuel, 1)?;
-        let mut gathered = Gathered::new(self.alloc);
-        for pat in pats {
-            let spots = self.splits(pat, t, room, fuel)?;
-            gathered.add(spots)?;
-        }
-        Ok(gathered.nameless(self.alloc)?)
-    }
-
-    // A pattern with a name: the spots of its part, with the name for the context.
-    #[cycle(walk)]
-    #[inline(never)]
-    fn split_named(
-        &self,
-        name: &Name,
-        part: &Pat,
-        t: &Term,
-        room: Room,
-        fuel: &mut Fuel,
-    ) -> Result<Vec<Spot>, Halt>
-        ensures { Finds result (SplitsAt (language_in self.now.language.now)
-            (named name.now (pattern_of part.now)) (tree_of t.now)) }
-    {
-        let spots = self.splits(part, t, room, fuel)?;
-        let found = with_contexts(self.alloc, spots, name, t)?;
-        Ok(found)
-    }
-
-    // A pattern in the hole of another: for each spot of the left one, the spots of the right one
-    // at the part, from there on.
-    #[cycle(walk)]
-    #[inline(never)]
-    fn split_in_hole(
-        &self,
-        left: &Pat,
-        right: &Pat,
-        t: &Term,
-        room: Room,
-        fuel: &mut Fuel,
-    ) -> Result<Vec<Spot>, Halt>
-        ensures { Finds result (SplitsAt (language_in self.now.language.now)
-            (in_hole (pattern_of left.now) (pattern_of right.now)) (tree_of t.now)) }
-    {
-        let spots = self.splits(left, t, room, fuel)?;
-        let mut gathered = Gathered::new(self.alloc);
-        for outer in &spots {
-            let path = outer.trail.places(self.alloc)?;
-            let inners = self.splits(right, part_at(t, &path), room, fuel)?;
-            add_going_on(self.alloc, outer, inners, &mut gathered)?;
-        }
-        Ok(gathered.distinct(self.alloc)?)
-    }
-
-    // The spots of an item that may be the one that is split, as spots of the list that has its term
-    // at this place.
-    #[cycle(walk)]
-    #[inline(never)]
-    fn spots_at(
-        &self,
-        pat: &Pat,
-        t: &Term,
-        place: usize,
-        may: bool,
-        room: Room,
-        fuel: &mut Fuel,
-    ) -> Result<Vec<Spot>, Halt>
-        ensures { Finds result (λ r. IsTrue may × PlacedAt (language_in self.now.language.now) place
-            (pattern_of pat.now) (tree_of t.now) r) }
-    {
-        if !may {
-            return Ok(Vec::new(self.alloc));
-        }
-        let spots = self.splits(pat, t, room, fuel)?;
-        let found = placed(self.alloc, spots, place)?;
-        Ok(found)
-    }
-
-    // The items of a list pattern without names, from the first on: where one is split and all others
-    // match. What was found so far has the spots of an item before, where all others before match.
-    #[cycle(walk)]
-    #[inline(never)]
-    fn split_items(
-        &self,
-        items: &[Item],
-        ts: &[Term],
-        room: Room,
-        fuel: &mut Fuel,
-    ) -> Result<Vec<Spot>, Halt>
-        requires { item_names (items_of (map slot_of items.now)) ≡ [] }
-        ensures { Finds result (ItemsSplitAt (language_in self.now.language.now) 0
-            (items_of (map slot_of items.now)) (trees_of ts.now)) }
-    {
-        let mut spots = Vec::new(self.alloc);
-        let mut all = true;
-        for i in 0..items.len() {
-            match &items[i] {
-                Item::One(pat) => {
-                    if i >= ts.len() {
-                        return Ok(Vec::new(self.alloc));
-                    }
-                    let term = &ts[i];
-                    let so = self.fits(pat, term, room, fuel)?;
-                    let more = self.spots_at(pat, term, i, all, room, fuel)?;
-                    spots = kept_and_more(spots, so, more)?;
-                    all &= so;
-                    if spots.is_empty() && !all {
-                        return Ok(spots);
-                    }
-                }
-                Item::Many(_, _) => return Err(Halt::Spent),
-            }
-        }
-        Ok(spots_where(self.alloc, spots, items.len() >= ts.len()))
-    }
-
-    // A list pattern, of which one item is split.
-    #[cycle(walk)]
-    #[inline(never)]
-    fn split_list(
-        &self,
-        items: &[Item],
-        t: &Term,
-        room: Room,
-        fuel: &mut Fuel,
-    ) -> Result<Vec<Spot>, Halt>
-        ensures { Finds result (SplitsAt (language_in self.now.language.now)
-            (seq (items_of (map slot_of items.now))) (tree_of t.now)) }
-    {
-        match t {
-            Term::Hole | Term::Int(_) | Term::Bool(_) | Term::Str(_) | Term::Sym(_) => {
-                Ok(Vec::new(self.alloc))
-            }
-            Term::List(node) => {
-                if !are_plain(items) {
-                    return Err(Halt::Spent);
-                }
-                self.split_items(items, node.items(), room, fuel)
-            }
-        }
-    }
-
-    /// Exactly the spots at which the pattern splits the term.
-    #[cycle(walk)]
-    #[inline(never)]
-    fn splits(&self, pat: &Pat, t: &Term, room: Room, fuel: &mut Fuel) -> Result<Vec<Spot>, Halt>
-        ensures { Finds result (SplitsAt (language_in self.now.language.now) (pattern_of pat.now)
-            (tree_of t.now)) }
-    {
-        let inside = room.inside()?;
-        match pat {
-            Pat::Wild
-            | Pat::Kind(_)
-            | Pat::Except(_)
-            | Pat::Prefix(_)
-            | Pat::Lit(_)
-            | Pat::HideHole(_) => Ok(Vec::new(self.alloc)),
-            Pat::Hole => Ok(whole(self.alloc)?),
-            Pat::Nt(name) => self.any_splits(self.choices(name).pats, t, inside, fuel),
-            Pat::Named(name, part) => self.split_named(name, part, t, inside, fuel),
-            Pat::InHole(left, right) => self.split_in_hole(left, right, t, inside, fuel),
-            Pat::Closed(part) => self.any_splits(from_ref::<Pat>(part), t, inside, fuel),
-            Pat::Seq(items) => self.split_list(items, t, inside, fuel),
-        }
     }
 }

@@ -1,11 +1,13 @@
 -- What a walk over a pattern and a term makes of bindings that are given to it.
 use Rattle.std.specs.Prelude.{◌≡◌, Bool, IsTrue, IsFalse, ℕ, List, [], Vec, Result, IfOk, Option, None}
 use Rattle.std.specs.declared.alloc.Global.{Global}
+use Rattle.rdx_term.specs.AtPaths.{tree_at, context_at}
 use Rattle.rdx_term.specs.Tree.{Tree, Trees}
-use Rattle.rdx_lang.specs.Bindings.{Binding, no_names}
+use Rattle.rdx_lang.specs.Bindings.{Value, one, Binding, pairs, no_names, one_name}
 use Rattle.rdx_lang.specs.Collections.{IsRepetition}
 use Rattle.rdx_lang.specs.Collecting.{Arises, HasExactly}
 use Rattle.rdx_lang.specs.Join.{IsJoin}
+use Rattle.rdx_lang.specs.Members.{In}
 use Rattle.rdx_lang.specs.Names.{names, item_names}
 use Rattle.rdx_lang.specs.Patterns.{Pattern, Items, Language}
 use Rattle.rdx_lang.specs.PatternView.{Slot, just, repeated}
@@ -63,3 +65,13 @@ pub record EndsAt (L : Language) (xs : List (List ℕ)) (n : Option (List ℕ)) 
   pub rest_matched : MatchItems L ps ts rest
   pub repeats : IsRepetition xs cs n repeated
   pub joined : IsJoin rest repeated b
+
+-- the name has no other value in b
+abbrev pub OnlyOf : List ℕ → Value → Binding → Type 0
+OnlyOf x v b = (u : Value) → In (x, u) (pairs b) → u ≡ v
+
+-- b is joined of what r binds at the end of the path w, and of the name for the context around it
+pub record NamedAt (L : Language) (r : Pattern) (t : Tree) (x w : List ℕ) (b : Binding) : Type 0 where
+  pub inner : Binding
+  pub matched : Match L r (tree_at t w) inner
+  pub joined : IsJoin inner (one_name x (one (context_at t w))) b

@@ -7,50 +7,46 @@ use Rattle.rdx_lang.specs.Members.{In}
 use Rattle.rdx_lang.specs.Patterns.{Pattern, Items, one, many, Language}
 use Rattle.rdx_lang.specs.Rules.{MatchItems, SplitItems}
 use Rattle.rdx_bind.specs.Searching.{MatchesNone, SplitsNone}
-use Rattle.rdx_bind.specs.Spots.{Spot, SplitsAt}
+use Rattle.rdx_bind.specs.Spots.{SplitsAt}
 use Rattle.rdx_direct.specs.Inside.Going.{Fits}
+use Rattle.rdx_direct.specs.Inside.Paths.{Leads}
+use Rattle.rdx_direct.specs.declared.paths.Paths as code
 
--- p splits t at the end of the path w, whatever it binds, and r matches the part
-pub record Reached (L : Language) (r p : Pattern) (t : Tree) (w : List ℕ) : Type 0 where
+-- p splits t at the end of the path w, whatever it binds, and the part is as Q wants it
+pub record Reached (L : Language) (Q : Tree → Type 0) (p : Pattern) (t : Tree) (w : List ℕ) : Type 0 where
   pub binding : Binding
   pub split : SplitsAt L p t (record { path = w; binding = binding })
-  pub fits : Fits L r (tree_at t w)
+  pub wanted : Q (tree_at t w)
 
 -- one of the patterns does
-pub record AnyReached (L : Language) (r : Pattern) (ps : List Pattern) (t : Tree) (w : List ℕ) : Type 0 where
+pub record AnyReached (L : Language) (Q : Tree → Type 0) (ps : List Pattern) (t : Tree) (w : List ℕ) : Type 0 where
   pub pattern : Pattern
   pub among : In pattern ps
-  pub reached : Reached L r pattern t w
+  pub reached : Reached L Q pattern t w
 
 -- p does, of the term at place n of a list
-pub record PlacedReach (L : Language) (r : Pattern) (n : ℕ) (p : Pattern) (t : Tree) (w : List ℕ) : Type 0 where
+pub record PlacedReach (L : Language) (Q : Tree → Type 0) (n : ℕ) (p : Pattern) (t : Tree) (w : List ℕ) : Type 0 where
   pub path : List ℕ
   pub along : w ≡ n ∷ path
-  pub reached : Reached L r p t path
+  pub reached : Reached L Q p t path
 
 -- the items ps, which bind nothing, split the terms ts at the end of the path w, the first of which is at place n of the list: one splits its
--- term, where r matches the part, and all others match theirs
-pub data ItemsReach (L : Language) (r : Pattern) : ℕ → Items → Trees → List ℕ → Type 0 where
+-- term, where the part is as wanted, and all others match theirs
+pub data ItemsReach (L : Language) (Q : Tree → Type 0) : ℕ → Items → Trees → List ℕ → Type 0 where
   reach_here : {n : ℕ} {p : Pattern} {ps : Items} {t : Tree} {ts : Trees} {w : List ℕ} →
-      PlacedReach L r n p t w → MatchItems L ps ts no_names → ItemsReach L r n (one p ps) (cons t ts) w
+      PlacedReach L Q n p t w → MatchItems L ps ts no_names → ItemsReach L Q n (one p ps) (cons t ts) w
   reach_behind : {n : ℕ} {p : Pattern} {ps : Items} {t : Tree} {ts : Trees} {w : List ℕ} →
-      Fits L p t → ItemsReach L r (suc n) ps ts w → ItemsReach L r n (one p ps) (cons t ts) w
-  reach_ended : {n : ℕ} {p : Pattern} {ps : Items} {ts : Trees} {w : List ℕ} → ItemsReach L r n ps ts w → ItemsReach L r n (many p None ps) ts w
+      Fits L p t → ItemsReach L Q (suc n) ps ts w → ItemsReach L Q n (one p ps) (cons t ts) w
+  reach_ended : {n : ℕ} {p : Pattern} {ps : Items} {ts : Trees} {w : List ℕ} → ItemsReach L Q n ps ts w → ItemsReach L Q n (many p None ps) ts w
   reach_turn : {n : ℕ} {p : Pattern} {ps : Items} {t : Tree} {ts : Trees} {w : List ℕ} →
-      PlacedReach L r n p t w → MatchItems L (many p None ps) ts no_names → ItemsReach L r n (many p None ps) (cons t ts) w
+      PlacedReach L Q n p t w → MatchItems L (many p None ps) ts no_names → ItemsReach L Q n (many p None ps) (cons t ts) w
   reach_past : {n : ℕ} {p : Pattern} {ps : Items} {t : Tree} {ts : Trees} {w : List ℕ} →
-      Fits L p t → ItemsReach L r (suc n) (many p None ps) ts w → ItemsReach L r n (many p None ps) (cons t ts) w
+      Fits L p t → ItemsReach L Q (suc n) (many p None ps) ts w → ItemsReach L Q n (many p None ps) (cons t ts) w
 
--- one of the spots has this path
-pub record PathOf (ss : List Spot) (w : List ℕ) : Type 0 where
-  pub spot : Spot
-  pub among : In spot ss
-  pub same : spot.path ≡ w
-
--- R holds of the path of each spot, and whatever S holds of is such a path
-pub record Between (S R : List ℕ → Type 0) (ss : List Spot) : Type 0 where
-  pub sound : (w : List ℕ) → PathOf ss w → R w
-  pub complete : (w : List ℕ) → S w → PathOf ss w
+-- R holds of each of the paths, and whatever S holds of is among them
+pub record Between (S R : List ℕ → Type 0) (P : code.Paths) : Type 0 where
+  pub sound : (w : List ℕ) → Leads P w → R w
+  pub complete : (w : List ℕ) → S w → Leads P w
 
 -- the items do not match the terms
 abbrev pub ItemsMatchNone : Language → Items → Trees → Type 0

@@ -1,64 +1,65 @@
 // Whether a pattern that binds nothing matches, and where it splits the term, in one pass. Of the
 // places at which it does only those count whose part another pattern may match.
-ghost use Rattle.std.specs.Prelude.{◌≡◌, ◌↔◌, [], false, IfOk, IsTrue, None, map};
+ghost use Rattle.std.specs.Prelude.{◌≡◌, ◌↔◌, [], false, ℕ, List, IfOk, IsTrue, None, map};
 ghost use Rattle.rdx_term.specs.View.{tree_of, trees_of};
 ghost use Rattle.rdx_lang.specs.Bindings.{no_names};
 ghost use Rattle.rdx_lang.specs.Checked.{language_in};
 ghost use Rattle.rdx_lang.specs.Facts.{IsAtMost};
 ghost use Rattle.rdx_lang.specs.Names.{names, item_names};
-ghost use Rattle.rdx_lang.specs.Patterns.{hole, in_hole, many, named, nt, seq, wild};
+ghost use Rattle.rdx_lang.specs.Patterns.{hole, in_hole, many, named, nt, seq};
+ghost use Rattle.rdx_term.specs.AtPaths.{IsPlace};
 ghost use Rattle.rdx_lang.specs.PatternView.{pattern_of, slot_of, items_of};
 ghost use Rattle.rdx_lang.specs.Rules.{Match, MatchItems};
-ghost use Rattle.rdx_lang.specs.Members.{In};
-ghost use Rattle.rdx_bind.specs.Spots.{spots_of};
-ghost use Rattle.rdx_bind.specs.Splitting.{Finds};
-ghost use Rattle.rdx_direct.specs.Inside.Going.{Fits, GoesOn};
+ghost use Rattle.rdx_direct.specs.Inside.Going.{Fits, GoesOn, NamedAt};
 ghost use Rattle.rdx_direct.specs.Inside.Known.{AreChoices};
-ghost use Rattle.rdx_direct.specs.Inside.Reaching.{Between, ItemsReach, PlacedReach, Reached};
+ghost use Rattle.rdx_direct.specs.Inside.Paths.{Leads, NoPaths};
+ghost use Rattle.rdx_direct.specs.Inside.Wanted.{AreItemsReached, AreItemsReachedWhere};
+ghost use Rattle.rdx_direct.specs.Inside.Wanted.{ArePlacedWhere, AreReached};
 
 use crate::choices::{Choices, Hint};
 use crate::halt::Halt;
 use crate::joined::add_all;
 use crate::known::{hint_at, may_of};
-use crate::may::{is_apart, may, splits_nothing};
-use crate::named::with_context;
+use crate::may::{is_apart, splits_nothing};
+use crate::named::{has_name, part_nodes, with_context};
+use crate::paths::Paths;
 use crate::plainness::are_plain;
 use crate::room::{Fuel, Room, further, grant, spend};
-use crate::spots::{kept_and_more, spots_where};
 use crate::walk::Walk;
+use crate::wanted::Wanted;
+use crate::wanting::{is_too_small, may_be_wanted};
 use rdx_bind::atoms::is_hole;
-use rdx_bind::rows::{placed, shared_bindings};
-use rdx_bind::spots::{Gathered, Spot, whole};
+use rdx_bind::rows::shared_bindings;
 use rdx_fill::part_at;
 use rdx_lang::{Binding, Item, Pat, Ref};
 use rdx_term::{Name, Term};
 use std::alloc::Global;
 
-/// Whether a pattern matches, and the spots at which it splits the term.
+/// Whether a pattern matches, and the paths at whose ends it splits the term.
 #[derive(Drop)]
 pub(crate) struct Reach {
     pub(crate) fits: bool,
-    pub(crate) spots: Vec<Spot>,
+    pub(crate) paths: Paths,
 }
 
-// No match, and no spots.
+// No match, and no paths.
 fn nothing(alloc: Global) -> Reach
     ensures fits { result.fits ≡ false }
-    ensures spots { spots_of result.spots.items ≡ [] }
+    ensures paths { NoPaths result.paths }
 {
     Reach {
         fits: false,
-        spots: Vec::new(alloc),
+        paths: Paths::none(alloc),
     }
 }
 
 // Whether a pattern matches that splits nothing.
 fn unsplit(alloc: Global, fits: bool) -> Reach
     ensures fits { result.fits ≡ fits }
-    ensures spots { spots_of result.spots.items ≡ [] }
+    ensures paths { NoPaths result.paths }
 {
-    let spots = Vec::new(alloc);
-    Reach { fits, spots }
+    let paths = Paths::none(alloc);
+    Reach { fits, paths }
 }
 
 /// A repetition without a name for its length, and the items behind it.
@@ -80,7 +81,7 @@ impl<'a> Walk<'a> {
         &self,
         name: &Ref,
         choices: Choices<'_>,
-        right: &Pat,
+        wanted: Wanted<'_>,
         t: &Term,
         room: Room,
         fuel: &mut Fuel,
@@ -88,11 +89,8 @@ impl<'a> Walk<'a> {
         requires { AreChoices (language_in self.now.language.now) name.now choices }
         ensures fits { IfOk result (λ r. IsTrue r.fits ↔ Fits (language_in self.now.language.now)
             (nt name.now) (tree_of t.now)) }
-        ensures spots { IfOk result (λ r. Between
-            (Reached (language_in self.now.language.now) (pattern_of right.now) (nt name.now)
-            (tree_of t.now))
-            (Reached (language_in self.now.language.now) wild (nt name.now) (tree_of t.now))
-            (spots_of r.spots.items)) }
+        ensures paths { IfOk result (λ r. AreReached (language_in self.now.language.now)
+            wanted.entry (nt name.now) (tree_of t.now) r.paths) }
     {
         if !may_of(choices).split {
             let fits = self.fits_nt(name, choices, t, room, fuel)?;
@@ -100,7 +98,7 @@ impl<'a> Walk<'a> {
         }
         spend(fuel, 1)?;
         let mut fits = false;
-        let mut gathered = Gathered::new(self.alloc);
+        let mut paths = Paths::none(self.alloc);
         let pats = choices.pats;
         for i in 0..pats.len() {
             let pat = &pats[i];
@@ -108,12 +106,11 @@ impl<'a> Walk<'a> {
                 continue;
             }
             let hint = hint_at(choices, i);
-            let Reach { fits: so, spots } = self.reach_choice(pat, hint, right, t, room, fuel)?;
-            fits |= so;
-            gathered.add(spots)?;
+            let reached = self.reach_choice(pat, hint, wanted, t, room, fuel)?;
+            fits |= reached.fits;
+            paths = paths.and(self.alloc, reached.paths, room, fuel)?;
         }
-        let spots = gathered.nameless(self.alloc)?;
-        Ok(Reach { fits, spots })
+        Ok(Reach { fits, paths })
     }
 
     // An alternative, of which this is known.
@@ -123,7 +120,7 @@ impl<'a> Walk<'a> {
         &self,
         pat: &Pat,
         hint: Hint,
-        right: &Pat,
+        wanted: Wanted<'_>,
         t: &Term,
         room: Room,
         fuel: &mut Fuel,
@@ -131,22 +128,19 @@ impl<'a> Walk<'a> {
         requires { IsAtMost (language_in self.now.language.now) hint.may (pattern_of pat.now) }
         ensures fits { IfOk result (λ r. IsTrue r.fits ↔ Fits (language_in self.now.language.now)
             (pattern_of pat.now) (tree_of t.now)) }
-        ensures spots { IfOk result (λ r. Between
-            (Reached (language_in self.now.language.now) (pattern_of right.now) (pattern_of pat.now)
-            (tree_of t.now))
-            (Reached (language_in self.now.language.now) wild (pattern_of pat.now) (tree_of t.now))
-            (spots_of r.spots.items)) }
+        ensures paths { IfOk result (λ r. AreReached (language_in self.now.language.now)
+            wanted.entry (pattern_of pat.now) (tree_of t.now) r.paths) }
     {
-        if !hint.may.split {
+        if !hint.may.split || is_too_small(wanted, t) {
             let fits = self.fits_choice(pat, hint, t, room, fuel)?;
             return Ok(unsplit(self.alloc, fits));
         }
         match pat {
             Pat::Nt(name) => {
                 let choices = self.choices_from(hint.to, name);
-                self.reach_nt(name, choices, right, t, room.inside()?, fuel)
+                self.reach_nt(name, choices, wanted, t, room.inside()?, fuel)
             }
-            Pat::Seq(items) => self.reach_list(items, right, t, room, fuel),
+            Pat::Seq(items) => self.reach_list(items, wanted, t, room, fuel),
             Pat::Wild
             | Pat::Kind(_)
             | Pat::Except(_)
@@ -156,18 +150,18 @@ impl<'a> Walk<'a> {
             | Pat::Named(_, _)
             | Pat::InHole(_, _)
             | Pat::HideHole(_)
-            | Pat::Closed(_) => self.reach(pat, right, t, room, fuel),
+            | Pat::Closed(_) => self.reach(pat, wanted, t, room, fuel),
         }
     }
 
-    // An item of a list pattern at the term that stands at this place of the list; no spots where this
+    // An item of a list pattern at the term that stands at this place of the list; no paths where this
     // is not asked.
     #[cycle(walk)]
     #[inline(never)]
     fn reach_at(
         &self,
         pat: &Pat,
-        right: &Pat,
+        wanted: Wanted<'_>,
         t: &Term,
         place: usize,
         asked: bool,
@@ -176,20 +170,17 @@ impl<'a> Walk<'a> {
     ) -> Result<Reach, Halt>
         ensures fits { IfOk result (λ r. IsTrue r.fits ↔ Fits (language_in self.now.language.now)
             (pattern_of pat.now) (tree_of t.now)) }
-        ensures spots { IfOk result (λ r. Between
-            (λ w. IsTrue asked × PlacedReach (language_in self.now.language.now)
-            (pattern_of right.now) place (pattern_of pat.now) (tree_of t.now) w)
-            (λ w. IsTrue asked × PlacedReach (language_in self.now.language.now) wild place
-            (pattern_of pat.now) (tree_of t.now) w)
-            (spots_of r.spots.items)) }
+        ensures paths { IfOk result (λ r. ArePlacedWhere asked
+            (language_in self.now.language.now) wanted.entry place (pattern_of pat.now)
+            (tree_of t.now) r.paths) }
     {
         if !asked {
             let fits = self.fits(pat, t, room, fuel)?;
             return Ok(unsplit(self.alloc, fits));
         }
-        let Reach { fits, spots } = self.reach(pat, right, t, room, fuel)?;
-        let spots = placed(self.alloc, spots, place)?;
-        Ok(Reach { fits, spots })
+        let Reach { fits, paths } = self.reach(pat, wanted, t, room, fuel)?;
+        let paths = paths.within(self.alloc, place)?;
+        Ok(Reach { fits, paths })
     }
 
     // The items of a list pattern without names, the first of whose terms stands at this place.
@@ -198,7 +189,7 @@ impl<'a> Walk<'a> {
     fn reach_items(
         &self,
         items: &[Item],
-        right: &Pat,
+        wanted: Wanted<'_>,
         ts: &[Term],
         place: usize,
         room: Room,
@@ -208,14 +199,10 @@ impl<'a> Walk<'a> {
         ensures fits { IfOk result (λ r. IsTrue r.fits ↔ MatchItems
             (language_in self.now.language.now)
             (items_of (map slot_of items.now)) (trees_of ts.now) no_names) }
-        ensures spots { IfOk result (λ r. Between
-            (ItemsReach (language_in self.now.language.now) (pattern_of right.now) place
-            (items_of (map slot_of items.now)) (trees_of ts.now))
-            (ItemsReach (language_in self.now.language.now) wild place (items_of (map slot_of
-            items.now)) (trees_of ts.now))
-            (spots_of r.spots.items)) }
+        ensures paths { IfOk result (λ r. AreItemsReached (language_in self.now.language.now)
+            wanted.entry place (items_of (map slot_of items.now)) (trees_of ts.now) r.paths) }
     {
-        let mut spots = Vec::new(self.alloc);
+        let mut paths = Paths::none(self.alloc);
         let mut all = true;
         for i in 0..items.len() {
             let here = further(place, i)?;
@@ -224,12 +211,12 @@ impl<'a> Walk<'a> {
                     if i >= ts.len() {
                         return Ok(nothing(self.alloc));
                     }
-                    let Reach { fits, spots: more } = self.reach_at(
-                        pat, right, &ts[i], here, all, room, fuel,
+                    let Reach { fits, paths: more } = self.reach_at(
+                        pat, wanted, &ts[i], here, all, room, fuel,
                     )?;
-                    spots = kept_and_more(spots, fits, more)?;
+                    paths = paths.kept_and(self.alloc, fits, more, room, fuel)?;
                     all &= fits;
-                    if spots.is_empty() && !all {
+                    if paths.is_empty() && !all {
                         return Ok(nothing(self.alloc));
                     }
                 }
@@ -238,32 +225,31 @@ impl<'a> Walk<'a> {
                     let (_, rest) = items.split_at(i + 1);
                     let (_, others) = ts.split_at(i);
                     let turns = Turns { pat, rest, from };
-                    let Reach { fits, spots: more } = self.reach_rest(
-                        turns, right, others, here, all, room, fuel,
+                    let Reach { fits, paths: more } = self.reach_rest(
+                        turns, wanted, others, here, all, room, fuel,
                     )?;
-                    let spots = kept_and_more(spots, fits, more)?;
+                    let paths = paths.kept_and(self.alloc, fits, more, room, fuel)?;
                     return Ok(Reach {
                         fits: all & fits,
-                        spots,
+                        paths,
                     });
                 }
             }
         }
         let end = items.len() >= ts.len();
-        let spots = spots_where(self.alloc, spots, end);
-        Ok(Reach {
-            fits: all & end,
-            spots,
-        })
+        if !end {
+            return Ok(nothing(self.alloc));
+        }
+        Ok(Reach { fits: all, paths })
     }
 
-    // The items from a repetition on; no spots where this is not asked.
+    // The items from a repetition on; no paths where this is not asked.
     #[cycle(walk)]
     #[inline(never)]
     fn reach_rest(
         &self,
         turns: Turns<'_>,
-        right: &Pat,
+        wanted: Wanted<'_>,
         ts: &[Term],
         place: usize,
         asked: bool,
@@ -278,17 +264,13 @@ impl<'a> Walk<'a> {
             (language_in self.now.language.now)
             (many (pattern_of turns.entry.pat.now) None (items_of (map slot_of
             turns.entry.rest.now))) (trees_of ts.now) no_names) }
-        ensures spots { IfOk result (λ r. Between
-            (λ w. IsTrue asked × ItemsReach (language_in self.now.language.now)
-            (pattern_of right.now) place (many (pattern_of turns.entry.pat.now) None (items_of (map slot_of
-            turns.entry.rest.now))) (trees_of ts.now) w)
-            (λ w. IsTrue asked × ItemsReach (language_in self.now.language.now) wild place (many
-            (pattern_of turns.entry.pat.now) None (items_of (map slot_of turns.entry.rest.now)))
-            (trees_of ts.now) w)
-            (spots_of r.spots.items)) }
+        ensures paths { IfOk result (λ r. AreItemsReachedWhere asked
+            (language_in self.now.language.now) wanted.entry place
+            (many (pattern_of turns.entry.pat.now) None (items_of (map slot_of
+            turns.entry.rest.now))) (trees_of ts.now) r.paths) }
     {
         if asked {
-            return self.reach_many(turns, right, ts, place, room, fuel);
+            return self.reach_many(turns, wanted, ts, place, room, fuel);
         }
         let fits = self.all_fit(turns.from, ts, room, fuel)?;
         Ok(unsplit(self.alloc, fits))
@@ -311,29 +293,29 @@ impl<'a> Walk<'a> {
         self.fit_all(items, ts, room, fuel)
     }
 
-    // The spots, where the items match.
+    // The paths, where the items match.
     #[cycle(walk)]
     #[inline(never)]
     fn kept_where(
         &self,
-        spots: Vec<Spot>,
+        paths: Paths,
         items: &[Item],
         ts: &[Term],
         room: Room,
         fuel: &mut Fuel,
-    ) -> Result<Vec<Spot>, Halt>
+    ) -> Result<Paths, Halt>
         requires { item_names (items_of (map slot_of items.now)) ≡ [] }
-        ensures { Finds result (λ s. In s (spots_of spots.items) × MatchItems
+        ensures { IfOk result (λ kept. (w : List ℕ) → Leads kept w ↔ (Leads paths w × MatchItems
             (language_in self.now.language.now)
-            (items_of (map slot_of items.now)) (trees_of ts.now) no_names) }
+            (items_of (map slot_of items.now)) (trees_of ts.now) no_names)) }
     {
-        if spots.is_empty() {
-            return Ok(spots);
+        if paths.is_empty() {
+            return Ok(paths);
         }
         if self.all_fit(items, ts, room, fuel)? {
-            Ok(spots)
+            Ok(paths)
         } else {
-            Ok(Vec::new(self.alloc))
+            Ok(Paths::none(self.alloc))
         }
     }
 
@@ -343,7 +325,7 @@ impl<'a> Walk<'a> {
     fn reach_many(
         &self,
         turns: Turns<'_>,
-        right: &Pat,
+        wanted: Wanted<'_>,
         ts: &[Term],
         place: usize,
         room: Room,
@@ -357,47 +339,34 @@ impl<'a> Walk<'a> {
             (language_in self.now.language.now)
             (many (pattern_of turns.entry.pat.now) None (items_of (map slot_of
             turns.entry.rest.now))) (trees_of ts.now) no_names) }
-        ensures spots { IfOk result (λ r. Between
-            (ItemsReach (language_in self.now.language.now) (pattern_of right.now) place (many
-            (pattern_of turns.entry.pat.now) None (items_of (map slot_of turns.entry.rest.now)))
-            (trees_of ts.now))
-            (ItemsReach (language_in self.now.language.now) wild place (many
-            (pattern_of turns.entry.pat.now) None (items_of (map slot_of turns.entry.rest.now)))
-            (trees_of ts.now))
-            (spots_of r.spots.items)) }
+        ensures paths { IfOk result (λ r. AreItemsReached (language_in self.now.language.now)
+            wanted.entry place (many (pattern_of turns.entry.pat.now) None (items_of (map slot_of
+            turns.entry.rest.now))) (trees_of ts.now) r.paths) }
     {
         let inside = room.inside()?;
         let mut fits = false;
-        let mut gathered = Gathered::new(self.alloc);
+        let mut paths = Paths::none(self.alloc);
         for i in 0..ts.len() {
             spend(fuel, 1)?;
             let here = further(place, i)?;
             let (_, others) = ts.split_at(i);
-            let Reach { fits: so, spots } = self.reach_items(
-                turns.rest, right, others, here, inside, fuel,
-            )?;
-            fits |= so;
-            gathered.add(spots)?;
-            let Reach { fits: more, spots } = self.reach_at(
-                turns.pat, right, &ts[i], here, true, inside, fuel,
-            )?;
+            let end = self.reach_items(turns.rest, wanted, others, here, inside, fuel)?;
+            fits |= end.fits;
+            paths = paths.and(self.alloc, end.paths, inside, fuel)?;
+            let turn = self.reach_at(turns.pat, wanted, &ts[i], here, true, inside, fuel)?;
             let (_, behind) = ts.split_at(i + 1);
-            let spots = self.kept_where(spots, turns.from, behind, inside, fuel)?;
-            gathered.add(spots)?;
-            if !more {
-                let spots = gathered.nameless(self.alloc)?;
-                return Ok(Reach { fits, spots });
+            let more = self.kept_where(turn.paths, turns.from, behind, inside, fuel)?;
+            paths = paths.and(self.alloc, more, inside, fuel)?;
+            if !turn.fits {
+                return Ok(Reach { fits, paths });
             }
         }
         let (_, others) = ts.split_at(ts.len());
         let here = further(place, ts.len())?;
-        let Reach { fits: so, spots } = self.reach_items(
-            turns.rest, right, others, here, inside, fuel,
-        )?;
-        fits |= so;
-        gathered.add(spots)?;
-        let spots = gathered.nameless(self.alloc)?;
-        Ok(Reach { fits, spots })
+        let end = self.reach_items(turns.rest, wanted, others, here, inside, fuel)?;
+        fits |= end.fits;
+        paths = paths.and(self.alloc, end.paths, inside, fuel)?;
+        Ok(Reach { fits, paths })
     }
 
     // A list pattern.
@@ -406,19 +375,15 @@ impl<'a> Walk<'a> {
     fn reach_list(
         &self,
         items: &[Item],
-        right: &Pat,
+        wanted: Wanted<'_>,
         t: &Term,
         room: Room,
         fuel: &mut Fuel,
     ) -> Result<Reach, Halt>
         ensures fits { IfOk result (λ r. IsTrue r.fits ↔ Fits (language_in self.now.language.now)
             (seq (items_of (map slot_of items.now))) (tree_of t.now)) }
-        ensures spots { IfOk result (λ r. Between
-            (Reached (language_in self.now.language.now) (pattern_of right.now) (seq
-            (items_of (map slot_of items.now))) (tree_of t.now))
-            (Reached (language_in self.now.language.now) wild (seq (items_of (map slot_of
-            items.now))) (tree_of t.now))
-            (spots_of r.spots.items)) }
+        ensures paths { IfOk result (λ r. AreReached (language_in self.now.language.now)
+            wanted.entry (seq (items_of (map slot_of items.now))) (tree_of t.now) r.paths) }
     {
         match t {
             Term::Hole | Term::Int(_) | Term::Bool(_) | Term::Str(_) | Term::Sym(_) => {
@@ -428,30 +393,27 @@ impl<'a> Walk<'a> {
                 if !are_plain(items) {
                     return Err(Halt::Spent);
                 }
-                self.reach_items(items, right, node.items(), 0, room, fuel)
+                self.reach_items(items, wanted, node.items(), 0, room, fuel)
             }
         }
     }
 
-    /// Whether the pattern matches the term, and the spots at which it splits it, as far as the right
-    /// one may match the part.
+    /// Whether the pattern matches the term, and the paths at whose ends it splits it, as far as the
+    /// part may be as it is wanted.
     #[cycle(walk)]
     #[inline(never)]
-    fn reach(
+    pub(crate) fn reach(
         &self,
         pat: &Pat,
-        right: &Pat,
+        wanted: Wanted<'_>,
         t: &Term,
         room: Room,
         fuel: &mut Fuel,
     ) -> Result<Reach, Halt>
         ensures fits { IfOk result (λ r. IsTrue r.fits ↔ Fits (language_in self.now.language.now)
             (pattern_of pat.now) (tree_of t.now)) }
-        ensures spots { IfOk result (λ r. Between
-            (Reached (language_in self.now.language.now) (pattern_of right.now)
-            (pattern_of pat.now) (tree_of t.now))
-            (Reached (language_in self.now.language.now) wild (pattern_of pat.now) (tree_of t.now))
-            (spots_of r.spots.items)) }
+        ensures paths { IfOk result (λ r. AreReached (language_in self.now.language.now)
+            wanted.entry (pattern_of pat.now) (tree_of t.now) r.paths) }
     {
         let inside = room.inside()?;
         if splits_nothing(pat) {
@@ -459,9 +421,9 @@ impl<'a> Walk<'a> {
             return Ok(unsplit(self.alloc, fits));
         }
         match pat {
-            Pat::Hole => self.reach_hole(right, t),
-            Pat::Nt(name) => self.reach_nt(name, self.choices(name), right, t, inside, fuel),
-            Pat::Seq(items) => self.reach_list(items, right, t, inside, fuel),
+            Pat::Hole => self.reach_hole(wanted, t),
+            Pat::Nt(name) => self.reach_nt(name, self.choices(name), wanted, t, inside, fuel),
+            Pat::Seq(items) => self.reach_list(items, wanted, t, inside, fuel),
             Pat::Wild
             | Pat::Kind(_)
             | Pat::Except(_)
@@ -476,21 +438,18 @@ impl<'a> Walk<'a> {
 
     // The hole.
     #[inline(never)]
-    fn reach_hole(&self, right: &Pat, t: &Term) -> Result<Reach, Halt>
+    fn reach_hole(&self, wanted: Wanted<'_>, t: &Term) -> Result<Reach, Halt>
         ensures fits { IfOk result (λ r. IsTrue r.fits ↔ Fits (language_in self.now.language.now)
             hole (tree_of t.now)) }
-        ensures spots { IfOk result (λ r. Between
-            (Reached (language_in self.now.language.now) (pattern_of right.now) hole
-            (tree_of t.now))
-            (Reached (language_in self.now.language.now) wild hole (tree_of t.now))
-            (spots_of r.spots.items)) }
+        ensures paths { IfOk result (λ r. AreReached (language_in self.now.language.now)
+            wanted.entry hole (tree_of t.now) r.paths) }
     {
         let fits = is_hole(t);
-        if !may(self.language, right, t) {
+        if !may_be_wanted(self.language, wanted, t) {
             return Ok(unsplit(self.alloc, fits));
         }
-        let spots = whole(self.alloc)?;
-        Ok(Reach { fits, spots })
+        let paths = Paths::root(self.alloc);
+        Ok(Reach { fits, paths })
     }
 
     /// A pattern in the hole of one that binds nothing: for each place that the left one reaches, what
@@ -510,12 +469,21 @@ impl<'a> Walk<'a> {
         ensures { GoesOn result given (Match (language_in self.now.language.now)
             (in_hole (pattern_of left.now) (pattern_of right.now)) (tree_of t.now)) }
     {
-        let Reach { fits: _, spots } = self.reach(left, right, t, room, fuel)?;
+        let reached = self.reach(
+            left,
+            Wanted {
+                pat: right,
+                nodes: None,
+            },
+            t,
+            room,
+            fuel,
+        )?;
         let mut found = Vec::new(self.alloc);
-        for spot in &spots {
-            let path = spot.trail.places(self.alloc)?;
+        let paths = reached.paths.listed(self.alloc)?;
+        for path in &paths {
             let shared = shared_bindings(self.alloc, &given)?;
-            let part = part_at(t, &path);
+            let part = part_at(t, path);
             grant(fuel, part);
             let inners = self.go(right, part, shared, room, fuel)?;
             add_all(&mut found, inners)?;
@@ -541,17 +509,43 @@ impl<'a> Walk<'a> {
             (in_hole (named name.now (pattern_of left.now)) (pattern_of right.now))
             (tree_of t.now)) }
     {
-        let Reach { fits: _, spots } = self.reach(left, right, t, room, fuel)?;
+        let nodes = part_nodes(&given, name, t);
+        let reached = self.reach(left, Wanted { pat: right, nodes }, t, room, fuel)?;
         let mut found = Vec::new(self.alloc);
-        for spot in &spots {
-            let path = spot.trail.places(self.alloc)?;
+        let paths = reached.paths.listed(self.alloc)?;
+        for path in &paths {
             let shared = shared_bindings(self.alloc, &given)?;
-            let part = part_at(t, &path);
-            grant(fuel, part);
-            let inners = self.go(right, part, shared, room, fuel)?;
-            let both = with_context(self.alloc, inners, name, t, &path)?;
+            grant(fuel, part_at(t, path));
+            let both = self.go_with_context(name, right, t, path, shared, room, fuel)?;
             add_all(&mut found, both)?;
         }
         Ok(found)
+    }
+
+    // What the right pattern binds at the end of a path, with a name for the context. Where the right
+    // one has this name too it is bound before, so that it finds the context there.
+    #[cycle(walk)]
+    #[inline(never)]
+    fn go_with_context(
+        &self,
+        name: &Name,
+        right: &Pat,
+        t: &Term,
+        path: &[usize],
+        given: Vec<Binding>,
+        room: Room,
+        fuel: &mut Fuel,
+    ) -> Result<Vec<Binding>, Halt>
+        requires { IsPlace (tree_of t.now) path.now }
+        ensures { GoesOn result given (NamedAt (language_in self.now.language.now)
+            (pattern_of right.now) (tree_of t.now) name.now path.now) }
+    {
+        let part = part_at(t, path);
+        if has_name(right, name) {
+            let outers = with_context(self.alloc, given, name, t, path)?;
+            return self.go(right, part, outers, room, fuel);
+        }
+        let inners = self.go(right, part, given, room, fuel)?;
+        with_context(self.alloc, inners, name, t, path)
     }
 }

@@ -1,4 +1,4 @@
-use Rattle.std.proofs.Common.{◌≡◌, refl, sym, subst}
+use Rattle.std.proofs.Common.{refl, sym, subst}
 use Rattle.std.specs.Prelude.{IfSome}
 use Rattle.rdx_lang.specs.Facts.{AreEach, IsKnown}
 use Rattle.rdx_lang.specs.PatternView.{patterns_of}

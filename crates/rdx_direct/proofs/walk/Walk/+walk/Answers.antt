@@ -306,29 +306,29 @@ go_later-returns = ordering.go_later-returns
 
 -- ---- what patterns reach
 
-pub reach_at-returns-clause-spots : goal.reach_at-returns-clause-spots
-reach_at-returns-clause-spots = reaching.reach_at-returns-clause-spots
+pub reach_at-returns-clause-paths : goal.reach_at-returns-clause-paths
+reach_at-returns-clause-paths = reaching.reach_at-returns-clause-paths
 
 pub reach_list-returns-else-not-are_plain-clause-fits : goal.reach_list-returns-else-not-are_plain-clause-fits
 reach_list-returns-else-not-are_plain-clause-fits = reaching.reach_list-returns-else-not-are_plain-clause-fits
 
-pub reach_list-returns-else-not-are_plain-clause-spots : goal.reach_list-returns-else-not-are_plain-clause-spots
-reach_list-returns-else-not-are_plain-clause-spots = reaching.reach_list-returns-else-not-are_plain-clause-spots
+pub reach_list-returns-else-not-are_plain-clause-paths : goal.reach_list-returns-else-not-are_plain-clause-paths
+reach_list-returns-else-not-are_plain-clause-paths = reaching.reach_list-returns-else-not-are_plain-clause-paths
 
 pub go_reached-part_at-part-requires : goal.go_reached-part_at-part-requires
 go_reached-part_at-part-requires = reaching.go_reached-part_at-part-requires
 
-pub go_reached-loop-spot-preserved : goal.go_reached-loop-spot-preserved
-go_reached-loop-spot-preserved = reaching.go_reached-loop-spot-preserved
+pub go_reached-loop-path-preserved : goal.go_reached-loop-path-preserved
+go_reached-loop-path-preserved = reaching.go_reached-loop-path-preserved
 
 pub go_reached-returns : goal.go_reached-returns
 go_reached-returns = reaching.go_reached-returns
 
-pub go_named_reached-part_at-part-requires : goal.go_named_reached-part_at-part-requires
-go_named_reached-part_at-part-requires = reaching.go_named_reached-part_at-part-requires
+pub go_named_reached-part_at-requires : goal.go_named_reached-part_at-requires
+go_named_reached-part_at-requires = reaching.go_named_reached-part_at-requires
 
-pub go_named_reached-loop-spot-preserved : goal.go_named_reached-loop-spot-preserved
-go_named_reached-loop-spot-preserved = reaching.go_named_reached-loop-spot-preserved
+pub go_named_reached-loop-path-preserved : goal.go_named_reached-loop-path-preserved
+go_named_reached-loop-path-preserved = reaching.go_named_reached-loop-path-preserved
 
 pub go_named_reached-returns : goal.go_named_reached-returns
 go_named_reached-returns = reaching.go_named_reached-returns
@@ -342,23 +342,23 @@ reach_many-reach_items-requires-2 = reaching.reach_many-reach_items-requires-2
 pub reach_many-loop-i-preserved : goal.reach_many-loop-i-preserved
 reach_many-loop-i-preserved = reaching.reach_many-loop-i-preserved
 
-pub reach_many-returns-then-not-more-clause-fits : goal.reach_many-returns-then-not-more-clause-fits
-reach_many-returns-then-not-more-clause-fits = reaching.reach_many-returns-then-not-more-clause-fits
+pub reach_many-returns-then-not-turn-clause-fits : goal.reach_many-returns-then-not-turn-clause-fits
+reach_many-returns-then-not-turn-clause-fits = reaching.reach_many-returns-then-not-turn-clause-fits
 
-pub reach_many-returns-then-not-more-clause-spots : goal.reach_many-returns-then-not-more-clause-spots
-reach_many-returns-then-not-more-clause-spots = reaching.reach_many-returns-then-not-more-clause-spots
+pub reach_many-returns-then-not-turn-clause-paths : goal.reach_many-returns-then-not-turn-clause-paths
+reach_many-returns-then-not-turn-clause-paths = reaching.reach_many-returns-then-not-turn-clause-paths
 
 pub reach_many-returns-clause-fits : goal.reach_many-returns-clause-fits
 reach_many-returns-clause-fits = reaching.reach_many-returns-clause-fits
 
-pub reach_many-returns-clause-spots : goal.reach_many-returns-clause-spots
-reach_many-returns-clause-spots = reaching.reach_many-returns-clause-spots
+pub reach_many-returns-clause-paths : goal.reach_many-returns-clause-paths
+reach_many-returns-clause-paths = reaching.reach_many-returns-clause-paths
 
 pub reach_items-returns-then-i-ts-clause-fits : goal.reach_items-returns-then-i-ts-clause-fits
 reach_items-returns-then-i-ts-clause-fits = reaching.reach_items-returns-then-i-ts-clause-fits
 
-pub reach_items-returns-then-i-ts-clause-spots : goal.reach_items-returns-then-i-ts-clause-spots
-reach_items-returns-then-i-ts-clause-spots = reaching.reach_items-returns-then-i-ts-clause-spots
+pub reach_items-returns-then-i-ts-clause-paths : goal.reach_items-returns-then-i-ts-clause-paths
+reach_items-returns-then-i-ts-clause-paths = reaching.reach_items-returns-then-i-ts-clause-paths
 
 pub reach_items-loop-i-preserved : goal.reach_items-loop-i-preserved
 reach_items-loop-i-preserved = reaching.reach_items-loop-i-preserved
@@ -366,8 +366,8 @@ reach_items-loop-i-preserved = reaching.reach_items-loop-i-preserved
 pub reach_items-returns-then-not-all-clause-fits : goal.reach_items-returns-then-not-all-clause-fits
 reach_items-returns-then-not-all-clause-fits = reaching.reach_items-returns-then-not-all-clause-fits
 
-pub reach_items-returns-then-not-all-clause-spots : goal.reach_items-returns-then-not-all-clause-spots
-reach_items-returns-then-not-all-clause-spots = reaching.reach_items-returns-then-not-all-clause-spots
+pub reach_items-returns-then-not-all-clause-paths : goal.reach_items-returns-then-not-all-clause-paths
+reach_items-returns-then-not-all-clause-paths = reaching.reach_items-returns-then-not-all-clause-paths
 
 pub reach_items-reach_rest-requires : goal.reach_items-reach_rest-requires
 reach_items-reach_rest-requires = reaching.reach_items-reach_rest-requires
@@ -375,17 +375,23 @@ reach_items-reach_rest-requires = reaching.reach_items-reach_rest-requires
 pub reach_items-returns-in-Many-clause-fits : goal.reach_items-returns-in-Many-clause-fits
 reach_items-returns-in-Many-clause-fits = reaching.reach_items-returns-in-Many-clause-fits
 
-pub reach_items-returns-in-Many-clause-spots : goal.reach_items-returns-in-Many-clause-spots
-reach_items-returns-in-Many-clause-spots = reaching.reach_items-returns-in-Many-clause-spots
+pub reach_items-returns-in-Many-clause-paths : goal.reach_items-returns-in-Many-clause-paths
+reach_items-returns-in-Many-clause-paths = reaching.reach_items-returns-in-Many-clause-paths
+
+pub reach_items-returns-then-not-end-clause-fits : goal.reach_items-returns-then-not-end-clause-fits
+reach_items-returns-then-not-end-clause-fits = reaching.reach_items-returns-then-not-end-clause-fits
+
+pub reach_items-returns-then-not-end-clause-paths : goal.reach_items-returns-then-not-end-clause-paths
+reach_items-returns-then-not-end-clause-paths = reaching.reach_items-returns-then-not-end-clause-paths
 
 pub reach_items-returns-clause-fits : goal.reach_items-returns-clause-fits
 reach_items-returns-clause-fits = reaching.reach_items-returns-clause-fits
 
-pub reach_items-returns-clause-spots : goal.reach_items-returns-clause-spots
-reach_items-returns-clause-spots = reaching.reach_items-returns-clause-spots
+pub reach_items-returns-clause-paths : goal.reach_items-returns-clause-paths
+reach_items-returns-clause-paths = reaching.reach_items-returns-clause-paths
 
-pub go_named_reached-with_context-requires : goal.go_named_reached-with_context-requires
-go_named_reached-with_context-requires = reaching.go_named_reached-with_context-requires
+pub go_named_reached-go_with_context-requires : goal.go_named_reached-go_with_context-requires
+go_named_reached-go_with_context-requires = reaching.go_named_reached-go_with_context-requires
 
 -- ---- what nonterminals do
 
@@ -416,8 +422,8 @@ fits_plain-returns-in-List = knowing.fits_plain-returns-in-List
 pub go-returns-in_ok-any-in-Nt : goal.go-returns-in_ok-any-in-Nt
 go-returns-in_ok-any-in-Nt = knowing.go-returns-in_ok-any-in-Nt
 
-pub reach-returns-then-splits_nothing-clause-spots : goal.reach-returns-then-splits_nothing-clause-spots
-reach-returns-then-splits_nothing-clause-spots = knowing.reach-returns-then-splits_nothing-clause-spots
+pub reach-returns-then-splits_nothing-clause-paths : goal.reach-returns-then-splits_nothing-clause-paths
+reach-returns-then-splits_nothing-clause-paths = knowing.reach-returns-then-splits_nothing-clause-paths
 
 pub reach_nt-loop-i-preserved-then-is_apart : goal.reach_nt-loop-i-preserved-then-is_apart
 reach_nt-loop-i-preserved-then-is_apart = knowing.reach_nt-loop-i-preserved-then-is_apart
@@ -431,5 +437,11 @@ reach_nt-loop-i-preserved = knowing.reach_nt-loop-i-preserved
 pub reach_nt-returns-clause-fits : goal.reach_nt-returns-clause-fits
 reach_nt-returns-clause-fits = knowing.reach_nt-returns-clause-fits
 
-pub reach_nt-returns-clause-spots : goal.reach_nt-returns-clause-spots
-reach_nt-returns-clause-spots = knowing.reach_nt-returns-clause-spots
+pub reach_nt-returns-clause-paths : goal.reach_nt-returns-clause-paths
+reach_nt-returns-clause-paths = knowing.reach_nt-returns-clause-paths
+
+pub go_with_context-returns-then-has_name : goal.go_with_context-returns-then-has_name
+go_with_context-returns-then-has_name = reaching.go_with_context-returns-then-has_name
+
+pub go_with_context-returns : goal.go_with_context-returns
+go_with_context-returns = reaching.go_with_context-returns

@@ -7,6 +7,8 @@ use Rattle.rdx_direct.proofs.SplitLaws.{StillSplits}
 use Rattle.rdx_direct.proofs.ReachLaws.{StillAny, StillReach, StillTurns, GoesAt, GoesWithName}
 use Rattle.rdx_direct.proofs.RunLaws.{StillRuns}
 use Rattle.rdx_direct.specs.Inside.Going.{Goes}
+use Rattle.rdx_direct.specs.Inside.Paths.{paths_in}
+use Rattle.rdx_direct.specs.Inside.Wanted.{Wants}
 use Rattle.rdx_term.specs.View.{tree_of, trees_of}
 use Rattle.rdx_lang.specs.Checked.{language_in}
 use Rattle.rdx_lang.specs.PatternView.{pattern_of, patterns_of, slot_of, items_of}
@@ -57,7 +59,7 @@ invariant-go_items-loop-i l =
     (items_of (map slot_of (drop l.i l.items))) (trees_of (drop l.i l.ts)) (bindings_of l.found.items)
 
 abbrev pub decreases-go_in_hole : goal.decreases-go_in_hole
-decreases-go_in_hole l = 16 * l.room.left + 2
+decreases-go_in_hole l = 16 * l.room.left + 3
 
 abbrev pub decreases-any_splits : goal.decreases-any_splits
 decreases-any_splits l = 16 * l.room.left + 1
@@ -177,31 +179,31 @@ abbrev pub decreases-go_reached : goal.decreases-go_reached
 decreases-go_reached l = 16 * l.room.left + 1
 
 abbrev pub decreases-go_named_reached : goal.decreases-go_named_reached
-decreases-go_named_reached l = 16 * l.room.left + 1
+decreases-go_named_reached l = 16 * l.room.left + 2
 
 abbrev pub invariant-reach_nt-loop-i : goal.invariant-reach_nt-loop-i
 invariant-reach_nt-loop-i l =
-    StillAny (language_in l.self.language.now) (pattern_of l.right) (tree_of l.t) (patterns_of l.choices.pats.now) (patterns_of (drop l.i l.choices.pats.now)) (spots_of l.gathered.spots.items) l.fits
+    StillAny (language_in l.self.language.now) (Wants (language_in l.self.language.now) l.wanted) (tree_of l.t) (patterns_of l.choices.pats.now) (patterns_of (drop l.i l.choices.pats.now)) l.paths l.fits
 
 abbrev pub invariant-reach_items-loop-i : goal.invariant-reach_items-loop-i
 invariant-reach_items-loop-i l =
-    (l.i ≤ length l.ts) × StillReach (language_in l.self.language.now) (pattern_of l.right) l.place (items_of (map slot_of l.items)) (trees_of l.ts) (l.place + l.i)
-    (items_of (map slot_of (drop l.i l.items))) (trees_of (drop l.i l.ts)) (spots_of l.spots.items) l.all
+    (l.i ≤ length l.ts) × StillReach (language_in l.self.language.now) (Wants (language_in l.self.language.now) l.wanted) l.place (items_of (map slot_of l.items)) (trees_of l.ts) (l.place + l.i)
+    (items_of (map slot_of (drop l.i l.items))) (trees_of (drop l.i l.ts)) l.paths l.all
 
 abbrev pub invariant-reach_many-loop-i : goal.invariant-reach_many-loop-i
 invariant-reach_many-loop-i l =
-    StillTurns (language_in l.self.language.now) (pattern_of l.right) (pattern_of l.turns.pat.now) (items_of (map slot_of l.turns.rest.now)) l.place (trees_of l.ts) (l.place + l.i)
-    (trees_of (drop l.i l.ts)) (spots_of l.gathered.spots.items) l.fits
+    StillTurns (language_in l.self.language.now) (Wants (language_in l.self.language.now) l.wanted) (pattern_of l.turns.pat.now) (items_of (map slot_of l.turns.rest.now)) l.place (trees_of l.ts) (l.place + l.i)
+    (trees_of (drop l.i l.ts)) l.paths l.fits
 
-abbrev pub invariant-go_reached-loop-spot : goal.invariant-go_reached-loop-spot
-invariant-go_reached-loop-spot l =
+abbrev pub invariant-go_reached-loop-path : goal.invariant-go_reached-loop-path
+invariant-go_reached-loop-path l =
     let nothing : List Binding = [] in
-    Collects (GoesAt (language_in l.self.language.now) (pattern_of l.right) (tree_of l.t) (bindings_of l.given.items)) (spots_of l.spot-items) (spots_of (drop l.spot-index l.spot-items)) nothing (bindings_of l.found.items)
+    Collects (GoesAt (language_in l.self.language.now) (pattern_of l.right) (tree_of l.t) (bindings_of l.given.items)) (paths_in l.path-items) (paths_in (drop l.path-index l.path-items)) nothing (bindings_of l.found.items)
 
-abbrev pub invariant-go_named_reached-loop-spot : goal.invariant-go_named_reached-loop-spot
-invariant-go_named_reached-loop-spot l =
+abbrev pub invariant-go_named_reached-loop-path : goal.invariant-go_named_reached-loop-path
+invariant-go_named_reached-loop-path l =
     let nothing : List Binding = [] in
-    Collects (GoesWithName (language_in l.self.language.now) (pattern_of l.right) (tree_of l.t) l.name (bindings_of l.given.items)) (spots_of l.spot-items) (spots_of (drop l.spot-index l.spot-items)) nothing (bindings_of l.found.items)
+    Collects (GoesWithName (language_in l.self.language.now) (pattern_of l.right) (tree_of l.t) l.name (bindings_of l.given.items)) (paths_in l.path-items) (paths_in (drop l.path-index l.path-items)) nothing (bindings_of l.found.items)
 
 abbrev pub decreases-fits_inside : goal.decreases-fits_inside
 decreases-fits_inside l = 16 * l.room.left
@@ -220,3 +222,6 @@ decreases-reach_choice l = 16 * l.room.left + 10
 
 abbrev pub decreases-reach_nt : goal.decreases-reach_nt
 decreases-reach_nt l = 16 * l.room.left + 11
+
+abbrev pub decreases-go_with_context : goal.decreases-go_with_context
+decreases-go_with_context l = 16 * l.room.left + 1

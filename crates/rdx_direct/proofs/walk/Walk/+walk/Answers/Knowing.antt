@@ -1,5 +1,5 @@
 -- The answers on nonterminals, their alternatives, and what is known of them.
-use Rattle.std.proofs.Common.{arith, ◌≡◌, ◌∙◌, ℕ, ◌+◌, Bool, IsTrue, List, ◌∷◌, drop, map, length, vec_len, nat_eq, refl, ap, sym, subst}
+use Rattle.std.proofs.Common.{arith, ◌≡◌, ◌∙◌, ℕ, ◌+◌, IsTrue, List, ◌∷◌, drop, length, vec_len, nat_eq, refl, ap, sym, subst}
 use Rattle.std.specs.Prelude.{◌↔◌}
 use Rattle.std.proofs.lemmas.Grind.{common_steps}
 use Rattle.std.proofs.lemmas.Result.{IfOk-weaker}
@@ -8,22 +8,19 @@ use Rattle.rdx_term.specs.View.{tree_of, trees_of}
 use Rattle.rdx_lang.proofs.PatternEquations.{pattern_nt, pattern_hide_hole, pattern_closed}
 use Rattle.rdx_lang.proofs.Rest.{rest_at, rest_none}
 use Rattle.rdx_lang.specs.Checked.{language_in}
-use Rattle.rdx_lang.specs.Facts.{IsAtMost}
 use Rattle.rdx_lang.specs.Members.{In}
-use Rattle.rdx_lang.specs.Patterns.{Pattern, Language, nt, hide_hole, closed, wild}
+use Rattle.rdx_lang.specs.Patterns.{Language, nt, hide_hole, closed}
 use Rattle.rdx_lang.specs.PatternView.{pattern_of, patterns_of}
 use Rattle.rdx_lang.specs.Rules.{Match}
 use Rattle.rdx_lang.specs.Shown.{bindings_of}
 use Rattle.rdx_bind.proofs.AcrossRows.{bindings_are_maps}
 use Rattle.rdx_bind.proofs.AnyOf.{untried_first, untried_next, untried_none}
-use Rattle.rdx_bind.specs.Spots.{spots_of}
-use Rattle.rdx_direct.proofs.GoingLaws.{alone_nt, alone_closed, fits_alone, fits_false, fits_hidden, goes_at, goes_alone, is_zero, nt_alone}
+use Rattle.rdx_direct.proofs.GoingLaws.{alone_closed, fits_alone, fits_false, fits_hidden, goes_at, goes_alone, is_zero, nt_alone}
 use Rattle.rdx_direct.proofs.ItemLaws.{list_fits}
 use Rattle.rdx_direct.proofs.KnownLaws.{fits_there, fits_nowhere, nt_fits_by}
 use Rattle.rdx_direct.proofs.ReachLaws.{any_next, any_skipped, any_done, any_done_fit, fit_found, nothing_reached, nt_reached}
 use Rattle.rdx_direct.specs.Inside.Going.{Alone, Fits}
 use Rattle.rdx_direct.specs.Inside.Known.{IsHint}
-use Rattle.rdx_direct.specs.Inside.Reaching.{IsApart}
 use Rattle.rdx_direct.proofs.walk.Walk.+walk.Goals as goal
 
 pub fit_end-returns : goal.fit_end-returns
@@ -103,9 +100,9 @@ fits_nt-returns t c =
 
 -- ---- where they split
 
-pub reach-returns-then-splits_nothing-clause-spots : goal.reach-returns-then-splits_nothing-clause-spots
-reach-returns-then-splits_nothing-clause-spots t c =
-    nothing_reached c.unsplit.ensures.spots (c.if-splits_nothing.ensures refl (language_in c.args.self.now.language.now) (tree_of c.args.t.now))
+pub reach-returns-then-splits_nothing-clause-paths : goal.reach-returns-then-splits_nothing-clause-paths
+reach-returns-then-splits_nothing-clause-paths t c =
+    nothing_reached c.unsplit.ensures.paths (c.if-splits_nothing.ensures refl (language_in c.args.self.now.language.now) (tree_of c.args.t.now))
 
 pub reach_nt-reach_choice-requires : goal.reach_nt-reach_choice-requires
 reach_nt-reach_choice-requires t c =
@@ -122,7 +119,7 @@ reach_nt-loop-i-preserved-then-is_apart t c =
     let xs = c.args.choices.pats.now in
     let i : ℕ = c.loop-i.i in
     let p = c.index-pats-i.result in
-    any_skipped (tree_of c.args.t.now) (patterns_of xs) (pattern_of p) (patterns_of (drop i xs)) (patterns_of (drop (i + 1) xs)) (spots_of c.loop-i.gathered.spots.items) c.loop-i.fits
+    any_skipped (tree_of c.args.t.now) (patterns_of xs) (pattern_of p) (patterns_of (drop i xs)) (patterns_of (drop (i + 1) xs)) c.loop-i.paths c.loop-i.fits
     (rest_at pattern_of xs i p (omega arith) c.index-pats-i.is) (c.if-is_apart.ensures refl L) c.loop-i.invariant
 
 pub reach_nt-loop-i-preserved : goal.reach_nt-loop-i-preserved
@@ -130,16 +127,16 @@ reach_nt-loop-i-preserved t c =
     let xs = c.args.choices.pats.now in
     let i : ℕ = c.loop-i.i in
     let p = c.index-pats-i.result in
-    any_next (tree_of c.args.t.now) (patterns_of xs) (pattern_of p) (patterns_of (drop i xs)) (patterns_of (drop (i + 1) xs)) (spots_of c.loop-i.gathered.spots.items) (spots_of c.in_ok-so.field-0.spots.items)
-    (spots_of c.add.new.self.spots.items) c.loop-i.fits c.in_ok-so.field-0.fits (rest_at pattern_of xs i p (omega arith) c.index-pats-i.is) c.in_ok-so.ensures.fits c.in_ok-so.ensures.spots c.in_ok-add.ensures c.loop-i.invariant
+    any_next (tree_of c.args.t.now) (patterns_of xs) (pattern_of p) (patterns_of (drop i xs)) (patterns_of (drop (i + 1) xs)) c.loop-i.paths c.in_ok-reached.reached.paths
+    c.in_ok-paths.paths c.loop-i.fits c.in_ok-reached.reached.fits (rest_at pattern_of xs i p (omega arith) c.index-pats-i.is) c.in_ok-reached.ensures.fits c.in_ok-reached.ensures.paths c.in_ok-paths.ensures c.loop-i.invariant
 
 pub reach_nt-returns-clause-fits : goal.reach_nt-returns-clause-fits
 reach_nt-returns-clause-fits t c =
     let xs = c.args.choices.pats.now in
     nt_fits_by (patterns_of xs) c.requires.all (any_done_fit (tree_of c.args.t.now) (patterns_of xs) (rest_none pattern_of xs c.loop-i.i (omega arith)) c.loop-i.invariant)
 
-pub reach_nt-returns-clause-spots : goal.reach_nt-returns-clause-spots
-reach_nt-returns-clause-spots t c =
+pub reach_nt-returns-clause-paths : goal.reach_nt-returns-clause-paths
+reach_nt-returns-clause-paths t c =
     let xs = c.args.choices.pats.now in
     nt_reached (patterns_of xs) c.requires.all
-    (any_done (tree_of c.args.t.now) (patterns_of xs) (spots_of c.in_ok-spots.spots.items) (rest_none pattern_of xs c.loop-i.i (omega arith)) c.in_ok-spots.ensures c.loop-i.invariant)
+    (any_done (tree_of c.args.t.now) (patterns_of xs) (rest_none pattern_of xs c.loop-i.i (omega arith)) c.loop-i.invariant)
