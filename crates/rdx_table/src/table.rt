@@ -13,7 +13,7 @@ use crate::solve::solve;
 use crate::task::Goal;
 use rdx_bind::listing;
 use rdx_bind::rows::Row;
-use rdx_direct::try_matches;
+use rdx_direct::{try_matches, try_splits};
 use rdx_lang::{Binding, CheckedLang, CheckedPat, Matcher, Split};
 use rdx_nodes::interned::Interned;
 use rdx_nodes::places::Places;
@@ -111,6 +111,11 @@ impl Matcher for Table {
         pat: &CheckedPat,
         t: &Term,
     ) -> Result<Vec<Split>, NoMemory> {
+        self.places.see(self.alloc, language.language())?;
+        let places = self.places.of(language.language());
+        if let Some(found) = try_splits(self.alloc, language, places, pat, t)? {
+            return Ok(found);
+        }
         let row = self.row(language, pat, t, true)?;
         sorted_splits(self.alloc, t, row.spots)
     }
