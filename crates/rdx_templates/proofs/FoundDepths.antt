@@ -1,5 +1,6 @@
 -- Bound names that are found by their texts, when one more is put in.
-use Rattle.std.proofs.Common.{◌≡◌, ◌∙◌, ◌++◌, ℕ, Bool, true, false, cond, List, [], ◌∷◌, Option, Some, None, BTreeMap, Bor, refl, sym, ap, subst, if◌then◌else◌}
+use Rattle.std.proofs.Common.{◌≡◌, ◌∙◌, ◌++◌, ◌+◌, ◌<◌, ℕ, Bool, true, false, cond, List, [], ◌∷◌, length, drop, Option, Some, None, BTreeMap, Bor, refl, sym, ap, subst, if◌then◌else◌, arith}
+use Rattle.std.proofs.lemmas.List.{drop_all, length-append}
 use Rattle.std.proofs.lemmas.Map.Text.{btree_map_updates_str}
 use Rattle.std.specs.BTreeMap.{Updates}
 use Rattle.std.specs.Cmp.Lexicographic.{bytes_decides, slice_cmp}
@@ -7,7 +8,7 @@ use Rattle.std.specs.Ordering.{nat_cmp}
 use Rattle.std.specs.Prelude.{IsTrue, OnOk, Result, Ok, Err, bytes_eq, is_ok, is_some}
 use Rattle.rdx_term.specs.Spelling.{is_name}
 use Rattle.rdx_templates.specs.Bound.{Bound, depth_of}
-use Rattle.rdx_templates.specs.Model.Depths.{FindsDepths, depth_in}
+use Rattle.rdx_templates.specs.Model.Depths.{FindsDepths, depth_in, few}
 
 -- the depth of a text, where it is the first of all, or else another
 abbrev first_or : Option ℕ → Option ℕ → Option ℕ
@@ -73,6 +74,12 @@ finds-new bs e k old new q h w u all x =
       λ t. some-new o (bytes_eq e.0 x) e.1 (IsTrue (is_name x)) (all x).1
           (λ s. subst (λ y. IsTrue (is_name y)) ((bytes_decides e.0 x).0 s) w) (ap is_some (sym (depth-more bs e x)) ∙ t),
     )
+
+-- one more among the first few changes nothing of those behind them, of which there are none
+pub finds-few : (bs : Bound) (e : List ℕ × ℕ) (m : BTreeMap (Bor (List ℕ)) ℕ) → length bs < few → FindsDepths (drop few bs) m → FindsDepths (drop few (bs ++ e ∷ [])) m
+finds-few bs e m h all =
+    let n : length (bs ++ e ∷ []) ≡ length bs + 1 = length-append bs (e ∷ []) in
+    subst (λ (cs : Bound). FindsDepths cs m) (drop_all few bs (omega arith) ∙ sym (drop_all few (bs ++ e ∷ []) (omega (arith, n)))) all
 
 -- what there is of a value, where there is one
 pub on_ok : {A E : Type 0} (r : Result A E) (P : Type 0) → is_ok r ≡ true → OnOk r P → P

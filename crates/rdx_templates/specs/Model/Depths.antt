@@ -14,3 +14,7 @@ depth_in m x = get_by (λ k. slice_cmp nat_cmp x k.now) m
 -- each text has in the map the depth that it has first among these, and is a name where it has one
 abbrev pub FindsDepths : Bound → BTreeMap (Bor (List ℕ)) ℕ → Type 0
 FindsDepths bs m = (x : List ℕ) → (depth_in m x ≡ depth_of bs x) × (IsTrue (is_some (depth_of bs x)) → IsTrue (is_name x))
+
+-- so many of the bound names behind the first one are looked through one by one; those behind them are in a map
+abbrev pub few : ℕ
+few = 8
