@@ -1,9 +1,11 @@
 -- What follows from what is known of nonterminals and of their alternatives.
-use Rattle.std.proofs.Common.{arith, ◌≡◌, ◌<◌, ℕ, zero, suc, Bool as Truth, IsTrue, IsFalse, List, [], ◌∷◌, length, get_or, drop, sym, ◌∙◌, ap, subst}
+use Rattle.std.proofs.Common.{arith, ◌≡◌, ◌<◌, ◌≤◌, ℕ, zero, suc, Bool as Truth, IsTrue, IsFalse, List, [], ◌∷◌, length, get_or, drop, sym, ◌∙◌, ap, subst}
 use Rattle.std.specs.Prelude.{◌↔◌}
+use Rattle.rdx_term.specs.Terms.{IsTerm}
 use Rattle.rdx_term.specs.Tree.{Tree, tree_holes}
+use Rattle.rdx_lang.proofs.FactLaws.{item_count-small}
 use Rattle.rdx_lang.proofs.RuleSteps.{nt_inside}
-use Rattle.rdx_lang.specs.Facts.{AreEach, IsAtMost, is_list}
+use Rattle.rdx_lang.specs.Facts.{AreEach, IsAtMost, greatest, is_list, item_count}
 use Rattle.rdx_lang.specs.Members.{In}
 use Rattle.rdx_lang.specs.Patterns.{Pattern, Language, nt}
 use Rattle.rdx_lang.specs.PatternView.{pattern_of, patterns_of}
@@ -27,11 +29,12 @@ each_at L h (p ∷ ps) (x ∷ es) (suc i) e f a l g = each_at L h ps es i e f a.
 
 module _ {L : Language} where
   -- where all may be, nothing is said
-  pub at_most_all : {may : May} (p : Pattern) → IsTrue may.split → IsTrue may.atoms → IsTrue may.lists → IsTrue may.solid → IsTrue may.bind → IsAtMost L may p
-  at_most_all {may} p s a l o b = record {
+  pub at_most_all : {may : May} (p : Pattern) → IsTrue may.split → IsTrue may.atoms → may.least ≡ 0 → may.most ≡ greatest → IsTrue may.solid → IsTrue may.bind → IsAtMost L may p
+  at_most_all {may} p s a l m o b = record {
     split = λ h. absurd (neither may.split s h);
     atoms = λ h. absurd (neither may.atoms a h);
-    lists = λ h. absurd (neither may.lists l h);
+    least = λ t c k h. omega arith;
+    most = λ h t c k g. absurd (omega arith);
     solid = λ h. absurd (neither may.solid o h);
     bind = λ h. absurd (neither may.bind b h);
   }
@@ -43,8 +46,14 @@ module _ {L : Language} where
   pub no_atom : {may : May} {p : Pattern} {t : Tree} → IsFalse may.atoms → IsFalse (is_list t) → IsAtMost L may p → MatchesNone L p t
   no_atom {t = t} h f k b m = let g : IsTrue (is_list t) = k.atoms h t b m in absurd cc
 
-  pub no_list : {may : May} {p : Pattern} {t : Tree} → IsFalse may.lists → IsTrue (is_list t) → IsAtMost L may p → MatchesNone L p t
-  no_list {t = t} h f k b m = let g : IsFalse (is_list t) = k.lists h t b m in absurd cc
+  pub no_shorter : {may : May} {p : Pattern} {t : Tree} → item_count t < may.least → IsTrue (is_list t) → IsAtMost L may p → MatchesNone L p t
+  no_shorter {may} {t = t} h f k b m = let g : may.least ≤ item_count t = k.least t b m f in absurd (omega arith)
+
+  pub no_longer : {may : May} {p : Pattern} {t : Tree} → IsTerm t → may.most < item_count t → IsTrue (is_list t) → IsAtMost L may p → MatchesNone L p t
+  no_longer {may} {t = t} w h f k b m =
+      let s : may.most < greatest = omega (arith, item_count-small t w) in
+      let g : item_count t ≤ may.most = k.most s t b m f in
+      absurd (omega arith)
 
   pub no_solid : {may : May} {p : Pattern} {t : Tree} → IsFalse may.solid → tree_holes t ≡ 0 → IsAtMost L may p → MatchesNone L p t
   no_solid {t = t} h f k b m = k.solid h t b m f

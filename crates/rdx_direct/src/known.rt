@@ -19,7 +19,8 @@ use rdx_term::Term;
 const ANYTHING: May = May {
     split: true,
     atoms: true,
-    lists: true,
+    least: 0,
+    most: u32::MAX,
     solid: true,
     bind: true,
 };
@@ -167,6 +168,12 @@ pub(crate) fn leaves_out(may: May, t: &Term) -> bool
     match t {
         Term::Hole => !may.atoms,
         Term::Int(_) | Term::Bool(_) | Term::Str(_) | Term::Sym(_) => !may.atoms || !may.solid,
-        Term::List(node) => !may.lists || !may.solid && node.holes() == 0,
+        Term::List(node) => {
+            // The greatest number bounds nothing: no term has more items.
+            let count = node.items().len();
+            count < may.least as usize
+                || count > may.most as usize
+                || !may.solid && node.holes() == 0
+        }
     }
 }

@@ -1,13 +1,15 @@
 -- Where each nonterminal may do what its alternatives may, no pattern does what it may not.
-use Rattle.std.proofs.Common.{◌≡◌, ℕ, Bool, true, false, List, [], ◌∷◌, map, refl, sym, ap, ◌∙◌, subst, arith}
-use Rattle.std.proofs.lemmas.Bool.{and_parts, and_from, or_left, or_right, both_ways}
-use Rattle.std.specs.Prelude.{not, ◌&&◌, ◌||◌, Option, Some, None, is_some, nat_eq}
+use Rattle.std.proofs.Common.{◌≡◌, ℕ, zero, suc, ◌+◌, ◌<◌, ◌≤◌, ◌⊎◌, inl, inr, Bool, true, false, List, [], ◌∷◌, map, refl, sym, ap, ◌∙◌, subst, arith}
+use Rattle.std.proofs.lemmas.Bool.{and_parts, and_from, or_left, or_right, both_ways, cases_lt, leb-true, eq-eqb, lt-ltb}
+use Rattle.std.specs.Prelude.{not, ◌&&◌, ◌||◌, Option, Some, None, is_some, nat_eq, nat_le, nat_lt, if◌then◌else◌}
 use Rattle.rdx_term.proofs.Bare.{tree_holes-same_bare}
 use Rattle.rdx_term.specs.Bare.{bare}
+use Rattle.rdx_term.specs.Items.{trees_count}
 use Rattle.rdx_term.specs.Tree.{Tree, integer, truth, text, symbol, list, Trees, tree_holes, trees_holes}
 use Rattle.rdx_term.specs.Tree.{hole as the_hole}
+use Rattle.rdx_lang.proofs.FactLaws.{item_count-same_bare}
 use Rattle.rdx_lang.specs.Bindings.{Binding}
-use Rattle.rdx_lang.specs.Facts.{is_list, IsAtMost, AreEach, AreKnown}
+use Rattle.rdx_lang.specs.Facts.{is_list, item_count, greatest, IsAtMost, AreEach, AreKnown}
 use Rattle.rdx_lang.specs.Members.{In, here, there}
 use Rattle.rdx_lang.specs.Names.{names, item_names, add_names, with_length_name}
 use Rattle.rdx_lang.specs.Patterns.{Pattern, wild, of_kind, except, prefix, hole, lit, nt, named, in_hole, hide_hole, closed, seq, Items, nil, one, many, Definition, Language}
@@ -19,7 +21,7 @@ use Rattle.rdx_lang.specs.declared.facts.May.{May}
 use Rattle.rdx_lang.specs.declared.pattern.Kind.{Kind}
 use Rattle.rdx_lang.specs.declared.pattern.Kind.TheVariants.{Any, Number, Natural, Integer, Real, Text, Boolean, Variable, Unmentioned}
 use Rattle.rdx_lang.specs.declared.pattern.Ref.{Ref}
-use Rattle.rdx_facts.specs.Inside.Flags.{atoms, kind_may, literal, filled, empty, with_one, with_many, may_of, items_may, is_within, are_within, is_closed, mays, flags_of, flags_by}
+use Rattle.rdx_facts.specs.Inside.Flags.{anything, atoms, kind_may, literal, may_lists, filled, empty, with_one, with_many, may_of, items_may, is_within, are_within, is_closed, mays, flags_of, flags_by}
 use Rattle.rdx_facts.proofs.Parts.{part-solid, part-same}
 
 -- ---- flags
@@ -27,7 +29,8 @@ use Rattle.rdx_facts.proofs.Parts.{part-solid, part-same}
 -- what m says, where a term is matched
 pub record Fits (m : May) (t : Tree) : Type 0 where
   pub atoms : is_list t ≡ false → m.atoms ≡ true
-  pub lists : is_list t ≡ true → m.lists ≡ true
+  pub least : is_list t ≡ true → m.least ≤ item_count t
+  pub most : m.most < greatest → is_list t ≡ true → item_count t ≤ m.most
   pub solid : tree_holes t ≡ 0 → m.solid ≡ true
 
 -- what is so of the first of two tests is so of the second
@@ -39,18 +42,23 @@ leads false b h e = absurd cc
 record Within (m k : May) : Type 0 where
   pub split : m.split ≡ true → k.split ≡ true
   pub atoms : m.atoms ≡ true → k.atoms ≡ true
-  pub lists : m.lists ≡ true → k.lists ≡ true
+  pub least : k.least ≤ m.least
+  pub most : m.most ≤ k.most
   pub solid : m.solid ≡ true → k.solid ≡ true
 
 within-tests : (m k : May) → is_within m k ≡ true → Within m k
 within-tests m k h =
-    let a = and_parts ((not m.split || k.split) && (not m.atoms || k.atoms) && (not m.lists || k.lists)) (not m.solid || k.solid) h in
-    let b = and_parts ((not m.split || k.split) && (not m.atoms || k.atoms)) (not m.lists || k.lists) a.0 in
-    let c = and_parts (not m.split || k.split) (not m.atoms || k.atoms) b.0 in
+    let low : Bool = nat_le k.least m.least in
+    let high : Bool = nat_le m.most k.most in
+    let a = and_parts ((not m.split || k.split) && (not m.atoms || k.atoms) && low && high) (not m.solid || k.solid) h in
+    let b = and_parts ((not m.split || k.split) && (not m.atoms || k.atoms) && low) high a.0 in
+    let c = and_parts ((not m.split || k.split) && (not m.atoms || k.atoms)) low b.0 in
+    let d = and_parts (not m.split || k.split) (not m.atoms || k.atoms) c.0 in
     record {
-      split = leads m.split k.split c.0;
-      atoms = leads m.atoms k.atoms c.1;
-      lists = leads m.lists k.lists b.1;
+      split = leads m.split k.split d.0;
+      atoms = leads m.atoms k.atoms d.1;
+      least = leb-true k.least m.least c.1;
+      most = leb-true m.most k.most b.1;
       solid = leads m.solid k.solid a.1;
     }
 
@@ -58,33 +66,39 @@ within-tests m k h =
 fits-within : (m k : May) (t : Tree) → Within m k → Fits m t → Fits k t
 fits-within m k t w f = record {
   atoms = λ h. w.atoms (f.atoms h);
-  lists = λ h. w.lists (f.lists h);
+  least = λ h. let a = w.least in let b = f.least h in omega arith;
+  most = λ s h. let a = w.most in let c : m.most < greatest = omega arith in let b = f.most c h in omega arith;
   solid = λ h. w.solid (f.solid h);
 }
 
 -- each term fits where all may be matched
-fits-anything : (m : May) (t : Tree) → m.atoms ≡ true → m.lists ≡ true → m.solid ≡ true → Fits m t
-fits-anything m t a l s = record { atoms = λ h. a; lists = λ h. l; solid = λ h. s }
+fits-anything : (t : Tree) → Fits anything t
+fits-anything t = record { atoms = λ h. refl; least = λ h. omega arith; most = λ s h. absurd (omega arith); solid = λ h. refl }
 
 -- atoms fit where these may be matched
 fits-atoms : (t : Tree) → is_list t ≡ false → Fits atoms t
-fits-atoms t f = record { atoms = λ h. refl; lists = λ h. absurd (both_ways (is_list t) f h); solid = λ h. refl }
+fits-atoms t f = record {
+  atoms = λ h. refl;
+  least = λ h. absurd (both_ways (is_list t) f h);
+  most = λ s h. absurd (both_ways (is_list t) f h);
+  solid = λ h. refl;
+}
 
--- each built-in name stands for atoms
-kind-atoms : (k : Kind) → ((kind_may k).atoms ≡ true) × ((kind_may k).solid ≡ true)
-kind-atoms Any = (refl, refl)
-kind-atoms Number = (refl, refl)
-kind-atoms Natural = (refl, refl)
-kind-atoms Integer = (refl, refl)
-kind-atoms Real = (refl, refl)
-kind-atoms Text = (refl, refl)
-kind-atoms Boolean = (refl, refl)
-kind-atoms Variable = (refl, refl)
-kind-atoms Unmentioned = (refl, refl)
+-- atoms fit each built-in name
+kind-atom : (k : Kind) (t : Tree) → is_list t ≡ false → Fits (kind_may k) t
+kind-atom Any t f = fits-anything t
+kind-atom Number t f = fits-atoms t f
+kind-atom Natural t f = fits-atoms t f
+kind-atom Integer t f = fits-atoms t f
+kind-atom Real t f = fits-atoms t f
+kind-atom Text t f = fits-atoms t f
+kind-atom Boolean t f = fits-atoms t f
+kind-atom Variable t f = fits-atoms t f
+kind-atom Unmentioned t f = fits-atoms t f
 
 -- only one stands for lists
-kind-list : (L : Language) (k : Kind) (m : Option ℕ) (ts : Trees) → is_of_kind L k (list m ts) ≡ true → (kind_may k).lists ≡ true
-kind-list L Any m ts h = refl
+kind-list : (L : Language) (k : Kind) (m : Option ℕ) (ts : Trees) → is_of_kind L k (list m ts) ≡ true → Fits (kind_may k) (list m ts)
+kind-list L Any m ts h = fits-anything (list m ts)
 kind-list L Number m ts h = absurd cc
 kind-list L Natural m ts h = absurd cc
 kind-list L Integer m ts h = absurd cc
@@ -94,17 +108,14 @@ kind-list L Boolean m ts h = absurd cc
 kind-list L Variable m ts h = absurd cc
 kind-list L Unmentioned m ts h = absurd cc
 
-kind-lists : (L : Language) (k : Kind) (t : Tree) → is_of_kind L k t ≡ true → is_list t ≡ true → (kind_may k).lists ≡ true
-kind-lists L k the_hole h e = absurd cc
-kind-lists L k (integer z) h e = absurd cc
-kind-lists L k (truth b) h e = absurd cc
-kind-lists L k (text s) h e = absurd cc
-kind-lists L k (symbol s) h e = absurd cc
-kind-lists L k (list m ts) h e = kind-list L k m ts h
-
 -- what a built-in name stands for fits
 kind-fits : (L : Language) (k : Kind) (t : Tree) → is_of_kind L k t ≡ true → Fits (kind_may k) t
-kind-fits L k t h = record { atoms = λ e. (kind-atoms k).0; lists = λ e. kind-lists L k t h e; solid = λ e. (kind-atoms k).1 }
+kind-fits L k the_hole h = kind-atom k the_hole refl
+kind-fits L k (integer z) h = kind-atom k (integer z) refl
+kind-fits L k (truth b) h = kind-atom k (truth b) refl
+kind-fits L k (text s) h = kind-atom k (text s) refl
+kind-fits L k (symbol s) h = kind-atom k (symbol s) refl
+kind-fits L k (list m ts) h = kind-list L k m ts h
 
 -- marks don't make lists
 bare-list : (t : Tree) → is_list (bare t) ≡ is_list t
@@ -115,27 +126,47 @@ bare-list (text s) = refl
 bare-list (symbol s) = refl
 bare-list (list m ts) = refl
 
+-- what a test that is true picks
+picks : {A : Type 0} (b : Bool) (x y : A) → b ≡ true → (if b then x else y) ≡ x
+picks true x y h = refl
+picks false x y h = absurd cc
+
 -- what a literal matches fits
 literal-fits : (u t : Tree) → bare t ≡ bare u → Fits (literal u) t
 literal-fits u t e =
     let l : is_list t ≡ is_list u = sym (bare-list t) ∙ ap is_list e ∙ bare-list u in
+    let c : item_count t ≡ item_count u = item_count-same_bare t u e in
     record {
       atoms = λ h. ap not (sym l ∙ h);
-      lists = λ h. sym l ∙ h;
+      least = λ h. let p = picks (is_list u) (item_count u) greatest (sym l ∙ h) in omega arith;
+      most = λ s h. omega arith;
       solid = λ h. ap (λ n. nat_eq n 0) (sym (tree_holes-same_bare t u e) ∙ h);
     }
+
+-- where a list of so many items fits, some list may be matched
+some-list : (m : May) (n : ℕ) → m.least ≤ n → (m.most < greatest → n ≤ m.most) → may_lists m ≡ true
+some-list m zero l h = or_left (nat_eq m.least 0) (nat_lt 0 m.most) (eq-eqb m.least 0 (omega arith))
+some-list m (suc n) l h = or_right (nat_eq m.least 0) (nat_lt 0 m.most) (lt-ltb 0 m.most (by_most (cases_lt m.most greatest)))
+  where
+    by_most : (m.most < greatest) ⊎ (greatest ≤ m.most) → 0 < m.most
+    by_most (inl s) = let k = h s in omega arith
+    by_most (inr s) = omega arith
 
 -- what is filled fits, where the part does: in a term without a hole it has none, and in what is no list it is all
 filled-fits : (l r : May) (t u : Tree) → l.split ≡ true → (tree_holes t ≡ 0 → tree_holes u ≡ 0) → (is_list t ≡ false → u ≡ t) → Fits r u → Fits (filled l r) t
 filled-fits l r t u s solid same f = record {
   atoms = λ h. and_from l.split r.atoms s (f.atoms (ap is_list (same h) ∙ h));
-  lists = λ h. and_from l.split (r.atoms || r.lists) s (either (is_list u) refl);
+  least = λ h. let p = picks (l.split && (r.atoms || may_lists r)) 0 greatest some in omega arith;
+  most = λ m h. let p = picks (l.split && (r.atoms || may_lists r)) greatest 0 some in absurd (omega arith);
   solid = λ h. and_from l.split r.solid s (f.solid (solid h));
 }
   where
-    either : (b : Bool) → is_list u ≡ b → (r.atoms || r.lists) ≡ true
-    either true e = or_right r.atoms r.lists (f.lists e)
-    either false e = or_left r.atoms r.lists (f.atoms e)
+    either : (b : Bool) → is_list u ≡ b → (r.atoms || may_lists r) ≡ true
+    either true e = or_right r.atoms (may_lists r) (some-list r (item_count u) (f.least e) (λ m. f.most m e))
+    either false e = or_left r.atoms (may_lists r) (f.atoms e)
+
+    some : (l.split && (r.atoms || may_lists r)) ≡ true
+    some = and_from l.split (r.atoms || may_lists r) s (either (is_list u) refl)
 
 -- ---- items
 
@@ -146,12 +177,6 @@ module _ (E : Ref → May) where
   split-stays (one p ps) m h = split-stays ps (with_one m (may_of E p)) (or_left m.split (may_of E p).split h)
   split-stays (many p n ps) m h =
       split-stays ps (with_many m (may_of E p) (is_some n)) (or_left m.split (may_of E p).split h)
-
-  -- they leave it a list
-  lists-stay : (ps : Items) (m : May) → m.lists ≡ true → (items_may E m ps).lists ≡ true
-  lists-stay nil m h = h
-  lists-stay (one p ps) m h = lists-stay ps (with_one m (may_of E p)) refl
-  lists-stay (many p n ps) m h = lists-stay ps (with_many m (may_of E p) (is_some n)) refl
 
   -- ---- names
 
@@ -195,6 +220,46 @@ module _ (E : Ref → May) where
         let g = neither (may_of E p).bind (is_some n) j.1 in
         (j.0, λ i. add_names ((ap (with_length_name n) (bind-sound p g.0) ∙ no_length n g.1) i) (k.1 i))
 
+-- ---- how many items
+
+-- m says of a list of so many items that it may be matched
+record Counts (m : May) (n : ℕ) : Type 0 where
+  pub least : m.least ≤ n
+  pub most : m.most < greatest → n ≤ m.most
+
+-- it says so of one more where it may do one item more
+counts-one : (m k : May) (n : ℕ) → Counts m n → Counts (with_one m k) (n + 1)
+counts-one m k n c =
+    let a = c.least in record { least = omega arith; most = λ s. let b = c.most (omega arith) in omega arith }
+
+-- of any number more where there is no bound
+counts-more : (m : May) (n : ℕ) → greatest ≤ m.most → Counts m n → Counts m (n + 1)
+counts-more m n g c = let a = c.least in record { least = omega arith; most = λ s. absurd (omega arith) }
+
+module _ (L : Language) (E : Ref → May) where
+  mutual
+    -- where that is so of the items before these, it is so of these too
+    items-count : {ps : Items} {ts : Trees} {b : Binding} → MatchItems L ps ts b
+        → (m : May) (n : ℕ) → Counts m n → Counts (items_may E m ps) (n + trees_count ts)
+    items-count match_none m n c = subst (Counts m) (omega arith) c
+    items-count (match_one {p = p} {ps = ps} {ts = ts} h g j) m n c =
+        subst (Counts (items_may E (with_one m (may_of E p)) ps)) (omega arith)
+        (items-count g (with_one m (may_of E p)) (n + 1) (counts-one m (may_of E p) n c))
+    items-count (match_many {p = p} {n = x} h r j) m n c =
+        let a = c.least in
+        run-count h (with_many m (may_of E p) (is_some x)) n (omega arith) (record { least = a; most = λ s. absurd (omega arith) })
+
+    run-count : {p : Pattern} {ps : Items} {ts : Trees} {cs : List Binding} {d : Binding} → MatchRun L p ps ts cs d
+        → (m : May) (n : ℕ) → greatest ≤ m.most → Counts m n → Counts (items_may E m ps) (n + trees_count ts)
+    run-count (run_end h) m n g c = items-count h m n c
+    run-count (run_more {ps = ps} {ts = ts} h r) m n g c =
+        subst (Counts (items_may E m ps)) (omega arith) (run-count r m (n + 1) g (counts-more m n g c))
+
+  -- so it is of all items of a list
+  list-counts : {ps : Items} {ts : Trees} {b : Binding} → MatchItems L ps ts b → Counts (items_may E empty ps) (trees_count ts)
+  list-counts {ps = ps} h =
+      subst (Counts (items_may E empty ps)) (omega arith) (items-count h empty 0 (record { least = omega arith; most = λ s. omega arith }))
+
 -- ---- derivations
 
 module _ (L : Language) (E : Ref → May) (all : (x : Ref) (p : Pattern) → IsAlternative L x p → is_within (may_of E p) (E x) ≡ true) where
@@ -226,24 +291,26 @@ module _ (L : Language) (E : Ref → May) (all : (x : Ref) (p : Pattern) → IsA
   mutual
     -- what is matched may be matched
     pub match-sound : {p : Pattern} {t : Tree} {b : Binding} → Match L p t b → Fits (may_of E p) t
-    match-sound (match_wild {t = t}) = fits-anything (may_of E wild) t refl refl refl
+    match-sound (match_wild {t = t}) = fits-anything t
     match-sound (match_kind {k = k} {t = t} h) = kind-fits L k t h
     match-sound (match_except {s = s} h) = fits-atoms (symbol s) refl
     match-sound (match_prefix {s = s} h) = fits-atoms (symbol s) refl
-    match-sound match_hole = record { atoms = λ h. refl; lists = λ h. absurd cc; solid = λ h. absurd (omega arith) }
+    match-sound match_hole =
+        record { atoms = λ h. refl; least = λ h. absurd cc; most = λ s h. absurd cc; solid = λ h. absurd (omega arith) }
     match-sound (match_lit {u = u} {t = t} e) = literal-fits u t e
     match-sound (match_nt {x = x} {p = p} {t = t} a h) =
         fits-within (may_of E p) (E x) t (within-tests (may_of E p) (E x) (all x p a)) (match-sound h)
     match-sound (match_named h j) =
-        let f = match-sound h in record { atoms = f.atoms; lists = f.lists; solid = f.solid }
+        let f = match-sound h in record { atoms = f.atoms; least = f.least; most = f.most; solid = f.solid }
     match-sound (match_in_hole {q = q} {r = r} {t = t} {u = u} h g j) =
         filled-fits (may_of E q) (may_of E r) t u (split-sound h) (part-solid h) (part-same h) (match-sound g)
     match-sound (match_hide_hole h) =
-        let f = match-sound h in record { atoms = f.atoms; lists = f.lists; solid = f.solid }
+        let f = match-sound h in record { atoms = f.atoms; least = f.least; most = f.most; solid = f.solid }
     match-sound (match_closed h) =
-        let f = match-sound h in record { atoms = f.atoms; lists = f.lists; solid = f.solid }
+        let f = match-sound h in record { atoms = f.atoms; least = f.least; most = f.most; solid = f.solid }
     match-sound (match_seq {ps = ps} h) =
-        record { atoms = λ e. absurd cc; lists = λ e. lists-stay E ps empty refl; solid = λ z. items-sound h empty refl z }
+        let c = list-counts L E h in
+        record { atoms = λ e. absurd cc; least = λ e. c.least; most = λ s e. c.most s; solid = λ z. items-sound h empty refl z }
 
     items-sound : {ps : Items} {ts : Trees} {b : Binding} → MatchItems L ps ts b
         → (m : May) → m.solid ≡ true → trees_holes ts ≡ 0 → (items_may E m ps).solid ≡ true
@@ -266,7 +333,8 @@ module _ (L : Language) (E : Ref → May) (all : (x : Ref) (p : Pattern) → IsA
   at_most p = record {
     split = λ f t C s b h. both_ways (may_of E p).split f (split-sound h);
     atoms = λ f t b h. by_list (is_list t) (λ e. both_ways (may_of E p).atoms f ((match-sound h).atoms e));
-    lists = λ f t b h. by_atom (is_list t) (λ e. both_ways (may_of E p).lists f ((match-sound h).lists e));
+    least = λ t b h e. (match-sound h).least e;
+    most = λ s t b h e. (match-sound h).most s e;
     solid = λ f t b h z. both_ways (may_of E p).solid f ((match-sound h).solid z);
     bind = λ f. bind-sound E p f;
   }
@@ -274,10 +342,6 @@ module _ (L : Language) (E : Ref → May) (all : (x : Ref) (p : Pattern) → IsA
       by_list : (b : Bool) → (b ≡ false → ⊥) → b ≡ true
       by_list true f = refl
       by_list false f = absurd (f refl)
-
-      by_atom : (b : Bool) → (b ≡ true → ⊥) → b ≡ false
-      by_atom true f = absurd (f refl)
-      by_atom false f = refl
 
   -- nor do alternatives
   pub each-known : (ps : List Pattern) (es : List Each) → mays es ≡ map (λ p. may_of E p) ps → AreEach L ps es

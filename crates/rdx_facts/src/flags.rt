@@ -13,7 +13,8 @@ pub(crate) fn nothing() -> May
     May {
         split: false,
         atoms: false,
-        lists: false,
+        least: u32::MAX,
+        most: 0,
         solid: false,
         bind: false,
     }
@@ -26,7 +27,8 @@ pub(crate) fn anything() -> May
     May {
         split: false,
         atoms: true,
-        lists: true,
+        least: 0,
+        most: u32::MAX,
         solid: true,
         bind: false,
     }
@@ -39,7 +41,8 @@ pub(crate) fn atoms() -> May
     May {
         split: false,
         atoms: true,
-        lists: false,
+        least: u32::MAX,
+        most: 0,
         solid: true,
         bind: false,
     }
@@ -52,7 +55,8 @@ pub(crate) fn hole() -> May
     May {
         split: true,
         atoms: true,
-        lists: false,
+        least: u32::MAX,
+        most: 0,
         solid: false,
         bind: false,
     }
@@ -85,16 +89,28 @@ fn is_list(t: &Term) -> bool
     }
 }
 
+// How many items the term has; what is no list has none.
+fn count_of(t: &Term) -> u32
+    ensures { result ≡ model.count_of (tree_of t.now) }
+{
+    match t {
+        Term::List(node) => node.items().len() as u32,
+        Term::Hole | Term::Int(_) | Term::Bool(_) | Term::Str(_) | Term::Sym(_) => 0,
+    }
+}
+
 // What a literal term does.
 pub(crate) fn literal(t: &Term) -> May
     ensures { result ≡ model.literal (tree_of t.now) }
 {
-    let lists = is_list(t);
+    let list = is_list(t);
+    let count = count_of(t);
     let solid = t.holes() == 0;
     May {
         split: false,
-        atoms: !lists,
-        lists,
+        atoms: !list,
+        least: if list { count } else { u32::MAX },
+        most: count,
         solid,
         bind: false,
     }
@@ -107,7 +123,8 @@ pub(crate) fn named(inner: May) -> May
     May {
         split: inner.split,
         atoms: inner.atoms,
-        lists: inner.lists,
+        least: inner.least,
+        most: inner.most,
         solid: inner.solid,
         bind: true,
     }
@@ -120,7 +137,8 @@ pub(crate) fn closed(inner: May) -> May
     May {
         split: inner.split,
         atoms: inner.atoms,
-        lists: inner.lists,
+        least: inner.least,
+        most: inner.most,
         solid: inner.solid,
         bind: false,
     }
@@ -133,20 +151,30 @@ pub(crate) fn hidden(inner: May) -> May
     May {
         split: false,
         atoms: inner.atoms,
-        lists: inner.lists,
+        least: inner.least,
+        most: inner.most,
         solid: inner.solid,
         bind: inner.bind,
     }
+}
+
+// Whether it may match some list.
+fn may_lists(may: May) -> bool
+    ensures { result ≡ model.may_lists may }
+{
+    may.least == 0 || may.most > 0
 }
 
 // What `in-hole` may do, by its parts.
 pub(crate) fn filled(left: May, right: May) -> May
     ensures { result ≡ model.filled left right }
 {
+    let lists = left.split && (right.atoms || may_lists(right));
     May {
         split: left.split && right.split,
         atoms: left.split && right.atoms,
-        lists: left.split && (right.atoms || right.lists),
+        least: if lists { 0 } else { u32::MAX },
+        most: if lists { u32::MAX } else { 0 },
         solid: left.split && right.solid,
         bind: left.bind || right.bind,
     }
@@ -159,7 +187,8 @@ pub(crate) fn empty() -> May
     May {
         split: false,
         atoms: false,
-        lists: true,
+        least: 0,
+        most: 0,
         solid: true,
         bind: false,
     }
@@ -172,7 +201,8 @@ pub(crate) fn with_one(before: May, item: May) -> May
     May {
         split: before.split || item.split,
         atoms: false,
-        lists: true,
+        least: before.least.saturating_add(1),
+        most: before.most.saturating_add(1),
         solid: before.solid && item.solid,
         bind: before.bind || item.bind,
     }
@@ -185,7 +215,8 @@ pub(crate) fn with_many(before: May, item: May, counted: bool) -> May
     May {
         split: before.split || item.split,
         atoms: false,
-        lists: true,
+        least: before.least,
+        most: u32::MAX,
         solid: before.solid,
         bind: before.bind || (item.bind || counted),
     }
@@ -196,7 +227,8 @@ pub(crate) fn either(a: May, b: May) -> May {
     May {
         split: a.split || b.split,
         atoms: a.atoms || b.atoms,
-        lists: a.lists || b.lists,
+        least: a.least.min(b.least),
+        most: a.most.max(b.most),
         solid: a.solid || b.solid,
         bind: false,
     }
@@ -206,5 +238,9 @@ pub(crate) fn either(a: May, b: May) -> May {
 pub(crate) fn is_within(a: May, b: May) -> bool
     ensures { result ≡ model.is_within a b }
 {
-    (!a.split || b.split) && (!a.atoms || b.atoms) && (!a.lists || b.lists) && (!a.solid || b.solid)
+    (!a.split || b.split)
+        && (!a.atoms || b.atoms)
+        && a.least >= b.least
+        && a.most <= b.most
+        && (!a.solid || b.solid)
 }

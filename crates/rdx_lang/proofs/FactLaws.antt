@@ -1,15 +1,22 @@
--- What is looked up where a nonterminal is found at a place: its alternatives, and what is known of it.
-use Rattle.std.proofs.Common.{◌≡◌, ℕ, zero, suc, ◌<◌, Bool, true, false, List, [], ◌∷◌, length, get_or, map, Some, refl, sym, ap, ◌∙◌, subst, arith, if◌then◌else◌}
-use Rattle.std.specs.Prelude.{◌↔◌, Option, IfSome, Vec, not}
+-- What is looked up where a nonterminal is found at a place: its alternatives, and what is known of it; and how many items terms have.
+use Rattle.std.proofs.Common.{◌≡◌, ℕ, zero, suc, ◌+◌, ◌<◌, ◌≤◌, Bool, true, false, List, [], ◌∷◌, length, get_or, map, Some, refl, sym, ap, ◌∙◌, subst, arith, if◌then◌else◌}
+use Rattle.std.specs.Prelude.{Option, IfSome, Vec, not}
 use Rattle.std.specs.Cmp.{first_so, second_so}
 use Rattle.std.specs.declared.alloc.Global.{Global}
-use Rattle.rdx_lang.specs.Facts.{AreFacts, IsKnown, AreKnown}
-use Rattle.rdx_lang.specs.Lookup.{alternatives_among, alternatives_of}
+use Rattle.rdx_term.proofs.AtPaths.{one_le-nodes}
+use Rattle.rdx_term.proofs.PutItems.{trees_count-trees_of}
+use Rattle.rdx_term.specs.Bare.{bare, bare_all}
+use Rattle.rdx_term.specs.Items.{trees_count}
+use Rattle.rdx_term.specs.Terms.{IsTerm}
+use Rattle.rdx_term.specs.Tree.{Tree, hole, integer, truth, text, symbol, list, Trees, nil, cons, trees, trees_nodes, Contents, contents_tree}
+use Rattle.rdx_term.specs.View.{tree_of}
+use Rattle.rdx_term.specs.declared.term.Term.{Term}
+use Rattle.rdx_lang.specs.Facts.{item_count, AreFacts, IsKnown, AreKnown}
+use Rattle.rdx_lang.specs.Lookup.{alternatives_among}
 use Rattle.rdx_lang.specs.Members.{In, here, there}
 use Rattle.rdx_lang.specs.Patterns.{Pattern, Definition, Language}
 use Rattle.rdx_lang.specs.PatternView.{definition_of}
 use Rattle.rdx_lang.specs.References.{is_same, is_among, are_distinct}
-use Rattle.rdx_lang.specs.Rules.{IsAlternative}
 use Rattle.rdx_lang.specs.declared.facts.Facts.{Facts}
 use Rattle.rdx_lang.specs.declared.facts.Known.{Known}
 use Rattle.rdx_lang.specs.declared.pattern.Pat.{Pat}
@@ -56,3 +63,40 @@ known-at L (c ∷ nts) (j ∷ ks) (suc i) d k a h e g f = known-at L nts ks i d 
 -- where there are facts, these are facts
 pub facts-in : (L : Language) (o : Option Facts) (f : Facts) → o ≡ Some f → IfSome o (λ g. AreFacts L g) → AreFacts L f
 facts-in L o f e h = subst (λ (p : Option Facts). IfSome p (λ g. AreFacts L g)) e h
+
+-- ---- how many items a term has
+
+-- as many as the list is long that it holds
+pub item_count-items : (l : Contents) (xs : List Term) → map tree_of xs ≡ l.items → item_count (contents_tree l) ≡ length xs
+item_count-items l xs e = ap (λ ts. trees_count (trees ts)) (sym e) ∙ trees_count-trees_of xs
+
+-- no more than nodes
+count_le-nodes : (ts : Trees) → trees_count ts ≤ trees_nodes ts
+count_le-nodes nil = omega arith
+count_le-nodes (cons t ts) = omega (arith, one_le-nodes t, count_le-nodes ts)
+
+-- so there are not many
+pub item_count-small : (t : Tree) → IsTerm t → item_count t ≤ 4_000_000
+item_count-small hole h = omega arith
+item_count-small (integer z) h = omega arith
+item_count-small (truth b) h = omega arith
+item_count-small (text s) h = omega arith
+item_count-small (symbol s) h = omega arith
+item_count-small (list m ts) h = omega (arith, h.small, count_le-nodes ts)
+
+-- marks change nothing
+trees_count-bare_all : (ts : Trees) → trees_count (bare_all ts) ≡ trees_count ts
+trees_count-bare_all nil = refl
+trees_count-bare_all (cons t ts) = ap (λ n. n + 1) (trees_count-bare_all ts)
+
+item_count-bare : (t : Tree) → item_count (bare t) ≡ item_count t
+item_count-bare hole = refl
+item_count-bare (integer z) = refl
+item_count-bare (truth b) = refl
+item_count-bare (text s) = refl
+item_count-bare (symbol s) = refl
+item_count-bare (list m ts) = trees_count-bare_all ts
+
+-- so terms that are equal but for marks have equally many
+pub item_count-same_bare : (t u : Tree) → bare t ≡ bare u → item_count t ≡ item_count u
+item_count-same_bare t u e = sym (item_count-bare t) ∙ ap item_count e ∙ item_count-bare u

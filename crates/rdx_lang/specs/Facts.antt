@@ -1,7 +1,8 @@
 -- What patterns never do, and what is known of a language by it.
-use Rattle.std.specs.Prelude.{◌≡◌, ◌≢◌, Bool, true, false, IsTrue, IsFalse, ℕ, List, [], ◌∷◌, Option, Some, None}
+use Rattle.std.specs.Prelude.{◌≡◌, ◌≢◌, ◌<◌, ◌≤◌, Bool, true, false, IsTrue, IsFalse, ℕ, List, [], ◌∷◌, Option, Some, None}
 use Rattle.std.specs.Prelude.{Vec}
 use Rattle.std.specs.declared.alloc.Global.{Global}
+use Rattle.rdx_term.specs.Items.{tree_items, trees_count}
 use Rattle.rdx_term.specs.Tree.{Tree, hole, integer, truth, text, symbol, list, tree_holes}
 use Rattle.rdx_lang.specs.Bindings.{Binding}
 use Rattle.rdx_lang.specs.Literals.{is_mentioned}
@@ -22,6 +23,14 @@ is_list (text s) = false
 is_list (symbol s) = false
 is_list (list m ts) = true
 
+-- how many items the term has; what is no list has none
+abbrev pub item_count : Tree → ℕ
+item_count t = trees_count (tree_items t)
+
+-- the greatest number that is kept, which bounds nothing
+abbrev pub greatest : ℕ
+greatest = 4_294_967_295
+
 -- the pattern splits no term
 abbrev pub SplitsNothing : Language → Pattern → Type 0
 SplitsNothing L p = (t C s : Tree) (b : Binding) → ¬ Split L p t C s b
@@ -30,11 +39,12 @@ SplitsNothing L p = (t C s : Tree) (b : Binding) → ¬ Split L p t C s b
 abbrev pub MatchesOnly : (Tree → Type 0) → Language → Pattern → Type 0
 MatchesOnly P L p = (t : Tree) (b : Binding) → Match L p t b → P t
 
--- what is false of these the pattern never does
+-- what is false of these the pattern never does, and a list that it matches has so many items at least and at most
 pub record IsAtMost (L : Language) (may : May) (p : Pattern) : Type 0 where
   pub split : IsFalse may.split → SplitsNothing L p
   pub atoms : IsFalse may.atoms → MatchesOnly (λ t. IsTrue (is_list t)) L p
-  pub lists : IsFalse may.lists → MatchesOnly (λ t. IsFalse (is_list t)) L p
+  pub least : MatchesOnly (λ t. IsTrue (is_list t) → may.least ≤ item_count t) L p
+  pub most : may.most < greatest → MatchesOnly (λ t. IsTrue (is_list t) → item_count t ≤ may.most) L p
   pub solid : IsFalse may.solid → MatchesOnly (λ t. tree_holes t ≢ 0) L p
   pub bind : IsFalse may.bind → names p ≡ []
 

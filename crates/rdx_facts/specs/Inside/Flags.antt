@@ -1,7 +1,8 @@
 -- What patterns may do, where E tells it of nonterminals.
-use Rattle.std.specs.Prelude.{ℕ, suc, nat_eq, Bool, true, false, not, ◌&&◌, ◌||◌, List, [], ◌∷◌, is_some, map, slice_index_or, if◌then◌else◌}
+use Rattle.std.specs.Prelude.{ℕ, suc, ◌+◌, min, nat_eq, nat_le, nat_lt, Bool, true, false, not, ◌&&◌, ◌||◌, List, [], ◌∷◌, is_some, map, slice_index_or, if◌then◌else◌}
 use Rattle.rdx_term.specs.Tree.{Tree, tree_holes}
 use Rattle.rdx_lang.specs.Facts as facts
+use Rattle.rdx_lang.specs.Facts.{greatest}
 use Rattle.rdx_lang.specs.Patterns.{Pattern, wild, of_kind, except, prefix, hole, lit, nt, named, in_hole, hide_hole, closed, seq, Items, nil, one, many, Definition, Language}
 use Rattle.rdx_lang.specs.References.{is_same}
 use Rattle.rdx_lang.specs.declared.facts.Each.{Each}
@@ -15,19 +16,19 @@ use Rattle.rdx_lang.specs.declared.pattern.Ref.{Ref}
 
 -- nothing
 abbrev pub nothing : May
-nothing = record { split = false; atoms = false; lists = false; solid = false; bind = false }
+nothing = record { split = false; atoms = false; least = greatest; most = 0; solid = false; bind = false }
 
 -- what matches each term
 abbrev pub anything : May
-anything = record { split = false; atoms = true; lists = true; solid = true; bind = false }
+anything = record { split = false; atoms = true; least = 0; most = greatest; solid = true; bind = false }
 
 -- what matches atoms alone, and not the hole
 abbrev pub atoms : May
-atoms = record { split = false; atoms = true; lists = false; solid = true; bind = false }
+atoms = record { split = false; atoms = true; least = greatest; most = 0; solid = true; bind = false }
 
 -- the hole
 abbrev pub at_hole : May
-at_hole = record { split = true; atoms = true; lists = false; solid = false; bind = false }
+at_hole = record { split = true; atoms = true; least = greatest; most = 0; solid = false; bind = false }
 
 -- a built-in name
 abbrev pub kind_may : Kind → May
@@ -45,45 +46,73 @@ kind_may Unmentioned = atoms
 abbrev pub is_list : Tree → Bool
 is_list t = facts.is_list t
 
+-- how many items the term has
+abbrev pub count_of : Tree → ℕ
+count_of t = facts.item_count t
+
 -- a literal term
 abbrev pub literal : Tree → May
-literal u = record { split = false; atoms = not (is_list u); lists = is_list u; solid = nat_eq (tree_holes u) 0; bind = false }
+literal u = record {
+  split = false;
+  atoms = not (is_list u);
+  least = if is_list u then count_of u else greatest;
+  most = count_of u;
+  solid = nat_eq (tree_holes u) 0;
+  bind = false;
+}
 
 -- a pattern with a name, by its part
 abbrev pub with_name : May → May
-with_name m = record { split = m.split; atoms = m.atoms; lists = m.lists; solid = m.solid; bind = true }
+with_name m = record { split = m.split; atoms = m.atoms; least = m.least; most = m.most; solid = m.solid; bind = true }
 
 -- a closed pattern
 abbrev pub with_none : May → May
-with_none m = record { split = m.split; atoms = m.atoms; lists = m.lists; solid = m.solid; bind = false }
+with_none m = record { split = m.split; atoms = m.atoms; least = m.least; most = m.most; solid = m.solid; bind = false }
 
 -- a hidden pattern
 abbrev pub hidden : May → May
-hidden m = record { split = false; atoms = m.atoms; lists = m.lists; solid = m.solid; bind = m.bind }
+hidden m = record { split = false; atoms = m.atoms; least = m.least; most = m.most; solid = m.solid; bind = m.bind }
 
--- `in-hole`: what is split there has the other part in it
+-- some list may be matched
+abbrev pub may_lists : May → Bool
+may_lists m = nat_eq m.least 0 || nat_lt 0 m.most
+
+-- `in-hole`: what is split there has the other part in it, or is it; so nothing is known of how many items it has
 abbrev pub filled : May → May → May
 filled l r = record {
   split = l.split && r.split;
   atoms = l.split && r.atoms;
-  lists = l.split && (r.atoms || r.lists);
+  least = if l.split && (r.atoms || may_lists r) then 0 else greatest;
+  most = if l.split && (r.atoms || may_lists r) then greatest else 0;
   solid = l.split && r.solid;
   bind = l.bind || r.bind;
 }
 
 -- a list of no items
 abbrev pub empty : May
-empty = record { split = false; atoms = false; lists = true; solid = true; bind = false }
+empty = record { split = false; atoms = false; least = 0; most = 0; solid = true; bind = false }
 
 -- one item more
 abbrev pub with_one : May → May → May
-with_one m k =
-    record { split = m.split || k.split; atoms = false; lists = true; solid = m.solid && k.solid; bind = m.bind || k.bind }
+with_one m k = record {
+  split = m.split || k.split;
+  atoms = false;
+  least = min (m.least + 1) greatest;
+  most = min (m.most + 1) greatest;
+  solid = m.solid && k.solid;
+  bind = m.bind || k.bind;
+}
 
--- one repetition more, with a length name or without one: it can have no turn, so it takes nothing away
+-- one repetition more, with a length name or without one: it can have no turn, so it takes nothing away, and any number of them
 abbrev pub with_many : May → May → Bool → May
-with_many m k counted =
-    record { split = m.split || k.split; atoms = false; lists = true; solid = m.solid; bind = m.bind || (k.bind || counted) }
+with_many m k counted = record {
+  split = m.split || k.split;
+  atoms = false;
+  least = m.least;
+  most = greatest;
+  solid = m.solid;
+  bind = m.bind || (k.bind || counted);
+}
 
 -- ---- patterns
 
@@ -122,7 +151,8 @@ may_by L ms x = marks_at ms 0 L.nonterminals x
 
 -- k may do what m may; names are not looked at
 abbrev pub is_within : May → May → Bool
-is_within m k = (not m.split || k.split) && (not m.atoms || k.atoms) && (not m.lists || k.lists) && (not m.solid || k.solid)
+is_within m k =
+    (not m.split || k.split) && (not m.atoms || k.atoms) && nat_le k.least m.least && nat_le m.most k.most && (not m.solid || k.solid)
 
 -- k may do what each of these patterns may
 abbrev pub are_within : (Ref → May) → List Pattern → May → Bool
