@@ -18,6 +18,7 @@ use Rattle.rdx_bind.specs.Searching.{AnyMatches, MatchesNone}
 use Rattle.rdx_direct.specs.declared.choices.Hint.{Hint}
 use Rattle.rdx_direct.specs.Inside.Going.{Fits}
 use Rattle.rdx_direct.specs.Inside.Known.{IsHint}
+use Rattle.rdx_direct.specs.Inside.Reaching.{IsApart}
 
 -- what is known of the alternative at a place
 pub each_at : (L : Language) (h : Hint) (xs : List Pat) (es : List Each) (i : ℕ) (e : Each) → h.may ≡ e.may → AreEach L (patterns_of xs) es → i < length es → e ≡ get_or es i e → IsHint L h (patterns_of (drop i xs))
@@ -33,8 +34,8 @@ module _ {L : Language} where
   at_most_all {may} p s a l m o b = record {
     split = λ h. absurd (neither may.split s h);
     atoms = λ h. absurd (neither may.atoms a h);
-    least = λ t c k h. omega arith;
-    most = λ h t c k g. absurd (omega arith);
+    least = (λ t c k h. omega arith, λ t C u c k h. omega arith);
+    most = λ h. absurd (omega arith);
     solid = λ h. absurd (neither may.solid o h);
     bind = λ h. absurd (neither may.bind b h);
   }
@@ -46,14 +47,20 @@ module _ {L : Language} where
   pub no_atom : {may : May} {p : Pattern} {t : Tree} → IsFalse may.atoms → IsFalse (is_list t) → IsAtMost L may p → MatchesNone L p t
   no_atom {t = t} h f k b m = let g : IsTrue (is_list t) = k.atoms h t b m in absurd cc
 
-  pub no_shorter : {may : May} {p : Pattern} {t : Tree} → item_count t < may.least → IsTrue (is_list t) → IsAtMost L may p → MatchesNone L p t
-  no_shorter {may} {t = t} h f k b m = let g : may.least ≤ item_count t = k.least t b m f in absurd (omega arith)
+  -- or that it neither matches nor splits one of so many items
+  pub apart_shorter : {may : May} {p : Pattern} {t : Tree} → item_count t < may.least → IsTrue (is_list t) → IsAtMost L may p → IsApart L p t
+  apart_shorter {may} {t = t} h f k = record {
+    match_none = λ b m. let g : may.least ≤ item_count t = k.least.0 t b m f in absurd (omega arith);
+    split_none = λ s d. let g : may.least ≤ item_count t = k.least.1 t _ _ s.binding d.split f in absurd (omega arith);
+  }
 
-  pub no_longer : {may : May} {p : Pattern} {t : Tree} → IsTerm t → may.most < item_count t → IsTrue (is_list t) → IsAtMost L may p → MatchesNone L p t
-  no_longer {may} {t = t} w h f k b m =
+  pub apart_longer : {may : May} {p : Pattern} {t : Tree} → IsTerm t → may.most < item_count t → IsTrue (is_list t) → IsAtMost L may p → IsApart L p t
+  apart_longer {may} {t = t} w h f k =
       let s : may.most < greatest = omega (arith, item_count-small t w) in
-      let g : item_count t ≤ may.most = k.most s t b m f in
-      absurd (omega arith)
+      record {
+        match_none = λ b m. let g : item_count t ≤ may.most = (k.most s).0 t b m f in absurd (omega arith);
+        split_none = λ u d. let g : item_count t ≤ may.most = (k.most s).1 t _ _ u.binding d.split f in absurd (omega arith);
+      }
 
   pub no_solid : {may : May} {p : Pattern} {t : Tree} → IsFalse may.solid → tree_holes t ≡ 0 → IsAtMost L may p → MatchesNone L p t
   no_solid {t = t} h f k b m = k.solid h t b m f

@@ -9,6 +9,7 @@ ghost use Rattle.rdx_lang.specs.Patterns.{Language, Pattern, nt};
 ghost use Rattle.rdx_lang.specs.PatternView.{definition_of, patterns_of};
 ghost use Rattle.rdx_bind.specs.Searching.{MatchesNone};
 ghost use Rattle.rdx_direct.specs.Inside.Known.{AreChoices, IsHint};
+ghost use Rattle.rdx_direct.specs.Inside.Reaching.{IsApart};
 
 use crate::choices::{Choices, Hint};
 use rdx_lang::{CheckedLang, Known, May, Pat, Ref};
@@ -174,6 +175,21 @@ pub(crate) fn leaves_out(may: May, t: &Term) -> bool
             count < may.least as usize
                 || count > may.most as usize
                 || !may.solid && node.holes() == 0
+        }
+    }
+}
+
+/// Whether what is known of a pattern leaves out that it matches or splits the term: a list of another length.
+#[inline(always)]
+pub(crate) fn is_outside(may: May, t: &Term) -> bool
+    ensures { IsTrue result → (L : Language) (p : Pattern) → IsAtMost L may p → IsApart L p
+        (tree_of t.now) }
+{
+    match t {
+        Term::Hole | Term::Int(_) | Term::Bool(_) | Term::Str(_) | Term::Sym(_) => false,
+        Term::List(node) => {
+            let count = node.items().len();
+            count < may.least as usize || count > may.most as usize
         }
     }
 }

@@ -1,7 +1,7 @@
 -- Where each nonterminal may do what its alternatives may, no pattern does what it may not.
-use Rattle.std.proofs.Common.{◌≡◌, ℕ, zero, suc, ◌+◌, ◌<◌, ◌≤◌, ◌⊎◌, inl, inr, Bool, true, false, List, [], ◌∷◌, map, refl, sym, ap, ◌∙◌, subst, arith}
-use Rattle.std.proofs.lemmas.Bool.{and_parts, and_from, or_left, or_right, both_ways, cases_lt, leb-true, eq-eqb, lt-ltb}
-use Rattle.std.specs.Prelude.{not, ◌&&◌, ◌||◌, Option, Some, None, is_some, nat_eq, nat_le, nat_lt, if◌then◌else◌}
+use Rattle.std.proofs.Common.{◌≡◌, ℕ, ◌+◌, ◌<◌, ◌≤◌, Bool, true, false, List, [], ◌∷◌, map, refl, sym, ap, ◌∙◌, subst, arith}
+use Rattle.std.proofs.lemmas.Bool.{and_parts, and_from, or_left, or_right, both_ways, leb-true}
+use Rattle.std.specs.Prelude.{not, ◌&&◌, ◌||◌, Option, Some, None, is_some, nat_eq, nat_le, if◌then◌else◌}
 use Rattle.rdx_term.proofs.Bare.{tree_holes-same_bare}
 use Rattle.rdx_term.specs.Bare.{bare}
 use Rattle.rdx_term.specs.Items.{trees_count}
@@ -21,16 +21,20 @@ use Rattle.rdx_lang.specs.declared.facts.May.{May}
 use Rattle.rdx_lang.specs.declared.pattern.Kind.{Kind}
 use Rattle.rdx_lang.specs.declared.pattern.Kind.TheVariants.{Any, Number, Natural, Integer, Real, Text, Boolean, Variable, Unmentioned}
 use Rattle.rdx_lang.specs.declared.pattern.Ref.{Ref}
-use Rattle.rdx_facts.specs.Inside.Flags.{anything, atoms, kind_may, literal, may_lists, filled, empty, with_one, with_many, may_of, items_may, is_within, are_within, is_closed, mays, flags_of, flags_by}
+use Rattle.rdx_facts.specs.Inside.Flags.{anything, atoms, kind_may, literal, filled, empty, with_one, with_many, may_of, items_may, is_within, are_within, is_closed, mays, flags_of, flags_by}
 use Rattle.rdx_facts.proofs.Parts.{part-solid, part-same}
 
 -- ---- flags
 
+-- a list has so many items at least and at most
+pub record IsBetween (low high : ℕ) (t : Tree) : Type 0 where
+  pub least : is_list t ≡ true → low ≤ item_count t
+  pub most : high < greatest → is_list t ≡ true → item_count t ≤ high
+
 -- what m says, where a term is matched
 pub record Fits (m : May) (t : Tree) : Type 0 where
   pub atoms : is_list t ≡ false → m.atoms ≡ true
-  pub least : is_list t ≡ true → m.least ≤ item_count t
-  pub most : m.most < greatest → is_list t ≡ true → item_count t ≤ m.most
+  pub long : IsBetween m.least m.most t
   pub solid : tree_holes t ≡ 0 → m.solid ≡ true
 
 -- what is so of the first of two tests is so of the second
@@ -62,25 +66,34 @@ within-tests m k h =
       solid = leads m.solid k.solid a.1;
     }
 
+-- a length within bounds is within wider ones
+between-within : (m k : May) (t : Tree) → Within m k → IsBetween m.least m.most t → IsBetween k.least k.most t
+between-within m k t w f = record {
+  least = λ h. let a = w.least in let b = f.least h in omega arith;
+  most = λ s h. let a = w.most in let c : m.most < greatest = omega arith in let b = f.most c h in omega arith;
+}
+
 -- what fits fits what may do more
 fits-within : (m k : May) (t : Tree) → Within m k → Fits m t → Fits k t
 fits-within m k t w f = record {
   atoms = λ h. w.atoms (f.atoms h);
-  least = λ h. let a = w.least in let b = f.least h in omega arith;
-  most = λ s h. let a = w.most in let c : m.most < greatest = omega arith in let b = f.most c h in omega arith;
+  long = between-within m k t w f.long;
   solid = λ h. w.solid (f.solid h);
 }
 
+-- no bounds hold of each term
+between-all : (t : Tree) → IsBetween 0 greatest t
+between-all t = record { least = λ h. omega arith; most = λ s h. absurd (omega arith) }
+
 -- each term fits where all may be matched
 fits-anything : (t : Tree) → Fits anything t
-fits-anything t = record { atoms = λ h. refl; least = λ h. omega arith; most = λ s h. absurd (omega arith); solid = λ h. refl }
+fits-anything t = record { atoms = λ h. refl; long = between-all t; solid = λ h. refl }
 
 -- atoms fit where these may be matched
 fits-atoms : (t : Tree) → is_list t ≡ false → Fits atoms t
 fits-atoms t f = record {
   atoms = λ h. refl;
-  least = λ h. absurd (both_ways (is_list t) f h);
-  most = λ s h. absurd (both_ways (is_list t) f h);
+  long = record { least = λ h. absurd (both_ways (is_list t) f h); most = λ s h. absurd (both_ways (is_list t) f h) };
   solid = λ h. refl;
 }
 
@@ -138,35 +151,31 @@ literal-fits u t e =
     let c : item_count t ≡ item_count u = item_count-same_bare t u e in
     record {
       atoms = λ h. ap not (sym l ∙ h);
-      least = λ h. let p = picks (is_list u) (item_count u) greatest (sym l ∙ h) in omega arith;
-      most = λ s h. omega arith;
+      long = record {
+        least = λ h. let p = picks (is_list u) (item_count u) greatest (sym l ∙ h) in omega arith;
+        most = λ s h. omega arith;
+      };
       solid = λ h. ap (λ n. nat_eq n 0) (sym (tree_holes-same_bare t u e) ∙ h);
     }
 
--- where a list of so many items fits, some list may be matched
-some-list : (m : May) (n : ℕ) → m.least ≤ n → (m.most < greatest → n ≤ m.most) → may_lists m ≡ true
-some-list m zero l h = or_left (nat_eq m.least 0) (nat_lt 0 m.most) (eq-eqb m.least 0 (omega arith))
-some-list m (suc n) l h = or_right (nat_eq m.least 0) (nat_lt 0 m.most) (lt-ltb 0 m.most (by_most (cases_lt m.most greatest)))
-  where
-    by_most : (m.most < greatest) ⊎ (greatest ≤ m.most) → 0 < m.most
-    by_most (inl s) = let k = h s in omega arith
-    by_most (inr s) = omega arith
+-- what the left part splits is as long as is said of the whole
+filled-between : (l r : May) (t : Tree) → l.split ≡ true → IsBetween l.least l.most t → IsBetween (filled l r).least (filled l r).most t
+filled-between l r t s f =
+    let low = picks l.split l.least greatest s in
+    let high = picks l.split l.most 0 s in
+    record {
+      least = λ h. let a = f.least h in omega arith;
+      most = λ m h. let a = f.most (omega arith) h in omega arith;
+    }
 
 -- what is filled fits, where the part does: in a term without a hole it has none, and in what is no list it is all
-filled-fits : (l r : May) (t u : Tree) → l.split ≡ true → (tree_holes t ≡ 0 → tree_holes u ≡ 0) → (is_list t ≡ false → u ≡ t) → Fits r u → Fits (filled l r) t
-filled-fits l r t u s solid same f = record {
+filled-fits : (l r : May) (t u : Tree) → l.split ≡ true → IsBetween l.least l.most t → (tree_holes t ≡ 0 → tree_holes u ≡ 0) → (is_list t ≡ false → u ≡ t)
+    → Fits r u → Fits (filled l r) t
+filled-fits l r t u s long solid same f = record {
   atoms = λ h. and_from l.split r.atoms s (f.atoms (ap is_list (same h) ∙ h));
-  least = λ h. let p = picks (l.split && (r.atoms || may_lists r)) 0 greatest some in omega arith;
-  most = λ m h. let p = picks (l.split && (r.atoms || may_lists r)) greatest 0 some in absurd (omega arith);
+  long = filled-between l r t s long;
   solid = λ h. and_from l.split r.solid s (f.solid (solid h));
 }
-  where
-    either : (b : Bool) → is_list u ≡ b → (r.atoms || may_lists r) ≡ true
-    either true e = or_right r.atoms (may_lists r) (some-list r (item_count u) (f.least e) (λ m. f.most m e))
-    either false e = or_left r.atoms (may_lists r) (f.atoms e)
-
-    some : (l.split && (r.atoms || may_lists r)) ≡ true
-    some = and_from l.split (r.atoms || may_lists r) s (either (is_list u) refl)
 
 -- ---- items
 
@@ -255,10 +264,45 @@ module _ (L : Language) (E : Ref → May) where
     run-count (run_more {ps = ps} {ts = ts} h r) m n g c =
         subst (Counts (items_may E m ps)) (omega arith) (run-count r m (n + 1) g (counts-more m n g c))
 
+  mutual
+    -- nor does it matter whether one of the terms is split
+    split_items-count : {ps : Items} {ts : Trees} {k : ℕ} {D s : Tree} {b : Binding} → SplitItems L ps ts k D s b
+        → (m : May) (n : ℕ) → Counts m n → Counts (items_may E m ps) (n + trees_count ts)
+    split_items-count (split_here {p = p} {ps = ps} {ts = ts} h g j) m n c =
+        subst (Counts (items_may E (with_one m (may_of E p)) ps)) (omega arith)
+        (items-count g (with_one m (may_of E p)) (n + 1) (counts-one m (may_of E p) n c))
+    split_items-count (split_behind {p = p} {ps = ps} {ts = ts} h g j) m n c =
+        subst (Counts (items_may E (with_one m (may_of E p)) ps)) (omega arith)
+        (split_items-count g (with_one m (may_of E p)) (n + 1) (counts-one m (may_of E p) n c))
+    split_items-count (split_many {p = p} {n = x} h r j) m n c =
+        let a = c.least in
+        split_run-count h (with_many m (may_of E p) (is_some x)) n (omega arith) (record { least = a; most = λ s. absurd (omega arith) })
+
+    split_run-count : {p : Pattern} {ps : Items} {ts : Trees} {k : ℕ} {D s : Tree} {cs : List Binding} {d : Binding} → SplitRun L p ps ts k D s cs d
+        → (m : May) (n : ℕ) → greatest ≤ m.most → Counts m n → Counts (items_may E m ps) (n + trees_count ts)
+    split_run-count (run_here {ps = ps} {ts = ts} h r) m n g c =
+        subst (Counts (items_may E m ps)) (omega arith) (run-count r m (n + 1) g (counts-more m n g c))
+    split_run-count (run_there {ps = ps} {ts = ts} h r) m n g c =
+        subst (Counts (items_may E m ps)) (omega arith) (split_run-count r m (n + 1) g (counts-more m n g c))
+    split_run-count (run_behind h) m n g c = split_items-count h m n c
+
   -- so it is of all items of a list
-  list-counts : {ps : Items} {ts : Trees} {b : Binding} → MatchItems L ps ts b → Counts (items_may E empty ps) (trees_count ts)
-  list-counts {ps = ps} h =
-      subst (Counts (items_may E empty ps)) (omega arith) (items-count h empty 0 (record { least = omega arith; most = λ s. omega arith }))
+  list-between : (ps : Items) (m : Option ℕ) (ts : Trees) → Counts (items_may E empty ps) (0 + trees_count ts)
+      → IsBetween (items_may E empty ps).least (items_may E empty ps).most (list m ts)
+  list-between ps m ts c = let a = c.least in record { least = λ h. omega arith; most = λ s h. let b = c.most s in omega arith }
+
+  counts-empty : Counts empty 0
+  counts-empty = record { least = omega arith; most = λ s. omega arith }
+
+  -- be it matched
+  matched-between : {ps : Items} {m : Option ℕ} {ts : Trees} {b : Binding} → MatchItems L ps ts b
+      → IsBetween (items_may E empty ps).least (items_may E empty ps).most (list m ts)
+  matched-between {ps = ps} {m = m} {ts = ts} h = list-between ps m ts (items-count h empty 0 counts-empty)
+
+  -- or split
+  split-between : {ps : Items} {m : Option ℕ} {ts : Trees} {k : ℕ} {D s : Tree} {b : Binding} → SplitItems L ps ts k D s b
+      → IsBetween (items_may E empty ps).least (items_may E empty ps).most (list m ts)
+  split-between {ps = ps} {m = m} {ts = ts} h = list-between ps m ts (split_items-count h empty 0 counts-empty)
 
 -- ---- derivations
 
@@ -288,6 +332,17 @@ module _ (L : Language) (E : Ref → May) (all : (x : Ref) (p : Pattern) → IsA
     split_run-sound (run_there h r) m f = split_run-sound r m f
     split_run-sound (run_behind h) m f = split_items-sound h m
 
+  -- and it is as long as is said
+  pub split-long : {p : Pattern} {t C s : Tree} {b : Binding} → Split L p t C s b → IsBetween (may_of E p).least (may_of E p).most t
+  split-long (split_hole {t = t}) = between-all t
+  split-long (split_nt {x = x} {p = p} {t = t} a h) =
+      between-within (may_of E p) (E x) t (within-tests (may_of E p) (E x) (all x p a)) (split-long h)
+  split-long (split_named h j) = split-long h
+  split-long (split_in_hole {q = q} {r = r} {t = t} h g e j) =
+      filled-between (may_of E q) (may_of E r) t (split-sound h) (split-long h)
+  split-long (split_closed h) = split-long h
+  split-long (split_seq h e) = split-between L E h
+
   mutual
     -- what is matched may be matched
     pub match-sound : {p : Pattern} {t : Tree} {b : Binding} → Match L p t b → Fits (may_of E p) t
@@ -296,21 +351,20 @@ module _ (L : Language) (E : Ref → May) (all : (x : Ref) (p : Pattern) → IsA
     match-sound (match_except {s = s} h) = fits-atoms (symbol s) refl
     match-sound (match_prefix {s = s} h) = fits-atoms (symbol s) refl
     match-sound match_hole =
-        record { atoms = λ h. refl; least = λ h. absurd cc; most = λ s h. absurd cc; solid = λ h. absurd (omega arith) }
+        record { atoms = λ h. refl; long = between-all the_hole; solid = λ h. absurd (omega arith) }
     match-sound (match_lit {u = u} {t = t} e) = literal-fits u t e
     match-sound (match_nt {x = x} {p = p} {t = t} a h) =
         fits-within (may_of E p) (E x) t (within-tests (may_of E p) (E x) (all x p a)) (match-sound h)
     match-sound (match_named h j) =
-        let f = match-sound h in record { atoms = f.atoms; least = f.least; most = f.most; solid = f.solid }
+        let f = match-sound h in record { atoms = f.atoms; long = f.long; solid = f.solid }
     match-sound (match_in_hole {q = q} {r = r} {t = t} {u = u} h g j) =
-        filled-fits (may_of E q) (may_of E r) t u (split-sound h) (part-solid h) (part-same h) (match-sound g)
+        filled-fits (may_of E q) (may_of E r) t u (split-sound h) (split-long h) (part-solid h) (part-same h) (match-sound g)
     match-sound (match_hide_hole h) =
-        let f = match-sound h in record { atoms = f.atoms; least = f.least; most = f.most; solid = f.solid }
+        let f = match-sound h in record { atoms = f.atoms; long = f.long; solid = f.solid }
     match-sound (match_closed h) =
-        let f = match-sound h in record { atoms = f.atoms; least = f.least; most = f.most; solid = f.solid }
-    match-sound (match_seq {ps = ps} h) =
-        let c = list-counts L E h in
-        record { atoms = λ e. absurd cc; least = λ e. c.least; most = λ s e. c.most s; solid = λ z. items-sound h empty refl z }
+        let f = match-sound h in record { atoms = f.atoms; long = f.long; solid = f.solid }
+    match-sound (match_seq h) =
+        record { atoms = λ e. absurd cc; long = matched-between L E h; solid = λ z. items-sound h empty refl z }
 
     items-sound : {ps : Items} {ts : Trees} {b : Binding} → MatchItems L ps ts b
         → (m : May) → m.solid ≡ true → trees_holes ts ≡ 0 → (items_may E m ps).solid ≡ true
@@ -333,8 +387,8 @@ module _ (L : Language) (E : Ref → May) (all : (x : Ref) (p : Pattern) → IsA
   at_most p = record {
     split = λ f t C s b h. both_ways (may_of E p).split f (split-sound h);
     atoms = λ f t b h. by_list (is_list t) (λ e. both_ways (may_of E p).atoms f ((match-sound h).atoms e));
-    least = λ t b h e. (match-sound h).least e;
-    most = λ s t b h e. (match-sound h).most s e;
+    least = (λ t b h e. (match-sound h).long.least e, λ t C s b h e. (split-long h).least e);
+    most = λ m. (λ t b h e. (match-sound h).long.most m e, λ t C s b h e. (split-long h).most m e);
     solid = λ f t b h z. both_ways (may_of E p).solid f ((match-sound h).solid z);
     bind = λ f. bind-sound E p f;
   }

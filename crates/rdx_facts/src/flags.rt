@@ -48,15 +48,15 @@ pub(crate) fn atoms() -> May
     }
 }
 
-// What the hole does.
+// What the hole does, which splits each term.
 pub(crate) fn hole() -> May
     ensures { result ≡ model.at_hole }
 {
     May {
         split: true,
         atoms: true,
-        least: u32::MAX,
-        most: 0,
+        least: 0,
+        most: u32::MAX,
         solid: false,
         bind: false,
     }
@@ -158,23 +158,15 @@ pub(crate) fn hidden(inner: May) -> May
     }
 }
 
-// Whether it may match some list.
-fn may_lists(may: May) -> bool
-    ensures { result ≡ model.may_lists may }
-{
-    may.least == 0 || may.most > 0
-}
-
 // What `in-hole` may do, by its parts.
 pub(crate) fn filled(left: May, right: May) -> May
     ensures { result ≡ model.filled left right }
 {
-    let lists = left.split && (right.atoms || may_lists(right));
     May {
         split: left.split && right.split,
         atoms: left.split && right.atoms,
-        least: if lists { 0 } else { u32::MAX },
-        most: if lists { u32::MAX } else { 0 },
+        least: if left.split { left.least } else { u32::MAX },
+        most: if left.split { left.most } else { 0 },
         solid: left.split && right.solid,
         bind: left.bind || right.bind,
     }

@@ -39,12 +39,16 @@ SplitsNothing L p = (t C s : Tree) (b : Binding) → ¬ Split L p t C s b
 abbrev pub MatchesOnly : (Tree → Type 0) → Language → Pattern → Type 0
 MatchesOnly P L p = (t : Tree) (b : Binding) → Match L p t b → P t
 
--- what is false of these the pattern never does, and a list that it matches has so many items at least and at most
+-- each term that it matches or splits is so
+abbrev pub MeetsOnly : (Tree → Type 0) → Language → Pattern → Type 0
+MeetsOnly P L p = MatchesOnly P L p × ((t C s : Tree) (b : Binding) → Split L p t C s b → P t)
+
+-- what is false of these the pattern never does, and a list that it matches or splits has so many items at least and at most
 pub record IsAtMost (L : Language) (may : May) (p : Pattern) : Type 0 where
   pub split : IsFalse may.split → SplitsNothing L p
   pub atoms : IsFalse may.atoms → MatchesOnly (λ t. IsTrue (is_list t)) L p
-  pub least : MatchesOnly (λ t. IsTrue (is_list t) → may.least ≤ item_count t) L p
-  pub most : may.most < greatest → MatchesOnly (λ t. IsTrue (is_list t) → item_count t ≤ may.most) L p
+  pub least : MeetsOnly (λ t. IsTrue (is_list t) → may.least ≤ item_count t) L p
+  pub most : may.most < greatest → MeetsOnly (λ t. IsTrue (is_list t) → item_count t ≤ may.most) L p
   pub solid : IsFalse may.solid → MatchesOnly (λ t. tree_holes t ≢ 0) L p
   pub bind : IsFalse may.bind → names p ≡ []
 

@@ -2,17 +2,17 @@
 
 use rdx_term::Name;
 
-/// What a pattern may do: where a truth value is false, it never does it. Where it matches no list, `least` is
-/// the greatest number and `most` is 0.
+/// What a pattern may do: where a truth value is false, it never does it. Where it matches and splits no list,
+/// `least` is the greatest number and `most` is 0.
 #[derive(Clone, Copy)]
 pub struct May {
     /// It splits some term.
     pub split: bool,
     /// It matches a term that is no list.
     pub atoms: bool,
-    /// It matches no list of fewer items.
+    /// It matches and splits no list of fewer items.
     pub least: u32,
-    /// It matches no list of more items, where this is not the greatest number.
+    /// It matches and splits no list of more items, where this is not the greatest number.
     pub most: u32,
     /// It matches a term in which there is no hole.
     pub solid: bool,

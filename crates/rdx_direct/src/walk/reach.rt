@@ -19,7 +19,7 @@ ghost use Rattle.rdx_direct.specs.Inside.Wanted.{ArePlacedWhere, AreReached};
 use crate::choices::{Choices, Hint};
 use crate::halt::Halt;
 use crate::joined::add_all;
-use crate::known::{hint_at, may_of};
+use crate::known::{hint_at, is_outside, may_of};
 use crate::may::{is_apart, splits_nothing};
 use crate::named::{has_name, part_nodes, with_context};
 use crate::paths::Paths;
@@ -102,10 +102,13 @@ impl<'a> Walk<'a> {
         let pats = choices.pats;
         for i in 0..pats.len() {
             let pat = &pats[i];
+            let hint = hint_at(choices, i);
+            if is_outside(hint.may, t) {
+                continue;
+            }
             if is_apart(pat, t) {
                 continue;
             }
-            let hint = hint_at(choices, i);
             let reached = self.reach_choice(pat, hint, wanted, t, room, fuel)?;
             fits |= reached.fits;
             paths = paths.and(self.alloc, reached.paths, room, fuel)?;

@@ -1,5 +1,5 @@
 -- What patterns may do, where E tells it of nonterminals.
-use Rattle.std.specs.Prelude.{ℕ, suc, ◌+◌, min, nat_eq, nat_le, nat_lt, Bool, true, false, not, ◌&&◌, ◌||◌, List, [], ◌∷◌, is_some, map, slice_index_or, if◌then◌else◌}
+use Rattle.std.specs.Prelude.{ℕ, suc, ◌+◌, min, nat_eq, nat_le, Bool, true, false, not, ◌&&◌, ◌||◌, List, [], ◌∷◌, is_some, map, slice_index_or, if◌then◌else◌}
 use Rattle.rdx_term.specs.Tree.{Tree, tree_holes}
 use Rattle.rdx_lang.specs.Facts as facts
 use Rattle.rdx_lang.specs.Facts.{greatest}
@@ -26,9 +26,9 @@ anything = record { split = false; atoms = true; least = 0; most = greatest; sol
 abbrev pub atoms : May
 atoms = record { split = false; atoms = true; least = greatest; most = 0; solid = true; bind = false }
 
--- the hole
+-- the hole, which splits each term
 abbrev pub at_hole : May
-at_hole = record { split = true; atoms = true; least = greatest; most = 0; solid = false; bind = false }
+at_hole = record { split = true; atoms = true; least = 0; most = greatest; solid = false; bind = false }
 
 -- a built-in name
 abbrev pub kind_may : Kind → May
@@ -73,17 +73,13 @@ with_none m = record { split = m.split; atoms = m.atoms; least = m.least; most =
 abbrev pub hidden : May → May
 hidden m = record { split = false; atoms = m.atoms; least = m.least; most = m.most; solid = m.solid; bind = m.bind }
 
--- some list may be matched
-abbrev pub may_lists : May → Bool
-may_lists m = nat_eq m.least 0 || nat_lt 0 m.most
-
--- `in-hole`: what is split there has the other part in it, or is it; so nothing is known of how many items it has
+-- `in-hole`: what it matches or splits its left part splits
 abbrev pub filled : May → May → May
 filled l r = record {
   split = l.split && r.split;
   atoms = l.split && r.atoms;
-  least = if l.split && (r.atoms || may_lists r) then 0 else greatest;
-  most = if l.split && (r.atoms || may_lists r) then greatest else 0;
+  least = if l.split then l.least else greatest;
+  most = if l.split then l.most else 0;
   solid = l.split && r.solid;
   bind = l.bind || r.bind;
 }

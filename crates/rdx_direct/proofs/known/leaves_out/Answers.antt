@@ -5,7 +5,7 @@ use Rattle.rdx_term.specs.View.{tree_of}
 use Rattle.rdx_lang.proofs.FactLaws.{item_count-items}
 use Rattle.rdx_lang.specs.Facts.{item_count}
 use Rattle.rdx_bind.specs.Searching.{MatchesNone}
-use Rattle.rdx_direct.proofs.KnownLaws.{no_shorter, no_longer}
+use Rattle.rdx_direct.proofs.KnownLaws.{apart_shorter, apart_longer}
 use Rattle.rdx_direct.proofs.known.leaves_out.Goals as goal
 use Rattle.rdx_direct.proofs.known.leaves_out.Goals.{then-count-may, else-count-may}
 
@@ -19,8 +19,8 @@ returns-then-count-may-2 c h L p k =
     (elim c.if-count-may.branch [
       | then-count-may w ↦
           let f : length xs < c.args.may.least = w.if-count-may.true in
-          no_shorter (omega arith) refl k
+          (apart_shorter (omega arith) refl k).match_none
       | else-count-may w ↦
           let f : c.args.may.most < length xs = ltb-true c.args.may.most (length xs) (sym w.value-is ∙ h) in
-          no_longer c.items-count.ensures.valid (omega arith) refl k
+          (apart_longer c.items-count.ensures.valid (omega arith) refl k).match_none
     ])

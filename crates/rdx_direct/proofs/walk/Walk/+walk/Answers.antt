@@ -425,6 +425,9 @@ go-returns-in_ok-any-in-Nt = knowing.go-returns-in_ok-any-in-Nt
 pub reach-returns-then-splits_nothing-clause-paths : goal.reach-returns-then-splits_nothing-clause-paths
 reach-returns-then-splits_nothing-clause-paths = knowing.reach-returns-then-splits_nothing-clause-paths
 
+pub reach_nt-loop-i-preserved-then-is_outside : goal.reach_nt-loop-i-preserved-then-is_outside
+reach_nt-loop-i-preserved-then-is_outside = knowing.reach_nt-loop-i-preserved-then-is_outside
+
 pub reach_nt-loop-i-preserved-then-is_apart : goal.reach_nt-loop-i-preserved-then-is_apart
 reach_nt-loop-i-preserved-then-is_apart = knowing.reach_nt-loop-i-preserved-then-is_apart
 

@@ -8,6 +8,7 @@ use Rattle.rdx_term.specs.View.{tree_of, trees_of}
 use Rattle.rdx_lang.proofs.PatternEquations.{pattern_nt, pattern_hide_hole, pattern_closed}
 use Rattle.rdx_lang.proofs.Rest.{rest_at, rest_none}
 use Rattle.rdx_lang.specs.Checked.{language_in}
+use Rattle.rdx_lang.specs.Facts.{IsAtMost}
 use Rattle.rdx_lang.specs.Members.{In}
 use Rattle.rdx_lang.specs.Patterns.{Language, nt, hide_hole, closed}
 use Rattle.rdx_lang.specs.PatternView.{pattern_of, patterns_of}
@@ -112,6 +113,17 @@ reach_nt-reach_choice-requires t c =
     let p = c.index-pats-i.result in
     let e : patterns_of (drop i xs) ≡ pattern_of p ∷ patterns_of (drop (i + 1) xs) = rest_at pattern_of xs i p (omega arith) c.index-pats-i.is in
     (omega arith, subst (IsHint L c.hint_at-hint.result) e (c.hint_at-hint.ensures L c.args.name.now c.requires))
+
+pub reach_nt-loop-i-preserved-then-is_outside : goal.reach_nt-loop-i-preserved-then-is_outside
+reach_nt-loop-i-preserved-then-is_outside t c =
+    let L : Language = language_in c.args.self.now.language.now in
+    let xs = c.args.choices.pats.now in
+    let i : ℕ = c.loop-i.i in
+    let p = c.index-pats-i.result in
+    let e : patterns_of (drop i xs) ≡ pattern_of p ∷ patterns_of (drop (i + 1) xs) = rest_at pattern_of xs i p (omega arith) c.index-pats-i.is in
+    let known : IsAtMost L c.hint_at-hint.result.may (pattern_of p) = subst (IsHint L c.hint_at-hint.result) e (c.hint_at-hint.ensures L c.args.name.now c.requires) in
+    any_skipped (tree_of c.args.t.now) (patterns_of xs) (pattern_of p) (patterns_of (drop i xs)) (patterns_of (drop (i + 1) xs)) c.loop-i.paths c.loop-i.fits
+    e (c.if-is_outside.ensures refl L (pattern_of p) known) c.loop-i.invariant
 
 pub reach_nt-loop-i-preserved-then-is_apart : goal.reach_nt-loop-i-preserved-then-is_apart
 reach_nt-loop-i-preserved-then-is_apart t c =
