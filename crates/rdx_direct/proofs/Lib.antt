@@ -6,6 +6,7 @@ pub mod InHoleLaws
 pub mod RunLaws
 pub mod TogetherLaws
 pub mod ReachLaws
+pub mod PartLaws
 pub mod MayLaws
 pub mod KnownLaws
 pub mod WantedLaws

@@ -78,7 +78,7 @@ impl Paths {
     }
 
     /// These and others.
-    #[inline(always)]
+    #[inline(never)]
     pub(crate) fn and(
         self,
         alloc: Global,

@@ -4,7 +4,8 @@ use Rattle.rdx_lang.specs.Bindings.{Binding}
 use Rattle.rdx_bind.specs.Spots.{Spot, SplitsAt, spots_of}
 use Rattle.rdx_bind.proofs.SplitRules.{MatchesOn, SplitsOn}
 use Rattle.rdx_direct.proofs.SplitLaws.{StillSplits}
-use Rattle.rdx_direct.proofs.ReachLaws.{StillAny, StillReach, StillTurns, GoesAt, GoesWithName}
+use Rattle.rdx_direct.proofs.ReachLaws.{StillAny, StillReach, StillTurns}
+use Rattle.rdx_direct.proofs.PartLaws.{GoesAt, GoesWithName}
 use Rattle.rdx_direct.proofs.RunLaws.{StillRuns}
 use Rattle.rdx_direct.specs.Inside.Going.{Goes}
 use Rattle.rdx_direct.specs.Inside.Paths.{paths_in}

@@ -22,7 +22,8 @@ use Rattle.rdx_bind.proofs.AcrossRows.{bindings_are_maps}
 use Rattle.rdx_bind.proofs.Gathering.{adds_exactly, exactly_added}
 use Rattle.rdx_direct.proofs.GoingLaws.{not_true, not_false, rest_done, rest_more}
 use Rattle.rdx_direct.proofs.PlainLaws.{no_names_apart}
-use Rattle.rdx_direct.proofs.ReachLaws.{RestDone, StillReach, StillTurns, Turned, TurnsDone, at_the_end, done_at, done_matched, left_unmatched, next_at, no_length, over_unmatched, reach_done, reach_left, reach_over, reach_short, rest_done_at, short_unmatched, turned_at, unmatched, GoesAt, GoesWithName, list_between, list_matched, placed_reached, goes_reached, goes_named_reached, named_after, named_before}
+use Rattle.rdx_direct.proofs.ReachLaws.{RestDone, StillReach, StillTurns, Turned, TurnsDone, at_the_end, done_at, done_matched, left_unmatched, next_at, no_length, over_unmatched, reach_done, reach_left, reach_over, reach_short, rest_done_at, short_unmatched, turned_at, unmatched, list_between, list_matched, placed_reached}
+use Rattle.rdx_direct.proofs.PartLaws.{GoesAt, GoesWithName, goes_reached, goes_named_reached, named_after, named_before}
 use Rattle.rdx_direct.specs.Inside.Going.{Goes, NamedAt}
 use Rattle.rdx_direct.specs.Inside.Paths.{Leads, paths_in}
 use Rattle.rdx_direct.specs.declared.paths.Paths.{Paths}
