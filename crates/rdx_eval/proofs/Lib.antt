@@ -12,6 +12,10 @@ pub mod Reached
 pub mod Staying
 pub mod ItemEquations
 pub mod Items
+pub mod Pending
+pub mod StepLaws
+pub mod MemoLaws
+pub mod KeepingLaws
 pub mod Joining
 pub mod MatchedTerms
 pub mod ExtraAfterExtra

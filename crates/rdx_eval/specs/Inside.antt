@@ -7,3 +7,6 @@ pub mod Scopes
 pub mod Stops
 pub mod Taken
 pub mod Extras
+pub mod Frames
+pub mod Weights
+pub mod Memos

@@ -2,11 +2,14 @@
 ghost use Rattle.std.specs.Prelude.{◌≡◌};
 ghost use Rattle.std.specs.Option.{ForSome};
 ghost use Rattle.rdx_lang.specs.ProgramView.{program_of};
+ghost use Rattle.rdx_eval.specs.Model.Keeping.{KeepsOnly, KeepsOnly-prop};
 ghost use Rattle.rdx_eval.specs.Model.Names.{AreNamesOf};
 
 use crate::extending::listed_bindings;
+use crate::frames::Next;
+use crate::kept::Memo;
 use crate::lookup::Names;
-use crate::room::Room;
+use crate::memo::empty;
 use crate::scope::{Scope, Setting};
 use crate::{EvalFault, evaluation};
 use rdx_delta::HostTable;
@@ -28,7 +31,9 @@ pub struct Engine<'a, M: Drop> {
     host: &'a HostTable,
     names: Option<Names<'a>>,
     matcher: M,
+    memo: Memo,
     ghost of_program: { ForSome names (AreNamesOf (program_of program.now)) },
+    ghost kept: { KeepsOnly (program_of program.now) memo } by { KeepsOnly-prop _ _ },
 }
 
 impl<'a, M: Matcher + Drop> Engine<'a, M> {
@@ -62,6 +67,7 @@ impl<'a, M: Matcher + Drop> Engine<'a, M> {
             host,
             names: None,
             matcher,
+            memo: empty(alloc),
         }
     }
 
@@ -165,10 +171,8 @@ impl<'a, M: Matcher + Drop> Engine<'a, M> {
             setting: &setting,
             height: HEIGHT,
             b,
-            turns: &[],
         };
-        let room = Room::whole();
-        let answer = evaluation::instantiate(&scope, &mut self.matcher, room, t);
+        let answer = evaluation::make(&scope, &mut self.matcher, &mut self.memo, Next::Make(t));
         Ok(answer?)
     }
 
@@ -187,10 +191,8 @@ impl<'a, M: Matcher + Drop> Engine<'a, M> {
             setting: &setting,
             height: HEIGHT,
             b,
-            turns: &[],
         };
-        let room = Room::whole();
-        let answer = evaluation::evaluate(&scope, &mut self.matcher, room, h);
+        let answer = evaluation::make(&scope, &mut self.matcher, &mut self.memo, Next::Host(h));
         Ok(answer?)
     }
 
@@ -206,8 +208,14 @@ impl<'a, M: Matcher + Drop> Engine<'a, M> {
             unreachable!()
         };
         let setting = Setting::new(self.alloc, self.program, names, self.host);
-        let room = Room::whole();
-        let answer = evaluation::call(&setting, &mut self.matcher, room, HEIGHT, f, args);
+        let answer = evaluation::calls::call(
+            &setting,
+            &mut self.matcher,
+            &mut self.memo,
+            HEIGHT,
+            f,
+            args,
+        );
         Ok(answer?)
     }
 
@@ -224,8 +232,14 @@ impl<'a, M: Matcher + Drop> Engine<'a, M> {
             unreachable!()
         };
         let setting = Setting::new(self.alloc, self.program, names, self.host);
-        let room = Room::whole();
-        let answer = evaluation::judge(&setting, &mut self.matcher, room, HEIGHT, j, ins);
+        let answer = evaluation::calls::judge(
+            &setting,
+            &mut self.matcher,
+            &mut self.memo,
+            HEIGHT,
+            j,
+            ins,
+        );
         Ok(answer?)
     }
 
@@ -257,10 +271,10 @@ impl<'a, M: Matcher + Drop> Engine<'a, M> {
             unreachable!()
         };
         let none = Binding::new(Vec::new(self.alloc));
-        let found = evaluation::by_premise(
+        let found = evaluation::extras::by_premise(
             &setting,
             &mut self.matcher,
-            Room::whole(),
+            &mut self.memo,
             HEIGHT,
             language,
             premise,
@@ -293,11 +307,10 @@ impl<'a, M: Matcher + Drop> Engine<'a, M> {
         let Some(language) = names.language_named(self.program, language) else {
             unreachable!()
         };
-        let room = Room::whole();
-        let answer = evaluation::extend(
+        let answer = evaluation::extras::extend(
             &setting,
             &mut self.matcher,
-            room,
+            &mut self.memo,
             HEIGHT,
             language,
             extras,

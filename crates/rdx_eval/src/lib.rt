@@ -8,17 +8,22 @@
 //! is a fault.
 #![tactic(auto)]
 
+mod at_once;
+mod digest;
 mod engine;
 mod evaluation;
 mod extending;
 mod fault;
+mod frames;
 mod fresh;
 mod host;
+mod kept;
 pub mod laws;
 mod lookup;
 mod making;
-mod room;
+mod memo;
 mod scope;
+mod steps;
 mod stop;
 mod stopping;
 mod turns;

@@ -1,5 +1,5 @@
 -- What templates and host expressions are evaluated in.
-use Rattle.std.specs.Prelude.{ℕ, List}
+use Rattle.std.specs.Prelude.{ℕ}
 use Rattle.rdx_lang.specs.Bindings.{Binding}
 use Rattle.rdx_lang.specs.ProgramView.{program_of}
 use Rattle.rdx_lang.specs.Shown.{binding_of}
@@ -19,7 +19,3 @@ calls_here s = calls_in s.setting.now s.height
 -- its binding
 abbrev pub bound_here : {H : Type 0} → Scope H → Binding
 bound_here s = binding_of s.b.now
-
--- the turns that are being taken in it
-abbrev pub turns_here : {H : Type 0} → Scope H → List ℕ
-turns_here s = s.turns.now

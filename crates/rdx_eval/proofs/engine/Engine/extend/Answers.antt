@@ -13,7 +13,21 @@ use Rattle.rdx_eval.specs.Heights.{calls_at, height}
 use Rattle.rdx_eval.specs.Inside.Stops.{Tells}
 use Rattle.rdx_eval.specs.Views.{bindings_in}
 use Rattle.rdx_eval.proofs.HandedOn.{told_on}
+use Rattle.rdx_eval.proofs.KeepingLaws.{handed-back, handed-memo}
 use Rattle.rdx_eval.proofs.engine.Engine.extend.Goals as goal
+
+pub extend-answer-requires : goal.extend-answer-requires
+extend-answer-requires g c =
+    let s = c.order_names.new.self in
+    record { kept = handed-memo s.program c.new-setting.result.program s.memo c.new-setting.ensures s.kept }
+
+pub invariant_of-self : goal.invariant_of-self
+invariant_of-self g c =
+    let s = c.order_names.new.self in
+    record {
+      of_program = s.of_program;
+      kept = handed-back s.program c.new-setting.result.program c.extend-answer.new.memo c.new-setting.ensures c.extend-answer.ensures.kept;
+    }
 
 pub returns-in_err-answer-clause-answer : goal.returns-in_err-answer-clause-answer
 returns-in_err-answer-clause-answer g c =
@@ -28,4 +42,4 @@ returns-in_err-answer-clause-answer g c =
     (subst (λ (q : Bor code_program.Program). Tells bindings_in
     (ExtendOver (Some (language_in c.in-Some-language_named.language.now)) (calls_at (program_of q.now) height) w (extras_of c.args.extras.now) (bindings_in c.args.found))
     (Err c.in_err-answer.field-0.0))
-    (c.new-setting.ensures ∙ c.order_names.ensures.same) c.in_err-answer.ensures))
+    (c.new-setting.ensures ∙ c.order_names.ensures.same) c.in_err-answer.ensures.answer))

@@ -16,7 +16,21 @@ use Rattle.rdx_eval.specs.Heights.{calls_at, height}
 use Rattle.rdx_eval.specs.Inside.Stops.{Tells}
 use Rattle.rdx_eval.specs.Views.{bindings_in}
 use Rattle.rdx_eval.proofs.HandedOn.{error_handed_on, told_on}
+use Rattle.rdx_eval.proofs.KeepingLaws.{handed-back, handed-memo}
 use Rattle.rdx_eval.proofs.engine.Engine.meet.Goals as goal
+
+pub by_premise-found-requires : goal.by_premise-found-requires
+by_premise-found-requires g c =
+    let s = c.order_names.new.self in
+    record { kept = handed-memo s.program c.new-setting.result.program s.memo c.new-setting.ensures s.kept }
+
+pub invariant_of-self : goal.invariant_of-self
+invariant_of-self g c =
+    let s = c.order_names.new.self in
+    record {
+      of_program = s.of_program;
+      kept = handed-back s.program c.new-setting.result.program c.by_premise-found.new.memo c.new-setting.ensures c.by_premise-found.ensures.kept;
+    }
 
 pub returns-in_err-found-clause-answer : goal.returns-in_err-found-clause-answer
 returns-in_err-found-clause-answer g c =
@@ -35,7 +49,7 @@ returns-in_err-found-clause-answer g c =
     (λ f h. stops
     (subst (λ (d : Binding). ByPremise L C q d (fault f)) n
     (subst (λ (p : Bor code_program.Program). ByPremise L (calls_at (program_of p.now) height) q b (fault f)) (c.new-setting.ensures ∙ c.order_names.ensures.same) h)))
-    c.in_err-found.ensures))
+    c.in_err-found.ensures.answer))
 
 pub returns-clause-answer : goal.returns-clause-answer
 returns-clause-answer g c =
@@ -49,6 +63,6 @@ returns-clause-answer g c =
     let h : ByPremise L C q no_names (value bs) =
     subst (λ (d : Binding). ByPremise L C q d (value bs)) n
     (subst (λ (p : Bor code_program.Program). ByPremise L (calls_at (program_of p.now) height) q b (value bs)) (c.new-setting.ensures ∙ c.order_names.ensures.same)
-    c.in_ok-found.ensures) in
+    c.in_ok-found.ensures.answer) in
     subst (λ (o : Option Language). MeetsOver o C q (value (bindings_in c.in_ok-listed_bindings.field-0))) (c.in-Some-language_named.ensures ∙ ap (λ (p : Bor code_program.Program). language_named (program_of p.now) c.args.language.now) c.order_names.ensures.same)
     (goes h (lists c.in_ok-listed_bindings.ensures))

@@ -35,12 +35,11 @@ use Rattle.rdx_eval.proofs.GoingOn.{tries-fault, tries-taken, tries-next}
 use Rattle.rdx_eval.proofs.HandedOn.{stops_for, handed_on, error_handed_on}
 use Rattle.rdx_eval.proofs.LeastValues.{some_gathered}
 use Rattle.rdx_eval.proofs.evaluation.+evaluation.Goals as goal
-use Rattle.rdx_eval.proofs.evaluation.+evaluation.Goals.{instantiate_list-in-One+in_ok-t-in-One+in_ok-push-in-One, instantiate_list-in-Many+in_ok-more-in-Many+in_ok-append-in-Many}
 
 -- ---- metafunctions
 
-pub call-returns-then-height-eq0 : goal.call-returns-then-height-eq0
-call-returns-then-height-eq0 g t c =
+pub value-returns-then-height-eq0-clause-answer : goal.calls::value-returns-then-height-eq0-clause-answer
+value-returns-then-height-eq0-clause-answer g t c =
     let P : Program = program_of c.args.setting.now.program.now in
     let n : ℕ = c.args.height in
     let C : Calls = calls_in c.args.setting.now (n - 1) in
@@ -48,8 +47,8 @@ call-returns-then-height-eq0 g t c =
     let a : Tree = tree_of c.args.args.now in
     stops_for tree_of ((calls_in c.args.setting.now n).value_of f a) _ (spent f) c.in_ok-spent.ensures (at-none P n f a c.if-height-eq0.true)
 
-pub call-returns-in_default : goal.call-returns-in_default
-call-returns-in_default g t c =
+pub value-returns-in_default-clause-answer : goal.calls::value-returns-in_default-clause-answer
+value-returns-in_default-clause-answer g t c =
     let P : Program = program_of c.args.setting.now.program.now in
     let n : ℕ = c.args.height in
     let C : Calls = calls_in c.args.setting.now (n - 1) in
@@ -60,8 +59,8 @@ call-returns-in_default g t c =
     (value-no_metafunction P C f a (metafunction_found c.metafunction_named.result) c.metafunction_named.ensures
     (ap metafunction_found c.in_default.is)))
 
-pub call-returns-in_default-language_named : goal.call-returns-in_default-language_named
-call-returns-in_default-language_named g t c =
+pub value-returns-in_default-language_named-clause-answer : goal.calls::value-returns-in_default-language_named-clause-answer
+value-returns-in_default-language_named-clause-answer g t c =
     let P : Program = program_of c.args.setting.now.program.now in
     let n : ℕ = c.args.height in
     let C : Calls = calls_in c.args.setting.now (n - 1) in
@@ -76,8 +75,8 @@ call-returns-in_default-language_named g t c =
     (subst (λ (o : Option Language). ClausesOver o C f a M.clauses (fault (undefined f a)))
     (sym (ap language_found c.in_default-language_named.is)) refl)))
 
-pub call-returns : goal.call-returns
-call-returns g t c =
+pub value-returns-clause-answer : goal.calls::value-returns-clause-answer
+value-returns-clause-answer g t c =
     let P : Program = program_of c.args.setting.now.program.now in
     let n : ℕ = c.args.height in
     let C : Calls = calls_in c.args.setting.now (n - 1) in
@@ -92,12 +91,12 @@ call-returns g t c =
     (language_found c.language_named.result) c.language_named.ensures r
     (subst (λ (o : Option Language). ClausesOver o C f a M.clauses r) (sym (ap language_found c.in-Some-language_named.is))
     (subst (λ (cs : List code_clause.Clause). Clauses L C f a (clauses_of cs) r) c.as_slice-clauses.ensures.value h))))
-    c.by_clauses.ensures
+    c.by_clauses.ensures.answer
 
 -- ---- clauses
 
-pub by_clauses-returns-in_err-bs : goal.by_clauses-returns-in_err-bs
-by_clauses-returns-in_err-bs g t c =
+pub by_clauses-returns-in_err-bs-clause-answer : goal.calls::by_clauses-returns-in_err-bs-clause-answer
+by_clauses-returns-in_err-bs-clause-answer g t c =
     let C : Calls = calls_in c.args.setting.now c.args.height in
     let L : Language = language_in c.args.language.now in
     let f : List ℕ = c.args.f.now in
@@ -108,13 +107,13 @@ by_clauses-returns-in_err-bs g t c =
     let e : clauses_of (drop i xs) ≡ clause_of x ∷ clauses_of (drop (i + 1) xs) =
     rest_at clause_of xs i x c.loop-clause-test.true c.clause-item.is in
     error_handed_on bindings_in tree_of (Survivors L C a (pattern_in x.args) (extras_of c.deref.result.now)) (Clauses L C f a (clauses_of xs))
-    c.from_residual-in_err-bs.result _ c.from_residual-in_err-bs.ensures.1
-    (λ q h. tries-fault L C f a (clauses_of xs) _ c.loop-clause.invariant (clause_of x) _ e q
+    c.from_residual.result _ c.from_residual.ensures.1
+    (λ q h. tries-fault L C f a (clauses_of xs) _ c.loop-clause.invariant.answer (clause_of x) _ e q
     (subst (λ (es : List code_extra.Extra). Survivors L C a (pattern_in x.args) (extras_of es) (fault q)) c.deref.ensures.value h))
-    c.in_err-bs.ensures
+    c.in_err-bs.ensures.answer
 
-pub by_clauses-returns-then-not-is_empty : goal.by_clauses-returns-then-not-is_empty
-by_clauses-returns-then-not-is_empty g t c =
+pub by_clauses-returns-then-not-is_empty-clause-answer : goal.calls::by_clauses-returns-then-not-is_empty-clause-answer
+by_clauses-returns-then-not-is_empty-clause-answer g t c =
     let C : Calls = calls_in c.args.setting.now c.args.height in
     let L : Language = language_in c.args.language.now in
     let f : List ℕ = c.args.f.now in
@@ -126,34 +125,36 @@ by_clauses-returns-then-not-is_empty g t c =
     rest_at clause_of xs i x c.loop-clause-test.true c.clause-item.is in
     let bs : List Binding = bindings_in c.in_ok-bs.bs in
     let s : Survivors L C a (pattern_in x.args) (extras_of x.extras.items) (value bs) =
-    subst (λ (es : List code_extra.Extra). Survivors L C a (pattern_in x.args) (extras_of es) (value bs)) c.deref.ensures.value c.in_ok-bs.ensures in
+    subst (λ (es : List code_extra.Extra). Survivors L C a (pattern_in x.args) (extras_of es) (value bs)) c.deref.ensures.value c.in_ok-bs.ensures.answer in
     let n : 1 ≤ length bs = grind (arith, common_steps) in
     handed_on tree_of (Results C f a (template_of x.result) (bindings_of c.deref-then-not-is_empty.result.now)) (Clauses L C f a (clauses_of xs)) c.result_of.result
-    (λ r h. tries-taken L C f a (clauses_of xs) _ c.loop-clause.invariant (clause_of x) _ e bs s n r
+    (λ r h. tries-taken L C f a (clauses_of xs) _ c.loop-clause.invariant.answer (clause_of x) _ e bs s n r
     (subst (λ (cs : List code_binding.Binding). Results C f a (template_of x.result) (bindings_of cs) r) c.deref-then-not-is_empty.ensures.value h))
-    c.result_of.ensures
+    c.result_of.ensures.answer
 
-pub by_clauses-loop-clause-preserved : goal.by_clauses-loop-clause-preserved
-by_clauses-loop-clause-preserved g t c =
-    let C : Calls = calls_in c.args.setting.now c.args.height in
-    let L : Language = language_in c.args.language.now in
-    let f : List ℕ = c.args.f.now in
-    let a : Tree = tree_of c.args.args.now in
-    let xs = c.args.clauses.now in
-    let i : ℕ = c.loop-clause.clause-index in
-    let x = c.clause-item.result in
-    let e : clauses_of (drop i xs) ≡ clause_of x ∷ clauses_of (drop (i + 1) xs) =
-    rest_at clause_of xs i x c.loop-clause-test.true c.clause-item.is in
-    let bs : List Binding = bindings_in c.in_ok-bs.bs in
-    let s : Survivors L C a (pattern_in x.args) (extras_of x.extras.items) (value bs) =
-    subst (λ (es : List code_extra.Extra). Survivors L C a (pattern_in x.args) (extras_of es) (value bs)) c.deref.ensures.value c.in_ok-bs.ensures in
-    let n : length bs ≡ 0 = grind (arith, common_steps) in
-    tries-next L C f a (clauses_of xs) _ c.loop-clause.invariant (clause_of x) _ e bs s n
+pub by_clauses-loop-clause-preserved : goal.calls::by_clauses-loop-clause-preserved
+by_clauses-loop-clause-preserved g t c = record {
+  answer = (let C : Calls = calls_in c.args.setting.now c.args.height in
+      let L : Language = language_in c.args.language.now in
+      let f : List ℕ = c.args.f.now in
+      let a : Tree = tree_of c.args.args.now in
+      let xs = c.args.clauses.now in
+      let i : ℕ = c.loop-clause.clause-index in
+      let x = c.clause-item.result in
+      let e : clauses_of (drop i xs) ≡ clause_of x ∷ clauses_of (drop (i + 1) xs) =
+      rest_at clause_of xs i x c.loop-clause-test.true c.clause-item.is in
+      let bs : List Binding = bindings_in c.in_ok-bs.bs in
+      let s : Survivors L C a (pattern_in x.args) (extras_of x.extras.items) (value bs) =
+      subst (λ (es : List code_extra.Extra). Survivors L C a (pattern_in x.args) (extras_of es) (value bs)) c.deref.ensures.value c.in_ok-bs.ensures.answer in
+      let n : length bs ≡ 0 = grind (arith, common_steps) in
+      tries-next L C f a (clauses_of xs) _ c.loop-clause.invariant.answer (clause_of x) _ e bs s n);
+  kept = c.in_ok-bs.ensures.kept;
+}
 
 -- ---- the value by a clause
 
-pub result_of-returns-in_err-t : goal.result_of-returns-in_err-t
-result_of-returns-in_err-t g t c =
+pub result_of-returns-in_err-t-clause-answer : goal.calls::result_of-returns-in_err-t-clause-answer
+result_of-returns-in_err-t-clause-answer g t c =
     let C : Calls = calls_in c.args.setting.now c.args.height in
     let T : Template = template_of c.args.template.now in
     let R : Binding → Answer (List Tree) → Type 0 = λ (b : Binding). Single (Makes C b T) in
@@ -162,23 +163,25 @@ result_of-returns-in_err-t g t c =
     let x = c.b-item.result in
     let e : bindings_of (drop i xs) ≡ binding_of x ∷ bindings_of (drop (i + 1) xs) = rest_at binding_of xs i x c.loop-b-test.true c.b-item.is in
     error_handed_on tree_of tree_of (Makes C (binding_of x) T) (Results C c.args.f.now (tree_of c.args.args.now) T (bindings_of xs))
-    c.from_residual-in_err-t.result _ c.from_residual-in_err-t.ensures.1
-    (λ f h. stops (gathers-fault R (bindings_of xs) (binding_of x) _ _ (terms_in c.loop-b.found) f e (stops h) c.loop-b.invariant)) c.in_err-t.ensures
+    c.from_residual.result _ c.from_residual.ensures.1
+    (λ f h. stops (gathers-fault R (bindings_of xs) (binding_of x) _ _ (terms_in c.loop-b.found) f e (stops h) c.loop-b.invariant.answer)) c.in_err-t.ensures.answer
 
-pub result_of-loop-b-preserved : goal.result_of-loop-b-preserved
-result_of-loop-b-preserved g t c =
-    let C : Calls = calls_in c.args.setting.now c.args.height in
-    let T : Template = template_of c.args.template.now in
-    let R : Binding → Answer (List Tree) → Type 0 = λ (b : Binding). Single (Makes C b T) in
-    let xs = c.args.bs.now in
-    let i : ℕ = c.loop-b.b-index in
-    let x = c.b-item.result in
-    let e : bindings_of (drop i xs) ≡ binding_of x ∷ bindings_of (drop (i + 1) xs) = rest_at binding_of xs i x c.loop-b-test.true c.b-item.is in
-    let d : terms_in c.push.new.self ≡ terms_in c.loop-b.found ++ tree_of c.in_ok-t.t ∷ [] = grind (arith, common_steps) in
-    gathers-next R (bindings_of xs) (binding_of x) _ _ (terms_in c.loop-b.found) (tree_of c.in_ok-t.t ∷ []) (terms_in c.push.new.self) e d
-    (goes c.in_ok-t.ensures refl) c.loop-b.invariant
+pub result_of-loop-b-preserved : goal.calls::result_of-loop-b-preserved
+result_of-loop-b-preserved g t c = record {
+  answer = (let C : Calls = calls_in c.args.setting.now c.args.height in
+      let T : Template = template_of c.args.template.now in
+      let R : Binding → Answer (List Tree) → Type 0 = λ (b : Binding). Single (Makes C b T) in
+      let xs = c.args.bs.now in
+      let i : ℕ = c.loop-b.b-index in
+      let x = c.b-item.result in
+      let e : bindings_of (drop i xs) ≡ binding_of x ∷ bindings_of (drop (i + 1) xs) = rest_at binding_of xs i x c.loop-b-test.true c.b-item.is in
+      let d : terms_in c.push.new.self ≡ terms_in c.loop-b.found ++ tree_of c.in_ok-t.t ∷ [] = grind (arith, common_steps) in
+      gathers-next R (bindings_of xs) (binding_of x) _ _ (terms_in c.loop-b.found) (tree_of c.in_ok-t.t ∷ []) (terms_in c.push.new.self) e d
+      (goes c.in_ok-t.ensures.answer refl) c.loop-b.invariant.answer);
+  kept = c.in_ok-t.ensures.kept;
+}
 
-pub result_of-one_of-requires : goal.result_of-one_of-requires
+pub result_of-one_of-requires : goal.calls::result_of-one_of-requires
 result_of-one_of-requires g t c =
     let C : Calls = calls_in c.args.setting.now c.args.height in
     let T : Template = template_of c.args.template.now in
@@ -187,11 +190,11 @@ result_of-one_of-requires g t c =
     let n : 1 ≤ length (bindings_of xs) = grind (arith, common_steps) in
     let k : 1 ≤ length (terms_in c.loop-b.found) =
     some_gathered (λ (b : Binding). Makes C b T) (bindings_of xs) (terms_in c.loop-b.found)
-    (gathers-end R (bindings_of xs) _ (terms_in c.loop-b.found) (rest_none binding_of xs c.loop-b.b-index c.loop-b-test.false) c.loop-b.invariant) n in
+    (gathers-end R (bindings_of xs) _ (terms_in c.loop-b.found) (rest_none binding_of xs c.loop-b.b-index c.loop-b-test.false) c.loop-b.invariant.answer) n in
     grind (arith, common_steps)
 
-pub result_of-returns : goal.result_of-returns
-result_of-returns g t c =
+pub result_of-returns-clause-answer : goal.calls::result_of-returns-clause-answer
+result_of-returns-clause-answer g t c =
     let C : Calls = calls_in c.args.setting.now c.args.height in
     let T : Template = template_of c.args.template.now in
     let R : Binding → Answer (List Tree) → Type 0 = λ (b : Binding). Single (Makes C b T) in
@@ -199,21 +202,21 @@ result_of-returns g t c =
     handed_on tree_of (OneOf c.args.f.now (tree_of c.args.args.now) (terms_in c.loop-b.found))
     (Results C c.args.f.now (tree_of c.args.args.now) T (bindings_of xs)) c.one_of.result
     (λ q h. goes
-    (gathers-end R (bindings_of xs) _ (terms_in c.loop-b.found) (rest_none binding_of xs c.loop-b.b-index c.loop-b-test.false) c.loop-b.invariant) h)
+    (gathers-end R (bindings_of xs) _ (terms_in c.loop-b.found) (rest_none binding_of xs c.loop-b.b-index c.loop-b-test.false) c.loop-b.invariant.answer) h)
     c.one_of.ensures
 
 -- ---- judgements
 
-pub judge-returns-then-height-eq0 : goal.judge-returns-then-height-eq0
-judge-returns-then-height-eq0 g t c =
+pub outputs-returns-then-height-eq0-clause-answer : goal.calls::outputs-returns-then-height-eq0-clause-answer
+outputs-returns-then-height-eq0-clause-answer g t c =
     let P : Program = program_of c.args.setting.now.program.now in
     let n : ℕ = c.args.height in
     let j : List ℕ = c.args.j.now in
     let a : Tree = tree_of c.args.ins.now in
     stops_for terms_in ((calls_in c.args.setting.now n).outputs_of j a) _ (spent j) c.in_ok-spent.ensures (outputs-none P n j a c.if-height-eq0.true)
 
-pub judge-returns-in_default : goal.judge-returns-in_default
-judge-returns-in_default g t c =
+pub outputs-returns-in_default-clause-answer : goal.calls::outputs-returns-in_default-clause-answer
+outputs-returns-in_default-clause-answer g t c =
     let P : Program = program_of c.args.setting.now.program.now in
     let n : ℕ = c.args.height in
     let C : Calls = calls_in c.args.setting.now (n - 1) in
@@ -224,8 +227,8 @@ judge-returns-in_default g t c =
     (outputs-some P n (n - 1) j a _ (omega arith) refl
     (outputs-no_judgement P C j a (judgement_found c.judgement_named.result) c.judgement_named.ensures (ap judgement_found c.in_default.is)))
 
-pub judge-returns-in_default-language_named : goal.judge-returns-in_default-language_named
-judge-returns-in_default-language_named g t c =
+pub outputs-returns-in_default-language_named-clause-answer : goal.calls::outputs-returns-in_default-language_named-clause-answer
+outputs-returns-in_default-language_named-clause-answer g t c =
     let P : Program = program_of c.args.setting.now.program.now in
     let n : ℕ = c.args.height in
     let C : Calls = calls_in c.args.setting.now (n - 1) in
@@ -241,8 +244,8 @@ judge-returns-in_default-language_named g t c =
     (language_found c.language_named.result) c.language_named.ensures _
     (subst (λ (o : Option Language). RulesOver o C a J.rules (value [])) (sym (ap language_found c.in_default-language_named.is)) refl)))
 
-pub judge-returns : goal.judge-returns
-judge-returns g t c =
+pub outputs-returns-clause-answer : goal.calls::outputs-returns-clause-answer
+outputs-returns-clause-answer g t c =
     let P : Program = program_of c.args.setting.now.program.now in
     let n : ℕ = c.args.height in
     let C : Calls = calls_in c.args.setting.now (n - 1) in
@@ -258,12 +261,12 @@ judge-returns g t c =
     (language_found c.language_named.result) c.language_named.ensures r
     (subst (λ (o : Option Language). RulesOver o C a J.rules r) (sym (ap language_found c.in-Some-language_named.is))
     (subst (λ (rs : List code_rule.JRule). Rules L C a (judgement_rules_of rs) r) c.as_slice-rules.ensures.value h))))
-    c.by_rules.ensures
+    c.by_rules.ensures.answer
 
 -- ---- rules
 
-pub by_rules-returns-in_err-bs : goal.by_rules-returns-in_err-bs
-by_rules-returns-in_err-bs g t c =
+pub by_rules-returns-in_err-bs-clause-answer : goal.calls::by_rules-returns-in_err-bs-clause-answer
+by_rules-returns-in_err-bs-clause-answer g t c =
     let C : Calls = calls_in c.args.setting.now c.args.height in
     let L : Language = language_in c.args.language.now in
     let a : Tree = tree_of c.args.ins.now in
@@ -274,14 +277,14 @@ by_rules-returns-in_err-bs g t c =
     let e : judgement_rules_of (drop i xs) ≡ judgement_rule_of x ∷ judgement_rules_of (drop (i + 1) xs) =
     rest_at judgement_rule_of xs i x c.loop-rule-test.true c.rule-item.is in
     error_handed_on bindings_in terms_in (Survivors L C a (pattern_in x.ins) (extras_of c.deref.result.now)) (Rules L C a (judgement_rules_of xs))
-    c.from_residual-in_err-bs.result _ c.from_residual-in_err-bs.ensures.1
+    c.from_residual.result _ c.from_residual.ensures.1
     (λ f h. stops (gathers-fault R (judgement_rules_of xs) (judgement_rule_of x) _ _ (terms_in c.loop-rule.found) f e
     (stops (subst (λ (es : List code_extra.Extra). Survivors L C a (pattern_in x.ins) (extras_of es) (fault f)) c.deref.ensures.value h))
-    c.loop-rule.invariant))
-    c.in_err-bs.ensures
+    c.loop-rule.invariant.answer))
+    c.in_err-bs.ensures.answer
 
-pub by_rules-returns-in_err-more : goal.by_rules-returns-in_err-more
-by_rules-returns-in_err-more g t c =
+pub by_rules-returns-in_err-more-clause-answer : goal.calls::by_rules-returns-in_err-more-clause-answer
+by_rules-returns-in_err-more-clause-answer g t c =
     let C : Calls = calls_in c.args.setting.now c.args.height in
     let L : Language = language_in c.args.language.now in
     let a : Tree = tree_of c.args.ins.now in
@@ -295,52 +298,54 @@ by_rules-returns-in_err-more g t c =
     let e : judgement_rules_of (drop i xs) ≡ judgement_rule_of x ∷ judgement_rules_of (drop (i + 1) xs) =
     rest_at judgement_rule_of xs i x c.loop-rule-test.true c.rule-item.is in
     let s : Survivors L C a (pattern_in x.ins) (extras_of x.extras.items) (value bs) =
-    subst (λ (es : List code_extra.Extra). Survivors L C a (pattern_in x.ins) (extras_of es) (value bs)) c.deref.ensures.value c.in_ok-bs.ensures in
+    subst (λ (es : List code_extra.Extra). Survivors L C a (pattern_in x.ins) (extras_of es) (value bs)) c.deref.ensures.value c.in_ok-bs.ensures.answer in
     error_handed_on terms_in terms_in (OutputLists C (map template_of ts) (bindings_of cs)) (Rules L C a (judgement_rules_of xs))
     c.from_residual-in_err-more.result _ c.from_residual-in_err-more.ensures.1
     (λ f h. stops (gathers-fault R (judgement_rules_of xs) (judgement_rule_of x) _ _ (terms_in c.loop-rule.found) f e
     (goes s (subst (λ (us : List code_template.Template). OutputLists C (map template_of us) bs (fault f)) c.deref-in-loop-rule.ensures.value
     (subst (λ (ds : List code_binding.Binding). OutputLists C (map template_of ts) (bindings_of ds) (fault f)) c.deref-in-loop-rule-2.ensures.value h)))
-    c.loop-rule.invariant))
-    c.in_err-more.ensures
+    c.loop-rule.invariant.answer))
+    c.in_err-more.ensures.answer
 
-pub by_rules-loop-rule-preserved : goal.by_rules-loop-rule-preserved
-by_rules-loop-rule-preserved g t c =
-    let C : Calls = calls_in c.args.setting.now c.args.height in
-    let L : Language = language_in c.args.language.now in
-    let a : Tree = tree_of c.args.ins.now in
-    let R : JudgementRule → Answer (List Tree) → Type 0 = RuleOutputs L C a in
-    let xs = c.args.rules.now in
-    let i : ℕ = c.loop-rule.rule-index in
-    let x = c.rule-item.result in
-    let ts = c.deref-in-loop-rule.result.now in
-    let bs : List Binding = bindings_in c.in_ok-bs.bs in
-    let more : List Tree = terms_in c.in_ok-more.more in
-    let e : judgement_rules_of (drop i xs) ≡ judgement_rule_of x ∷ judgement_rules_of (drop (i + 1) xs) =
-    rest_at judgement_rule_of xs i x c.loop-rule-test.true c.rule-item.is in
-    let s : Survivors L C a (pattern_in x.ins) (extras_of x.extras.items) (value bs) =
-    subst (λ (es : List code_extra.Extra). Survivors L C a (pattern_in x.ins) (extras_of es) (value bs)) c.deref.ensures.value c.in_ok-bs.ensures in
-    let o : OutputLists C (map template_of x.outs.items) bs (value more) =
-    subst (λ (us : List code_template.Template). OutputLists C (map template_of us) bs (value more)) c.deref-in-loop-rule.ensures.value
-    (subst (λ (ds : List code_binding.Binding). OutputLists C (map template_of ts) (bindings_of ds) (value more)) c.deref-in-loop-rule-2.ensures.value
-    c.in_ok-more.ensures) in
-    let d : terms_in c.append.new.self ≡ terms_in c.loop-rule.found ++ more = grind (arith, common_steps) in
-    gathers-next R (judgement_rules_of xs) (judgement_rule_of x) _ _ (terms_in c.loop-rule.found) more (terms_in c.append.new.self) e d (goes s o)
-    c.loop-rule.invariant
+pub by_rules-loop-rule-preserved : goal.calls::by_rules-loop-rule-preserved
+by_rules-loop-rule-preserved g t c = record {
+  answer = (let C : Calls = calls_in c.args.setting.now c.args.height in
+      let L : Language = language_in c.args.language.now in
+      let a : Tree = tree_of c.args.ins.now in
+      let R : JudgementRule → Answer (List Tree) → Type 0 = RuleOutputs L C a in
+      let xs = c.args.rules.now in
+      let i : ℕ = c.loop-rule.rule-index in
+      let x = c.rule-item.result in
+      let ts = c.deref-in-loop-rule.result.now in
+      let bs : List Binding = bindings_in c.in_ok-bs.bs in
+      let more : List Tree = terms_in c.in_ok-more.more in
+      let e : judgement_rules_of (drop i xs) ≡ judgement_rule_of x ∷ judgement_rules_of (drop (i + 1) xs) =
+      rest_at judgement_rule_of xs i x c.loop-rule-test.true c.rule-item.is in
+      let s : Survivors L C a (pattern_in x.ins) (extras_of x.extras.items) (value bs) =
+      subst (λ (es : List code_extra.Extra). Survivors L C a (pattern_in x.ins) (extras_of es) (value bs)) c.deref.ensures.value c.in_ok-bs.ensures.answer in
+      let o : OutputLists C (map template_of x.outs.items) bs (value more) =
+      subst (λ (us : List code_template.Template). OutputLists C (map template_of us) bs (value more)) c.deref-in-loop-rule.ensures.value
+      (subst (λ (ds : List code_binding.Binding). OutputLists C (map template_of ts) (bindings_of ds) (value more)) c.deref-in-loop-rule-2.ensures.value
+      c.in_ok-more.ensures.answer) in
+      let d : terms_in c.append.new.self ≡ terms_in c.loop-rule.found ++ more = grind (arith, common_steps) in
+      gathers-next R (judgement_rules_of xs) (judgement_rule_of x) _ _ (terms_in c.loop-rule.found) more (terms_in c.append.new.self) e d (goes s o)
+      c.loop-rule.invariant.answer);
+  kept = c.in_ok-more.ensures.kept;
+}
 
-pub by_rules-returns : goal.by_rules-returns
-by_rules-returns g t c =
+pub by_rules-returns-clause-answer : goal.calls::by_rules-returns-clause-answer
+by_rules-returns-clause-answer g t c =
     let C : Calls = calls_in c.args.setting.now c.args.height in
     let L : Language = language_in c.args.language.now in
     let a : Tree = tree_of c.args.ins.now in
     let xs = c.args.rules.now in
     goes
     (gathers-end (RuleOutputs L C a) (judgement_rules_of xs) _ (terms_in c.loop-rule.found)
-    (rest_none judgement_rule_of xs c.loop-rule.rule-index c.loop-rule-test.false) c.loop-rule.invariant)
+    (rest_none judgement_rule_of xs c.loop-rule.rule-index c.loop-rule-test.false) c.loop-rule.invariant.answer)
     (lists c.in_ok-ascending.ensures)
 
-pub output_lists-returns-in_err-t : goal.output_lists-returns-in_err-t
-output_lists-returns-in_err-t g t c =
+pub output_lists-returns-in_err-t-clause-answer : goal.calls::output_lists-returns-in_err-t-clause-answer
+output_lists-returns-in_err-t-clause-answer g t c =
     let C : Calls = calls_in c.args.setting.now c.args.height in
     let ts : List Template = map template_of c.args.templates.now in
     let R : Binding → Answer (List Tree) → Type 0 = λ (b : Binding). Single (MakeList C b ts) in
@@ -349,26 +354,28 @@ output_lists-returns-in_err-t g t c =
     let x = c.binding-item.result in
     let e : bindings_of (drop i xs) ≡ binding_of x ∷ bindings_of (drop (i + 1) xs) = rest_at binding_of xs i x c.loop-binding-test.true c.binding-item.is in
     error_handed_on tree_of terms_in (MakeList C (binding_of x) ts) (OutputLists C ts (bindings_of xs))
-    c.from_residual-in_err-t.result _ c.from_residual-in_err-t.ensures.1
-    (λ f h. gathers-fault R (bindings_of xs) (binding_of x) _ _ (terms_in c.loop-binding.found) f e (stops h) c.loop-binding.invariant) c.in_err-t.ensures
+    c.from_residual.result _ c.from_residual.ensures.1
+    (λ f h. gathers-fault R (bindings_of xs) (binding_of x) _ _ (terms_in c.loop-binding.found) f e (stops h) c.loop-binding.invariant.answer) c.in_err-t.ensures.answer
 
-pub output_lists-loop-binding-preserved : goal.output_lists-loop-binding-preserved
-output_lists-loop-binding-preserved g t c =
-    let C : Calls = calls_in c.args.setting.now c.args.height in
-    let ts : List Template = map template_of c.args.templates.now in
-    let R : Binding → Answer (List Tree) → Type 0 = λ (b : Binding). Single (MakeList C b ts) in
-    let xs = c.args.bs.now in
-    let i : ℕ = c.loop-binding.binding-index in
-    let x = c.binding-item.result in
-    let e : bindings_of (drop i xs) ≡ binding_of x ∷ bindings_of (drop (i + 1) xs) = rest_at binding_of xs i x c.loop-binding-test.true c.binding-item.is in
-    let d : terms_in c.push.new.self ≡ terms_in c.loop-binding.found ++ tree_of c.in_ok-t.t ∷ [] = grind (arith, common_steps) in
-    gathers-next R (bindings_of xs) (binding_of x) _ _ (terms_in c.loop-binding.found) (tree_of c.in_ok-t.t ∷ []) (terms_in c.push.new.self) e d
-    (goes c.in_ok-t.ensures refl) c.loop-binding.invariant
+pub output_lists-loop-binding-preserved : goal.calls::output_lists-loop-binding-preserved
+output_lists-loop-binding-preserved g t c = record {
+  answer = (let C : Calls = calls_in c.args.setting.now c.args.height in
+      let ts : List Template = map template_of c.args.templates.now in
+      let R : Binding → Answer (List Tree) → Type 0 = λ (b : Binding). Single (MakeList C b ts) in
+      let xs = c.args.bs.now in
+      let i : ℕ = c.loop-binding.binding-index in
+      let x = c.binding-item.result in
+      let e : bindings_of (drop i xs) ≡ binding_of x ∷ bindings_of (drop (i + 1) xs) = rest_at binding_of xs i x c.loop-binding-test.true c.binding-item.is in
+      let d : terms_in c.push.new.self ≡ terms_in c.loop-binding.found ++ tree_of c.in_ok-t.t ∷ [] = grind (arith, common_steps) in
+      gathers-next R (bindings_of xs) (binding_of x) _ _ (terms_in c.loop-binding.found) (tree_of c.in_ok-t.t ∷ []) (terms_in c.push.new.self) e d
+      (goes c.in_ok-t.ensures.answer refl) c.loop-binding.invariant.answer);
+  kept = c.in_ok-t.ensures.kept;
+}
 
-pub output_lists-returns : goal.output_lists-returns
-output_lists-returns g t c =
+pub output_lists-returns-clause-answer : goal.calls::output_lists-returns-clause-answer
+output_lists-returns-clause-answer g t c =
     let C : Calls = calls_in c.args.setting.now c.args.height in
     let ts : List Template = map template_of c.args.templates.now in
     let xs = c.args.bs.now in
     gathers-end (λ (b : Binding). Single (MakeList C b ts)) (bindings_of xs) _ (terms_in c.loop-binding.found)
-    (rest_none binding_of xs c.loop-binding.binding-index c.loop-binding-test.false) c.loop-binding.invariant
+    (rest_none binding_of xs c.loop-binding.binding-index c.loop-binding-test.false) c.loop-binding.invariant.answer

@@ -1,0 +1,15 @@
+use Rattle.rdx_eval.proofs.KeepingLaws.{handed-back, handed-memo}
+use Rattle.rdx_eval.proofs.engine.Engine.instantiate.Goals as goal
+
+pub make-answer-requires : goal.make-answer-requires
+make-answer-requires g c =
+    let s = c.order_names.new.self in
+    record { kept = handed-memo s.program c.new-setting.result.program s.memo c.new-setting.ensures s.kept }
+
+pub invariant_of-self : goal.invariant_of-self
+invariant_of-self g c =
+    let s = c.order_names.new.self in
+    record {
+      of_program = s.of_program;
+      kept = handed-back s.program c.new-setting.result.program c.make-answer.new.memo c.new-setting.ensures c.make-answer.ensures.kept;
+    }
