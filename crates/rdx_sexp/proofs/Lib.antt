@@ -10,6 +10,7 @@ pub mod Faults
 pub mod Fronts
 pub mod Once
 pub mod Always
+pub mod Readable
 pub mod Spelled
 pub mod Sizes
 pub mod Whole
@@ -20,5 +21,6 @@ pub mod PrintedTokens
 pub mod PrintedAtoms
 pub mod PrintedFirstLine
 pub mod PrintedTrees
+pub mod PrintedData
 pub mod SymbolsRead
 pub mod WorkedExamples

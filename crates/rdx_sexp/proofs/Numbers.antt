@@ -28,7 +28,7 @@ IsNumeral-integer bs e =
     (ltb-true 0 (length (without_leading_sign bs)) p.0, AllDigits-all_digits (without_leading_sign bs) p.1)
 
 -- what fits is in range for `parse`
-FitsSigned-fits : (z : ℤ) → fits z ≡ true → FitsSigned w128 z
+pub FitsSigned-fits : (z : ℤ) → fits z ≡ true → FitsSigned w128 z
 FitsSigned-fits (pos n) e = record { sfits = ltb-true n (2 ^ 127) e }
 FitsSigned-fits (negsuc n) e = record { sfits = ltb-true n (2 ^ 127) e }
 

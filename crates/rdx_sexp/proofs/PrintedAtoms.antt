@@ -44,7 +44,7 @@ begins_with_hash-integer [] h = refl
 begins_with_hash-integer (b ∷ bs) h = in_integer-excluded (λ (x : ℕ). x == 35) refl b (and_parts (in_integer b) (list_all in_integer bs) h).0
 
 -- so is its text
-Word-integer : (p : Place) (n : ℤ) (bs rest : List ℕ) → IsInteger n bs → fits n ≡ true → is_delimited rest ≡ true → Word p (bs ++ rest) (integer n) rest
+pub Word-integer : (p : Place) (n : ℤ) (bs rest : List ℕ) → IsInteger n bs → fits n ≡ true → is_delimited rest ≡ true → Word p (bs ++ rest) (integer n) rest
 Word-integer p n [] rest i f d = absurd (true≢false (sym i.token))
 Word-integer p n (b ∷ bs) rest i f d =
     let hash = begins_with_hash-integer (b ∷ bs) i.integral in

@@ -34,14 +34,14 @@ scalars-append (x ∷ xs) ys h k =
     and_from (scalar x) (scalars (xs ++ ys)) p.0 (scalars-append xs ys p.1 k)
 
 -- one text behind another
-Encodes-append : (xs ys bs ds : List ℕ) → Encodes xs bs → Encodes ys ds → Encodes (xs ++ ys) (bs ++ ds)
+pub Encodes-append : (xs ys bs ds : List ℕ) → Encodes xs bs → Encodes ys ds → Encodes (xs ++ ys) (bs ++ ds)
 Encodes-append xs ys bs ds e f = record {
   valid = scalars-append xs ys e.valid f.valid;
   same = encodes-append xs ys ∙ ap₂ (λ (a b : List ℕ). a ++ b) e.same f.same;
 }
 
 -- UTF-8 text
-Encodes-chars : (bs : List ℕ) → IsUtf8 bs → Encodes (chars bs) bs
+pub Encodes-chars : (bs : List ℕ) → IsUtf8 bs → Encodes (chars bs) bs
 Encodes-chars bs u = record { valid = scalars-chars bs u; same = encodes-chars bs u }
 
 -- one ASCII character in front
@@ -52,7 +52,7 @@ Encodes-ascii c cs bs h e = record {
 }
 
 -- several in front
-Encodes-all_ascii : (xs cs bs : List ℕ) → list_all is_ascii xs ≡ true → Encodes cs bs → Encodes (xs ++ cs) (xs ++ bs)
+pub Encodes-all_ascii : (xs cs bs : List ℕ) → list_all is_ascii xs ≡ true → Encodes cs bs → Encodes (xs ++ cs) (xs ++ bs)
 Encodes-all_ascii [] cs bs h e = e
 Encodes-all_ascii (x ∷ xs) cs bs h e =
     let p = and_parts (is_ascii x) (list_all is_ascii xs) h in
@@ -106,7 +106,7 @@ Encodes-escaped c cs bs s e = elim (cases_lt c 128) [
 ]
 
 -- all of a text
-Encodes-all_escaped : (xs cs bs : List ℕ) → scalars xs ≡ true → Encodes cs bs → Encodes (all_escaped xs ++ cs) (all_escaped (encode_utf8_all xs) ++ bs)
+pub Encodes-all_escaped : (xs cs bs : List ℕ) → scalars xs ≡ true → Encodes cs bs → Encodes (all_escaped xs ++ cs) (all_escaped (encode_utf8_all xs) ++ bs)
 Encodes-all_escaped [] cs bs s e = e
 Encodes-all_escaped (x ∷ xs) cs bs s e =
     let p = and_parts (scalar x) (scalars xs) s in
@@ -140,7 +140,7 @@ abbrev mutual
   spaced_chars (cons t ts) rest = 32 ∷ tree_chars t (spaced_chars ts rest)
 
 -- a truth value is printed in ASCII
-truth_text-ascii : (b : Bool) → list_all is_ascii (truth_text b) ≡ true
+pub truth_text-ascii : (b : Bool) → list_all is_ascii (truth_text b) ≡ true
 truth_text-ascii true = refl
 truth_text-ascii false = refl
 

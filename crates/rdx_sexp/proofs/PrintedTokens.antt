@@ -170,6 +170,11 @@ first_lexeme-space : (p : Place) (cs : List ℕ) → first_lexeme (at p (32 ∷ 
 unfolding first_lexeme
 first_lexeme-space p cs = ap first_from (outside_step p 32 cs)
 
+-- so is a line end
+first_lexeme-line_end : (p : Place) (cs : List ℕ) → first_lexeme (at p (10 ∷ cs)) ≡ first_lexeme (at (after p 10) cs)
+unfolding first_lexeme
+first_lexeme-line_end p cs = ap first_from (outside_step p 10 cs)
+
 -- texts with the same first lexeme have the same lexemes
 Lexes-same : (t u : Text) (ls : List Lexeme) → first_lexeme t ≡ first_lexeme u → Lexes u ls → Lexes t ls
 Lexes-same t u [] e (lexes_end d) = lexes_end (e ∙ d)
@@ -178,3 +183,7 @@ Lexes-same t u (l ∷ ls) e (lexes_more d more) = lexes_more (e ∙ d) more
 -- so has a text behind a space
 pub Lexes-space : (p : Place) (cs : List ℕ) (ls : List Lexeme) → Lexes (at (after p 32) cs) ls → Lexes (at p (32 ∷ cs)) ls
 Lexes-space p cs ls l = Lexes-same (at p (32 ∷ cs)) (at (after p 32) cs) ls (first_lexeme-space p cs) l
+
+-- and one behind a line end
+pub Lexes-line_end : (p : Place) (cs : List ℕ) (ls : List Lexeme) → Lexes (at (after p 10) cs) ls → Lexes (at p (10 ∷ cs)) ls
+Lexes-line_end p cs ls l = Lexes-same (at p (10 ∷ cs)) (at (after p 10) cs) ls (first_lexeme-line_end p cs) l

@@ -49,6 +49,10 @@ mutual
       let g = many_are_fine n mid rest ds h many in
       record { shallow = g.shallow; few = omega (arith, f.few, g.few) }
 
+-- the data of a text are not too deep
+pub data_are_shallow : (ls : List Lexeme) (ds : List Sexp) → Many 0 ls ds [] → sexps_depth (sexps ds) ≤ 500
+data_are_shallow ls ds many = let f = many_are_fine 0 ls [] ds (omega arith) many in omega (arith, f.shallow)
+
 -- the data of bytes of a file's length are of file size
 pub data_are_of_file_size : (bytes : List ℕ) (ds : List Sexp) → length bytes ≤ 1_048_576 → Reads bytes ds → AreFileData ds
 data_are_of_file_size bytes ds h r =

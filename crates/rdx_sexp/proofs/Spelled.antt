@@ -1,8 +1,8 @@
--- Each symbol in the data of a text is spelled as the symbols of terms are.
-use Rattle.std.proofs.Common.{◌≡◌, ℕ, suc, ◌==◌, ◌&&◌, ◌||◌, List, [], ◌∷◌, length, Bool, true, false, not, cond, Option, Some, None, Result, Ok, Err, refl, ap, ◌∙◌, subst, arith}
+-- Each atom in the data of a text is readable; so each symbol is spelled as the symbols of terms are.
+use Rattle.std.proofs.Common.{◌≡◌, ℕ, suc, ◌==◌, ◌&&◌, ◌||◌, List, [], ◌∷◌, length, Bool, true, false, not, cond, Option, Some, None, Result, Ok, Err, ◌++◌, refl, sym, ap, ap₂, ◌∙◌, subst, eqb-true, arith}
 use Rattle.std.proofs.lemmas.Bool.Decides.{nat_tests}
-use Rattle.std.proofs.Math.Utf8.{scalar, scalars}
-use Rattle.std.proofs.lemmas.Str.{chars-encodes, chars-nil, scalars-chars}
+use Rattle.std.proofs.Math.Utf8.{scalar, scalars, encode}
+use Rattle.std.proofs.lemmas.Str.{chars-encodes, chars-nil, scalars-chars, encode_ascii, IsUtf8-past_char, chars_past_char}
 use Rattle.std.specs.Char.{is_whitespace}
 use Rattle.std.specs.List.{list_any}
 use Rattle.std.specs.Prelude.{ℤ, codes, bytes_eq}
@@ -11,7 +11,7 @@ use Rattle.std.specs.Str.Parse.{signed_digits_value}
 use Rattle.rdx_base.specs.declared.place.Place.{Place}
 use Rattle.rdx_base.specs.declared.place.Span.{Span}
 use Rattle.rdx_term.specs.Spelling.{ends_token, is_symbol_quote, begins_with_hash, begins_number, is_reserved, is_symbol_spelling}
-use Rattle.rdx_sexp.specs.declared.fault.ReadKind.TheVariants.{BadToken, NumberRange, NumberForm, Unclosed}
+use Rattle.rdx_sexp.specs.declared.fault.ReadKind.TheVariants.{BadString, BadToken, NumberRange, NumberForm, Unclosed}
 use Rattle.rdx_sexp.specs.Blanks.{begins_block, ends_block, past_blanks, past_comment}
 use Rattle.rdx_sexp.specs.Begin.{body}
 use Rattle.rdx_sexp.specs.Grammar.{quote_name, One, one_leaf, one_list, one_quoted, one_skipped, Many, many_none, many_more, many_skipped}
@@ -21,11 +21,13 @@ use Rattle.rdx_sexp.specs.Lexeme.{Lexeme, opening, closing, quote_mark, skip, wo
 use Rattle.rdx_sexp.specs.Reads.{Lexes, lexes_end, lexes_more}
 use Rattle.rdx_sexp.specs.Refusal.{refusal}
 use Rattle.rdx_sexp.specs.Sexp.{integer, truth, symbol, Sexp, sexps}
-use Rattle.rdx_sexp.specs.Size.{IsSpelled, IsSpelledSexp, AreSpelled}
-use Rattle.rdx_sexp.specs.Strings.{Body, string_body}
+use Rattle.rdx_sexp.specs.Size.{AreSpelled}
+use Rattle.rdx_sexp.specs.Strings.{escape_of, Body, with_char, with_escape, string_body}
 use Rattle.rdx_sexp.specs.Text.{Text, at, after, next_is, skip_one}
 use Rattle.rdx_sexp.specs.Token.{token_chars, past_token, is_integer, fits, integer_lexeme, keyword_name, keyword_lexeme, hash_lexeme, token_lexeme}
 use Rattle.rdx_sexp.proofs.Behind.{IsEnd, whole, behind, IsBehind, remaining, past_blanks_is_end, first_lexeme_is_behind, body_is_end}
+use Rattle.rdx_sexp.proofs.PrintedChars.{encode_utf8_all-ascii}
+use Rattle.rdx_sexp.proofs.Readable.{IsKeyword, IsReadable, IsReadableSexp, AreReadable, AreSpelled-readable}
 
 -- ---- the tests of a token
 
@@ -88,53 +90,146 @@ quote_name_is_spelled quasiquote = refl
 quote_name_is_spelled unquote = refl
 quote_name_is_spelled unquote_splicing = refl
 
--- a symbol that is a lexeme is spelled so
-abbrev IsSpelledLexeme : Lexeme → Type 0
-IsSpelledLexeme (opening b s) = Unit {0}
-IsSpelledLexeme (closing b s) = Unit {0}
-IsSpelledLexeme (quote_mark m s) = Unit {0}
-IsSpelledLexeme (skip s) = Unit {0}
-IsSpelledLexeme (word a s) = IsSpelled a
-IsSpelledLexeme (bad r) = Unit {0}
+-- whose texts are ASCII
+IsUtf8-quote_name : (m : QuoteMark) → IsUtf8 (quote_name m)
+IsUtf8-quote_name quote = (codes "quote", (refl, encode_utf8_all-ascii (codes "quote") refl))
+IsUtf8-quote_name quasiquote = (codes "quasiquote", (refl, encode_utf8_all-ascii (codes "quasiquote") refl))
+IsUtf8-quote_name unquote = (codes "unquote", (refl, encode_utf8_all-ascii (codes "unquote") refl))
+IsUtf8-quote_name unquote_splicing = (codes "unquote-splicing", (refl, encode_utf8_all-ascii (codes "unquote-splicing") refl))
+
+-- an atom that is a lexeme is readable
+abbrev IsReadableLexeme : Lexeme → Type 0
+IsReadableLexeme (opening b s) = Unit {0}
+IsReadableLexeme (closing b s) = Unit {0}
+IsReadableLexeme (quote_mark m s) = Unit {0}
+IsReadableLexeme (skip s) = Unit {0}
+IsReadableLexeme (word a s) = IsReadable a
+IsReadableLexeme (bad r) = Unit {0}
 
 record Spelled (l : Lexeme) : Type 0 where
-  is : IsSpelledLexeme l
+  is : IsReadableLexeme l
 
 -- a choice of two, by its test
 chosen : (b : Bool) (x y : Lexeme) → Spelled x → (b ≡ false → Spelled y) → Spelled (cond b x y)
 chosen true x y h k = h
 chosen false x y h k = k refl
 
+-- the same, where the test says something of the first
+chosen_by : (b : Bool) (x y : Lexeme) → (b ≡ true → Spelled x) → Spelled y → Spelled (cond b x y)
+chosen_by true x y h k = h refl
+chosen_by false x y h k = k
+
+-- a keyword of this name, where the test holds
+chosen_name : (b : Bool) (t : List ℕ) (s : Span) → (b ≡ true → IsKeyword t) → Spelled (keyword_lexeme (cond b (Some t) None) s)
+chosen_name true t s h = record { is = h refl }
+chosen_name false t s h = record { is = tt }
+
 chosen_step : (b : Bool) (x y : Step) → Spelled x.0 → (b ≡ false → Spelled y.0) → Spelled (cond b x y).0
 chosen_step true x y h k = h
 chosen_step false x y h k = k refl
 
-keyword_is_spelled : (o : Option (List ℕ)) (s : Span) → Spelled (keyword_lexeme o s)
-keyword_is_spelled None s = record { is = tt }
-keyword_is_spelled (Some t) s = record { is = tt }
+-- a text with a byte is not empty
+filled_cons : (d : ℕ) (ds : List ℕ) → (length (d ∷ ds) == 0) ≡ false
+filled_cons d ds = grind (arith, nat_tests)
 
-hash_is_spelled : (bs : List ℕ) (s : Span) → Spelled (hash_lexeme bs s)
-hash_is_spelled bs s =
+-- what stands behind `#:` in a token
+keyword_of_token : (d : ℕ) (ds : List ℕ) → IsUtf8 (35 ∷ 58 ∷ d ∷ ds) → list_any ends_token (chars (35 ∷ 58 ∷ d ∷ ds)) ≡ false → list_any is_symbol_quote (35 ∷ 58 ∷ d ∷ ds) ≡ false → IsKeyword (d ∷ ds)
+keyword_of_token d ds u f g =
+    let hash : (35 ∷ 58 ∷ d ∷ ds) ≡ encode 35 ++ (58 ∷ d ∷ ds) = sym (ap (λ (l : List ℕ). l ++ (58 ∷ d ∷ ds)) (encode_ascii 35 (omega arith))) in
+    let colon : (58 ∷ d ∷ ds) ≡ encode 58 ++ (d ∷ ds) = sym (ap (λ (l : List ℕ). l ++ (d ∷ ds)) (encode_ascii 58 (omega arith))) in
+    let v : IsUtf8 (58 ∷ d ∷ ds) = IsUtf8-past_char (35 ∷ 58 ∷ d ∷ ds) (58 ∷ d ∷ ds) 35 u hash in
+    let all : chars (35 ∷ 58 ∷ d ∷ ds) ≡ 35 ∷ 58 ∷ chars (d ∷ ds) =
+    chars_past_char (35 ∷ 58 ∷ d ∷ ds) (58 ∷ d ∷ ds) 35 u hash ∙ ap (λ (l : List ℕ). 35 ∷ l) (chars_past_char (58 ∷ d ∷ ds) (d ∷ ds) 58 v colon) in
+    let none : list_any ends_token (35 ∷ 58 ∷ chars (d ∷ ds)) ≡ false = subst (λ (l : List ℕ). list_any ends_token l ≡ false) all f in
+    record {
+      utf8 = IsUtf8-past_char (58 ∷ d ∷ ds) (d ∷ ds) 58 v colon;
+      filled = filled_cons d ds;
+      token = none;
+      quotes = g;
+    }
+
+keyword_is_spelled : (bs : List ℕ) (s : Span) → IsUtf8 bs → list_any ends_token (chars bs) ≡ false → list_any is_symbol_quote bs ≡ false → Spelled (keyword_lexeme (keyword_name bs) s)
+keyword_is_spelled [] s u f g = record { is = tt }
+keyword_is_spelled (h ∷ []) s u f g = record { is = tt }
+keyword_is_spelled (h ∷ c ∷ []) s u f g = record { is = tt }
+keyword_is_spelled (h ∷ c ∷ d ∷ ds) s u f g =
+    chosen_name (h == byte "#" && c == byte ":") (d ∷ ds) s (λ e.
+    let p = both (h == byte "#") (c == byte ":") e in
+    let same : (h ∷ c ∷ d ∷ ds) ≡ 35 ∷ 58 ∷ d ∷ ds = ap₂ (λ (x y : ℕ). x ∷ y ∷ d ∷ ds) (eqb-true h 35 p.0) (eqb-true c 58 p.1) in
+    keyword_of_token d ds (subst IsUtf8 same u) (subst (λ (l : List ℕ). list_any ends_token (chars l) ≡ false) same f)
+    (subst (λ (l : List ℕ). list_any is_symbol_quote l ≡ false) same g))
+
+hash_is_spelled : (bs : List ℕ) (s : Span) → IsUtf8 bs → list_any ends_token (chars bs) ≡ false → list_any is_symbol_quote bs ≡ false → Spelled (hash_lexeme bs s)
+hash_is_spelled bs s u f g =
     chosen (bytes_eq bs (codes "#t") || bytes_eq bs (codes "#true")) (word (truth true) s) _ (record { is = tt }) (λ e.
-    chosen (bytes_eq bs (codes "#f") || bytes_eq bs (codes "#false")) (word (truth false) s) (keyword_lexeme (keyword_name bs) s) (record { is = tt }) (λ f.
-    keyword_is_spelled (keyword_name bs) s))
+    chosen (bytes_eq bs (codes "#f") || bytes_eq bs (codes "#false")) (word (truth false) s) (keyword_lexeme (keyword_name bs) s) (record { is = tt }) (λ h.
+    keyword_is_spelled bs s u f g))
 
 integer_is_spelled : (n : ℤ) (s : Span) → Spelled (integer_lexeme n s)
-integer_is_spelled n s = chosen (fits n) (word (integer n) s) (bad (refusal NumberRange s.start)) (record { is = tt }) (λ e. record { is = tt })
+integer_is_spelled n s = chosen_by (fits n) (word (integer n) s) (bad (refusal NumberRange s.start)) (λ e. record { is = e }) (record { is = tt })
 
 -- a token with these characters is, if it has one and none ends it
-token_is_spelled : (bs cs : List ℕ) (c : ℕ) (s : Span) → chars bs ≡ c ∷ cs → list_any ends_token (c ∷ cs) ≡ false → Spelled (token_lexeme bs s)
-token_is_spelled bs cs c s e f =
+token_is_spelled : (bs cs : List ℕ) (c : ℕ) (s : Span) → IsUtf8 bs → chars bs ≡ c ∷ cs → list_any ends_token (c ∷ cs) ≡ false → Spelled (token_lexeme bs s)
+token_is_spelled bs cs c s u e f =
     chosen (list_any is_symbol_quote bs || bytes_eq bs (codes ".")) (bad (refusal BadToken s.start)) _ (record { is = tt }) (λ g.
-    chosen (begins_with_hash bs) (hash_lexeme bs s) _ (hash_is_spelled bs s) (λ h.
+    chosen (begins_with_hash bs) (hash_lexeme bs s) _ (hash_is_spelled bs s u (ap (list_any ends_token) e ∙ f) (neither (list_any is_symbol_quote bs) (bytes_eq bs (codes ".")) g).0) (λ h.
     chosen (is_integer bs) (integer_lexeme (signed_digits_value 10 bs) s) _ (integer_is_spelled (signed_digits_value 10 bs) s) (λ i.
     chosen (begins_number bs || is_reserved bs) (bad (refusal NumberForm s.start)) (word (symbol bs) s) (record { is = tt }) (λ k.
     let no = neither (begins_number bs) (is_reserved bs) k in
-    record { is = spelled bs cs c e f (neither (list_any is_symbol_quote bs) (bytes_eq bs (codes ".")) g).0 h no.0 no.1 }))))
+    record { is = (u, spelled bs cs c e f (neither (list_any is_symbol_quote bs) (bytes_eq bs (codes ".")) g).0 h no.0 no.1) }))))
 
-string_is_spelled : (p : Place) (b : Body) (t : Text) → Spelled (string_step p b t).0
-string_is_spelled p (Ok x) t = record { is = tt }
-string_is_spelled p (Err r) t = record { is = tt }
+-- the characters of a string are characters
+abbrev IsGoodBody : Body → Type 0
+IsGoodBody (Ok x) = scalars x.0 ≡ true
+IsGoodBody (Err r) = Unit {0}
+
+record GoodBody (b : Body) : Type 0 where
+  is : IsGoodBody b
+
+chosen_body : (b : Bool) (x y : Body) → GoodBody x → GoodBody y → GoodBody (cond b x y)
+chosen_body true x y h k = h
+chosen_body false x y h k = k
+
+good-with_char : (c : ℕ) (b : Body) → scalar c ≡ true → GoodBody b → GoodBody (with_char c b)
+good-with_char c (Ok x) e g = record { is = and_true (scalar c) (scalars x.0) e g.is }
+good-with_char c (Err r) e g = record { is = tt }
+
+abbrev IsGoodEscape : Option ℕ → Type 0
+IsGoodEscape (Some c) = scalar c ≡ true
+IsGoodEscape None = Unit {0}
+
+record GoodEscape (o : Option ℕ) : Type 0 where
+  is : IsGoodEscape o
+
+chosen_escape : (b : Bool) (x y : Option ℕ) → GoodEscape x → GoodEscape y → GoodEscape (cond b x y)
+chosen_escape true x y h k = h
+chosen_escape false x y h k = k
+
+good-escape_of : (c : ℕ) → GoodEscape (escape_of c)
+good-escape_of c =
+    chosen_escape (c == byte "\"") (Some (byte "\"")) _ (record { is = refl })
+    (chosen_escape (c == byte "\\") (Some (byte "\\")) _ (record { is = refl })
+    (chosen_escape (c == byte "n") (Some (byte "\n")) _ (record { is = refl })
+    (chosen_escape (c == byte "t") (Some (byte "\t")) _ (record { is = refl })
+    (chosen_escape (c == byte "r") (Some (byte "\r")) None (record { is = refl }) (record { is = tt })))))
+
+good-with_escape : (o : Option ℕ) (p : Place) (b : Body) → GoodEscape o → GoodBody b → GoodBody (with_escape o p b)
+good-with_escape (Some c) p b e g = good-with_char c b e.is g
+good-with_escape None p b e g = record { is = tt }
+
+good-string_body : (o p : Place) (cs : List ℕ) → scalars cs ≡ true → GoodBody (string_body o p cs)
+good-string_body o p [] u = record { is = tt }
+good-string_body o p (c ∷ []) u = chosen_body (c == byte "\"") (Ok ([], at (after p c) [])) (Err (refusal BadString o)) (record { is = refl }) (record { is = tt })
+good-string_body o p (c ∷ d ∷ cs) u =
+    let one = both (scalar c) (scalars (d ∷ cs)) u in
+    let two = both (scalar d) (scalars cs) one.1 in
+    chosen_body (c == byte "\"") (Ok ([], at (after p c) (d ∷ cs))) _ (record { is = refl })
+    (chosen_body (c == byte "\\") _ _ (good-with_escape (escape_of d) p (string_body o (after (after p c) d) cs) (good-escape_of d) (good-string_body o (after (after p c) d) cs two.1))
+    (good-with_char c (string_body o (after p c) (d ∷ cs)) one.0 (good-string_body o (after p c) (d ∷ cs) one.1)))
+
+string_is_spelled : (p : Place) (b : Body) (t : Text) → GoodBody b → Spelled (string_step p b t).0
+string_is_spelled p (Ok x) t g = record { is = (x.0, (g.is, refl)) }
+string_is_spelled p (Err r) t g = record { is = tt }
 
 -- a character that is none of those with which other lexemes begin ends no token
 ends_no_token : (c : ℕ) → is_whitespace c ≡ false → (c == byte ";") ≡ false → (c == byte "(") ≡ false → (c == byte ")") ≡ false
@@ -148,7 +243,7 @@ token_step_is_spelled p c r u e =
     let parts = both (scalar c) (scalars r.chars) u in
     let all : scalars (c ∷ token_chars r.chars) ≡ true = and_true (scalar c) (scalars (token_chars r.chars)) parts.0 (scalars-token_chars r.chars parts.1) in
     token_is_spelled (encode_utf8_all (c ∷ token_chars r.chars)) (token_chars r.chars) c (span p (past_token r.place r.chars).place)
-    (chars-encodes (c ∷ token_chars r.chars) all) (ap (λ x. x || list_any ends_token (token_chars r.chars)) e ∙ list_any-token_chars r.chars)
+    (c ∷ token_chars r.chars, (all, refl)) (chars-encodes (c ∷ token_chars r.chars) all) (ap (λ x. x || list_any ends_token (token_chars r.chars)) e ∙ list_any-token_chars r.chars)
 
 lexeme_from_is_spelled : (p : Place) (c : ℕ) (r : Text) → scalars (c ∷ r.chars) ≡ true → is_whitespace c ≡ false → (c == byte ";") ≡ false → Spelled (lexeme_from p c r).0
 lexeme_from_is_spelled p c r u v w =
@@ -162,7 +257,7 @@ lexeme_from_is_spelled p c r u v w =
     chosen_step (c == byte "'") (until (quote_mark quote) p r) _ (record { is = tt }) (λ j.
     chosen_step (c == byte "`") (until (quote_mark quasiquote) p r) _ (record { is = tt }) (λ k.
     chosen_step (c == byte ",") _ _ (chosen_step (next_is (byte "@") r.chars) (until (quote_mark unquote_splicing) p one) (until (quote_mark unquote) p r) (record { is = tt }) (λ x. record { is = tt })) (λ l.
-    chosen_step (c == byte "\"") _ _ (string_is_spelled p (string_body p r.place r.chars) r) (λ m.
+    chosen_step (c == byte "\"") _ _ (string_is_spelled p (string_body p r.place r.chars) r (good-string_body p r.place r.chars (both (scalar c) (scalars r.chars) u).1)) (λ m.
     chosen_step (c == byte "#" && next_is (byte ";") r.chars) (until skip p one) (token_step p c r) (record { is = tt }) (λ x.
     token_step_is_spelled p c r u (ends_no_token c v w d e f g h i j k l m))))))))))))
 
@@ -239,30 +334,30 @@ first_lexeme_is_spelled t s u e =
 
 -- ---- data
 
-abbrev AreSpelledLexemes : List Lexeme → Type 0
-AreSpelledLexemes [] = Unit {0}
-AreSpelledLexemes (l ∷ ls) = IsSpelledLexeme l × AreSpelledLexemes ls
+abbrev AreReadableLexemes : List Lexeme → Type 0
+AreReadableLexemes [] = Unit {0}
+AreReadableLexemes (l ∷ ls) = IsReadableLexeme l × AreReadableLexemes ls
 
 -- all lexemes of a text are
-lexemes_are_spelled : (ls : List Lexeme) (t : Text) → scalars t.chars ≡ true → Lexes t ls → AreSpelledLexemes ls
+lexemes_are_spelled : (ls : List Lexeme) (t : Text) → scalars t.chars ≡ true → Lexes t ls → AreReadableLexemes ls
 lexemes_are_spelled [] t u (lexes_end e) = tt
 lexemes_are_spelled (l ∷ ls) t u (lexes_more {rest} e more) =
     ((first_lexeme_is_spelled t (l, rest) u e).is, lexemes_are_spelled ls rest (scalars-behind rest.chars t.chars (first_lexeme_is_behind t (l, rest) e) u) more)
 
 -- so are the data that they spell, and the lexemes that follow
 mutual
-  one_is_spelled : (n : ℕ) (ls rest : List Lexeme) (d : Sexp) → AreSpelledLexemes ls → One n ls d rest → IsSpelledSexp d × AreSpelledLexemes rest
+  one_is_spelled : (n : ℕ) (ls rest : List Lexeme) (d : Sexp) → AreReadableLexemes ls → One n ls d rest → IsReadableSexp d × AreReadableLexemes rest
   one_is_spelled n ls rest d a one_leaf = a
   one_is_spelled n ls rest d a (one_list {ds} {ls = inner} lt many is) =
       let f = many_are_spelled (suc n) inner _ ds a.1 many in
-      (subst IsSpelledSexp is f.0, f.1.1)
+      (subst IsReadableSexp is f.0, f.1.1)
   one_is_spelled n ls rest d a (one_quoted {m} {s} {e} {ls = inner} lt one is) =
       let f = one_is_spelled (suc n) inner rest e a.1 one in
-      (subst IsSpelledSexp is (quote_name_is_spelled m, (f.0, tt)), f.1)
+      (subst IsReadableSexp is ((IsUtf8-quote_name m, quote_name_is_spelled m), (f.0, tt)), f.1)
   one_is_spelled n ls rest d a (one_skipped {d = x} {ls = inner} {mid} lt one then) =
       one_is_spelled n mid rest d (one_is_spelled (suc n) inner mid x a.1 one).1 then
 
-  many_are_spelled : (n : ℕ) (ls rest : List Lexeme) (ds : List Sexp) → AreSpelledLexemes ls → Many n ls ds rest → AreSpelled (sexps ds) × AreSpelledLexemes rest
+  many_are_spelled : (n : ℕ) (ls rest : List Lexeme) (ds : List Sexp) → AreReadableLexemes ls → Many n ls ds rest → AreReadable (sexps ds) × AreReadableLexemes rest
   many_are_spelled n ls rest ds a many_none = (tt, a)
   many_are_spelled n ls rest ds a (many_more {d} {ds = es} {mid} one many) =
       let f = one_is_spelled n ls mid d a one in
@@ -271,8 +366,12 @@ mutual
   many_are_spelled n ls rest ds a (many_skipped {d} {ls = inner} {mid} lt one many) =
       many_are_spelled n mid rest ds (one_is_spelled (suc n) inner mid d a.1 one).1 many
 
--- the data of a text have symbols spelled so
-pub data_are_spelled : (bytes : List ℕ) (ls : List Lexeme) (ds : List Sexp) → IsUtf8 bytes → Lexes (body (chars bytes)) ls → Many 0 ls ds [] → AreSpelled (sexps ds)
-data_are_spelled bytes ls ds utf8 lexed many =
+-- the data of a text are readable
+pub data_are_readable : (bytes : List ℕ) (ls : List Lexeme) (ds : List Sexp) → IsUtf8 bytes → Lexes (body (chars bytes)) ls → Many 0 ls ds [] → AreReadable (sexps ds)
+data_are_readable bytes ls ds utf8 lexed many =
     let u = scalars-end (body (chars bytes)).chars (chars bytes) (body_is_end (chars bytes)) (scalars-chars bytes utf8) in
     (many_are_spelled 0 ls [] ds (lexemes_are_spelled ls (body (chars bytes)) u lexed) many).0
+
+-- and have symbols spelled so
+pub data_are_spelled : (bytes : List ℕ) (ls : List Lexeme) (ds : List Sexp) → IsUtf8 bytes → Lexes (body (chars bytes)) ls → Many 0 ls ds [] → AreSpelled (sexps ds)
+data_are_spelled bytes ls ds utf8 lexed many = AreSpelled-readable (sexps ds) (data_are_readable bytes ls ds utf8 lexed many)

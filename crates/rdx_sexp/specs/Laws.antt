@@ -13,10 +13,12 @@ use Rattle.rdx_sexp.specs.Fault.{begins_at, FaultOf}
 use Rattle.rdx_sexp.specs.Grammar.{Many}
 use Rattle.rdx_sexp.specs.Lexeme.{Lexeme, opening, closing, quote_mark, skip, word, bad}
 use Rattle.rdx_sexp.specs.Meaning.{meaning}
+use Rattle.rdx_sexp.specs.Print.{canonical_text}
 use Rattle.rdx_sexp.specs.Reads.{Reads, FirstFault}
 use Rattle.rdx_sexp.specs.Refusal.{refusal}
-use Rattle.rdx_sexp.specs.Sexp.{Sexp, leaf, symbol}
+use Rattle.rdx_sexp.specs.Sexp.{Sexp, leaf, symbol, sexps}
 use Rattle.rdx_sexp.specs.Text.{start, after_all}
+use Rattle.rdx_sexp.specs.Unplaced.{all_unplaced}
 
 -- ---- data and faults
 
@@ -91,3 +93,15 @@ pub record ReadsBack (t : Tree) : Type 0 where
 -- the printed spelling of each term is
 abbrev pub TermsReadBack : Type 0
 TermsReadBack = (t : Tree) → IsTerm t → ReadsBack t
+
+-- ---- canonical text
+
+-- the canonical text of these data is read as the same data, spans aside
+pub record ReadsTheSame (ds : List Sexp) : Type 0 where
+  pub again : List Sexp
+  pub read : Reads (canonical_text ds) again
+  pub same : all_unplaced (sexps again) ≡ all_unplaced (sexps ds)
+
+-- that of the data of each text is
+abbrev pub DataReadBack : Type 0
+DataReadBack = (bytes : List ℕ) (ds : List Sexp) → Reads bytes ds → ReadsTheSame ds

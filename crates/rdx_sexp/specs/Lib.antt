@@ -14,6 +14,7 @@ pub mod Fault
 pub mod Reads
 pub mod Answers
 pub mod Print
+pub mod Unplaced
 pub mod Meaning
 pub mod Laws
 pub mod Examples

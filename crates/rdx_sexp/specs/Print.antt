@@ -1,5 +1,5 @@
 -- The one printed spelling of a datum.
-use Rattle.std.specs.Prelude.{ℕ, List, [], ◌++◌, codes}
+use Rattle.std.specs.Prelude.{ℕ, List, [], ◌∷◌, ◌++◌, codes}
 use Rattle.std.specs.Fmt.{signed_decimal}
 use Rattle.rdx_term.specs.Text.{all_escaped, truth_text}
 use Rattle.rdx_sexp.specs.Sexp.{Atom, integer, truth, text, symbol, keyword, Sexp, Sexps, leaf, list, nil, cons}
@@ -27,3 +27,8 @@ abbrev mutual
   pub spaced_text : Sexps → List ℕ
   spaced_text nil = []
   spaced_text (cons d ds) = codes " " ++ sexp_text d ++ spaced_text ds
+
+-- The canonical text of data: each on a line of its own.
+abbrev pub canonical_text : List Sexp → List ℕ
+canonical_text [] = []
+canonical_text (d ∷ ds) = sexp_text d ++ codes "\n" ++ canonical_text ds

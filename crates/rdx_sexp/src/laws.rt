@@ -1,6 +1,6 @@
 //! Laws of the definitions: functions that do nothing, whose contracts are the laws.
 ghost use Rattle.rdx_sexp.specs.Examples as example;
-ghost use Rattle.rdx_sexp.specs.Laws.{OneReading, OneFault, DataOrFault, NeverNeither, FaultsEndFronts, SymbolsRead, TermsReadBack};
+ghost use Rattle.rdx_sexp.specs.Laws.{OneReading, OneFault, DataOrFault, NeverNeither, FaultsEndFronts, SymbolsRead, TermsReadBack, DataReadBack};
 
 /// Bytes are one list of data at most.
 pub fn one_reading()
@@ -36,6 +36,11 @@ pub fn symbols_read()
 /// The printed spelling of a term is read as one datum, which stands for that term with its marks forgotten.
 pub fn terms_read_back()
     ensures { TermsReadBack }
+{}
+
+/// The canonical text of the data of a text, each printed on a line of its own, is read as the same data, spans aside.
+pub fn data_read_back()
+    ensures { DataReadBack }
 {}
 
 /// What some short texts are, as the definitions have it.
