@@ -4,12 +4,11 @@ ghost use Rattle.std.specs.Prelude.{◌+◌, ◌≡◌, IfOk};
 use crate::halt::Halt;
 use rdx_term::Term;
 
-/// How many calls deep a walk may go. Measured in the program as `./redex` builds it, such a call takes
-/// up to 2,050 bytes of the machine's stack where contexts pass the items of a list, and 1,650 at most
-/// elsewhere. So a walk this deep takes 1.85 MB at most, of the 1.98 MB that an evaluation leaves of a
-/// stack of 8 MiB. A term takes two such calls at each of its lists, where each list is an alternative of
-/// a nonterminal.
-const DEEPEST: usize = 900;
+/// How many calls deep a walk may go. Measured in the program as `./redex build` makes it, a walk 900 calls
+/// deep takes 1.0 to 1.3 MB of the machine's stack, so one this deep 3.5 MB at most; the levels of calls round
+/// it take less than 1.5 MB of 8 MiB. A term takes two such calls at each of its lists, where each list is an
+/// alternative of a nonterminal, so a term 500 lists deep is walked over even where it takes four.
+const DEEPEST: usize = 2_400;
 
 // How many steps a walk may be given besides in all.
 const MOST: usize = 4_000_000;
