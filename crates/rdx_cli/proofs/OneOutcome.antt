@@ -5,7 +5,7 @@ use Rattle.rdx_cli.specs.Ends.{Takes, Transcribes}
 use Rattle.rdx_cli.specs.Laws.{OneFile, OneRow, OneTranscript}
 use Rattle.rdx_cli.specs.Transcript.{IsTranscript}
 use Rattle.rdx_cli.specs.declared.transcript.Verdict.{Verdict}
-use Rattle.rdx_cli.specs.Words.{Row, run, step, workload}
+use Rattle.rdx_cli.specs.Words.{Row, run, step, workload, typeset, format}
 
 module _ (one_row : OneRow) (one_file : OneFile) (one_transcript : OneTranscript) where
   -- a row takes the same bytes of what a source has left, and leaves one rest
@@ -14,6 +14,8 @@ module _ (one_row : OneRow) (one_file : OneFile) (one_transcript : OneTranscript
   one_taken run all bytes other rest last a b = one_file all bytes other rest last a b
   one_taken (step cs) all bytes other rest last a b = one_file all bytes other rest last a b
   one_taken (workload n) all bytes other rest last a b = (a.1 ∙ sym b.1, a.0 ∙ sym b.0)
+  one_taken typeset all bytes other rest last a b = one_file all bytes other rest last a b
+  one_taken format all bytes other rest last a b = one_file all bytes other rest last a b
 
   pub one_outcome : (words : List (List ℕ)) (all text other : List ℕ) (rest last : Option (List ℕ)) (verdict end : Verdict)
       → Transcribes words (Some all) rest text verdict → Transcribes words (Some all) last other end

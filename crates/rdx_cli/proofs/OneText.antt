@@ -2,18 +2,21 @@
 use Rattle.std.proofs.Common.{◌≡◌, ℕ, List, [], ◌++◌, ap, sym, ◌∙◌, subst, codes, decimal, arith}
 use Rattle.rdx_patterns.specs.Refusal.{Refusal}
 use Rattle.rdx_query.specs.Writing.{Writes}
-use Rattle.rdx_query.specs.File.{IsFileRefusal}
+use Rattle.rdx_query.specs.File.{IsFile, IsFileRefusal}
 use Rattle.rdx_answer.specs.Workload as file
-use Rattle.rdx_query.specs.Laws.{OneText, OneRefusal, NeverBothTextAndRefusal}
+use Rattle.rdx_query.specs.Laws.{OneText, OneRefusal, NeverBothAcceptedAndRefused, NeverBothTextAndRefusal}
 use Rattle.rdx_sexp.specs.Laws.{OneReading, OneFault, DataOrFault}
+use Rattle.rdx_sexp.specs.Print.{canonical_text}
 use Rattle.rdx_sexp.specs.Sexp.{Sexp}
+use Rattle.rdx_typeset.specs.Forms.{typeset_text}
 use Rattle.rdx_cli.specs.Refusals.{read_line, form_line}
 use Rattle.rdx_cli.specs.Transcript.{AreData, IsUnread, too_long, at_fault, verdict_of}
 use Rattle.rdx_cli.specs.Transcript.{RunWrites, unread, refused, answered, last_line, WorkloadWrites, IsTranscript}
+use Rattle.rdx_cli.specs.Transcript.{TypesetWrites, unset, not_set, is_set, FormatWrites, unprinted, printed}
 use Rattle.rdx_cli.specs.declared.transcript.Verdict.{Verdict}
-use Rattle.rdx_cli.specs.Words.{Row, run, step, workload}
+use Rattle.rdx_cli.specs.Words.{Row, run, step, workload, typeset, format}
 
-module _ (one_reading : OneReading) (one_fault : OneFault) (data_or_fault : DataOrFault) (one_text : OneText) (one_refusal : OneRefusal) (never_both : NeverBothTextAndRefusal) where
+module _ (one_reading : OneReading) (one_fault : OneFault) (data_or_fault : DataOrFault) (one_text : OneText) (one_refusal : OneRefusal) (never_both : NeverBothTextAndRefusal) (never_both_accepted : NeverBothAcceptedAndRefused) where
   -- ---- files
 
   -- a file is one list of data
@@ -64,9 +67,37 @@ module _ (one_reading : OneReading) (one_fault : OneFault) (data_or_fault : Data
       let same = run_writes_once [] (file.workload n) a.whole b.whole v w a.written b.written in
       (a.printed ∙ ap (λ (whole : List ℕ). codes "workload " ++ decimal n ++ codes "\n" ++ last_line whole) same.0 ∙ sym b.printed, same.1)
 
+  -- ---- typeset and canonical text
+
+  typeset_writes_once : (bytes t u : List ℕ) (v w : Verdict) → TypesetWrites bytes t v → TypesetWrites bytes u w → (t ≡ u) × (v ≡ w)
+  typeset_writes_once bytes t u v w (unset a e) (unset b g) = (one_line bytes t u a b, e ∙ sym g)
+  typeset_writes_once bytes t u v w (unset a e) (not_set ds r b n m g) = absurd (not_data bytes t ds a b)
+  typeset_writes_once bytes t u v w (unset a e) (is_set ds P qs b n m g) = absurd (not_data bytes t ds a b)
+  typeset_writes_once bytes t u v w (not_set ds r a n m e) (unset b g) = absurd (not_data bytes u ds b a)
+  typeset_writes_once bytes t u v w (not_set ds r a n m e) (not_set es q b k l g) =
+      let d : es ≡ ds = same_data bytes es ds b a in
+      (one_form_line ds t u r q n (subst (λ (xs : List Sexp). IsFileRefusal xs q) d k) m l, e ∙ sym g)
+  typeset_writes_once bytes t u v w (not_set ds r a n m e) (is_set es P qs b k l g) =
+      let d : es ≡ ds = same_data bytes es ds b a in
+      absurd (never_both_accepted ds P qs r (subst (λ (xs : List Sexp). IsFile xs P qs) d k) n)
+  typeset_writes_once bytes t u v w (is_set ds P qs a n m e) (unset b g) = absurd (not_data bytes u ds b a)
+  typeset_writes_once bytes t u v w (is_set ds P qs a n m e) (not_set es q b k l g) =
+      let d : es ≡ ds = same_data bytes es ds b a in
+      absurd (never_both_accepted ds P qs q n (subst (λ (xs : List Sexp). IsFileRefusal xs q) d k))
+  typeset_writes_once bytes t u v w (is_set ds P qs a n m e) (is_set es Q rs b k l g) =
+      (m ∙ ap typeset_text (same_data bytes ds es a b) ∙ sym l, e ∙ sym g)
+
+  format_writes_once : (bytes t u : List ℕ) (v w : Verdict) → FormatWrites bytes t v → FormatWrites bytes u w → (t ≡ u) × (v ≡ w)
+  format_writes_once bytes t u v w (unprinted a e) (unprinted b g) = (one_line bytes t u a b, e ∙ sym g)
+  format_writes_once bytes t u v w (unprinted a e) (printed ds b m g) = absurd (not_data bytes t ds a b)
+  format_writes_once bytes t u v w (printed ds a m e) (unprinted b g) = absurd (not_data bytes u ds b a)
+  format_writes_once bytes t u v w (printed ds a m e) (printed es b l g) = (m ∙ ap canonical_text (same_data bytes ds es a b) ∙ sym l, e ∙ sym g)
+
   -- ---- row by row of the table of words
 
   pub one_transcript : (row : Row) (bytes t u : List ℕ) (v w : Verdict) → IsTranscript row bytes t v → IsTranscript row bytes u w → (t ≡ u) × (v ≡ w)
   one_transcript run bytes t u v w a b = run_writes_once [] bytes t u v w a b
   one_transcript (step cs) bytes t u v w a b = run_writes_once cs bytes t u v w a b
   one_transcript (workload n) bytes t u v w a b = workload_writes_once n t u v w a b
+  one_transcript typeset bytes t u v w a b = typeset_writes_once bytes t u v w a b
+  one_transcript format bytes t u v w a b = format_writes_once bytes t u v w a b

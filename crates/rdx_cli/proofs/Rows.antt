@@ -4,10 +4,10 @@ use Rattle.std.specs.Option.{IfSome, IfNone, IsNone}
 use Rattle.std.specs.declared.option.Option.{Option}
 use Rattle.rdx_cli.specs.Ends.{Transcribes}
 use Rattle.rdx_cli.specs.Inside.Rows.{Reads, TakenBy, Writes}
-use Rattle.rdx_cli.specs.Words.{FitsNoRow, run, step, workload}
+use Rattle.rdx_cli.specs.Words.{FitsNoRow, run, step, workload, typeset, format}
 use Rattle.rdx_cli.specs.declared.transcript.Verdict.{Verdict}
 use Rattle.rdx_cli.specs.declared.words.Row.{Row}
-use Rattle.rdx_cli.specs.declared.words.Row.TheVariants.{Run, Step, Workload}
+use Rattle.rdx_cli.specs.declared.words.Row.TheVariants.{Run, Step, Workload, Typeset, Format}
 
 -- words that are a row of the code fit one of the table
 pub some_row : (words : List (List ℕ)) (row : Row) → Reads words row → FitsNoRow words → ⊥
@@ -16,6 +16,8 @@ some_row words (Step choices) r f =
     let numbers = r.1.numbers_are in
     f (step r.1.numbers) (record { words_are = r.0 ∙ ap (λ ws. codes "step" ∷ ws) numbers.words_are; small = numbers.small })
 some_row words (Workload n) r f = f (workload n) r
+some_row words Typeset r f = f typeset r
+some_row words Format r f = f format r
 
 -- so the words fit no row just where none was found
 pub none_fits : (words : List (List ℕ)) (found : Option Row) → IfSome found (λ row. Reads words row) → IfNone found (FitsNoRow words) →
@@ -37,3 +39,5 @@ transcribes words (Step choices) left rest bytes text verdict r t w =
       transcript = w.written;
     }
 transcribes words (Workload n) left rest bytes text verdict r t w = record { row = workload n; bytes = bytes; words_are = r; taken = t; transcript = w }
+transcribes words Typeset left rest bytes text verdict r t w = record { row = typeset; bytes = bytes; words_are = r; taken = t; transcript = w }
+transcribes words Format left rest bytes text verdict r t w = record { row = format; bytes = bytes; words_are = r; taken = t; transcript = w }

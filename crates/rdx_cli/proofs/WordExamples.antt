@@ -2,7 +2,7 @@
 use Rattle.std.proofs.Common.{◌≡◌, ℕ, zero, suc, ◌<◌, ◌≤◌, List, [], ◌∷◌, ◌++◌, get_or, codes, decimal, refl, ap, sym, ◌∙◌, subst, arith}
 use Rattle.std.proofs.lemmas.Fmt.{decimal_digit, decimal_step, decimal_injective, first_decimal}
 use Rattle.rdx_cli.specs.Examples.{StepAlone, MostTests, NoWords, WordsBehindRun, ZeroInFront, NoTests, TooManyTests}
-use Rattle.rdx_cli.specs.Words.{run, step, workload, FitsNoRow}
+use Rattle.rdx_cli.specs.Words.{run, step, workload, typeset, format, FitsNoRow}
 
 -- ---- decimals
 
@@ -32,11 +32,15 @@ pub no_words : NoWords
 no_words run h = absurd cc
 no_words (step cs) h = let e = h.words_are in absurd cc
 no_words (workload n) h = let e = h.words_are in absurd cc
+no_words typeset h = absurd cc
+no_words format h = absurd cc
 
 pub words_behind_run : WordsBehindRun
 words_behind_run run h = absurd cc
 words_behind_run (step cs) h = let e = h.words_are in absurd cc
 words_behind_run (workload n) h = let e = h.words_are in absurd cc
+words_behind_run typeset h = absurd cc
+words_behind_run format h = absurd cc
 
 -- no number is written with a zero in front
 zero_one : (n : ℕ) → n < 1_000_000_000 → decimal n ≡ codes "01" → ⊥
@@ -51,6 +55,8 @@ zero_in_front run h = absurd cc
 zero_in_front (step []) h = let e = h.words_are in absurd cc
 zero_in_front (step (n ∷ cs)) h = let e = h.words_are in let s = h.small.0 in zero_one n s cc
 zero_in_front (workload n) h = let e = h.words_are in absurd cc
+zero_in_front typeset h = absurd cc
+zero_in_front format h = absurd cc
 
 -- `workload` and a number below 1 or above 2,000 are no row
 not_tests : (word : List ℕ) (m : ℕ) → decimal m ≡ word → m < 1_000_000_000 → (1 ≤ m → m ≤ 2000 → ⊥) → FitsNoRow (codes "workload" ∷ word ∷ [])
@@ -63,6 +69,8 @@ not_tests word m d small out (workload n) h =
     let same : decimal m ≡ decimal n = cc in
     let number : m ≡ n = decimal_injective m n (omega arith) (omega arith) same in
     out (omega arith) (omega arith)
+not_tests word m d small out typeset h = absurd cc
+not_tests word m d small out format h = absurd cc
 
 pub no_tests : NoTests
 no_tests = not_tests (codes "0") 0 (decimal_digit 0 (omega arith)) (omega arith) (λ some few. omega arith)

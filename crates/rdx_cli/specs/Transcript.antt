@@ -5,12 +5,16 @@ use Rattle.rdx_sexp.specs.Sexp.{Sexp}
 use Rattle.rdx_sexp.specs.declared.fault.ReadRefusal.{ReadRefusal}
 use Rattle.rdx_patterns.specs.Refusal.{Refusal}
 use Rattle.rdx_query.specs.Writing.{Writes}
-use Rattle.rdx_query.specs.File.{IsFileRefusal}
+use Rattle.rdx_query.specs.File.{IsFile, IsFileRefusal}
+use Rattle.rdx_sexp.specs.Print.{canonical_text}
+use Rattle.rdx_typeset.specs.Forms.{typeset_text}
+use Rattle.rdx_lang.specs.Programs.{Program}
+use Rattle.rdx_answer.specs.Queries.{Query}
 use Rattle.rdx_answer.specs.Workload as file
 use Rattle.rdx_cli.specs.Refusals.{read_line, form_line}
 use Rattle.rdx_cli.specs.declared.transcript.Verdict.{Verdict}
 use Rattle.rdx_cli.specs.declared.transcript.Verdict.TheVariants.{Done, Unmet, Refused}
-use Rattle.rdx_cli.specs.Words.{Row, run, step, workload}
+use Rattle.rdx_cli.specs.Words.{Row, run, step, workload, typeset, format}
 
 -- the file is not too long, and its bytes are these data
 pub record AreData (bytes : List ℕ) (ds : List Sexp) : Type 0 where
@@ -34,6 +38,19 @@ pub data RunWrites (cs bytes text : List ℕ) (verdict : Verdict) : Type 0 where
   refused : (ds : List Sexp) (r : Refusal) → AreData bytes ds → IsFileRefusal ds r → text ≡ form_line r → verdict ≡ Refused → RunWrites cs bytes text verdict
   answered : (ds : List Sexp) (met : Bool) → AreData bytes ds → Writes ds cs text met → verdict ≡ verdict_of met → RunWrites cs bytes text verdict
 
+-- What is written for a file that is typeset. A file that is no data, or has a form that is refused, has the line that a run writes of it. Every other
+-- file has the typeset text of its forms.
+pub data TypesetWrites (bytes text : List ℕ) (verdict : Verdict) : Type 0 where
+  unset : IsUnread bytes text → verdict ≡ Refused → TypesetWrites bytes text verdict
+  not_set : (ds : List Sexp) (r : Refusal) → AreData bytes ds → IsFileRefusal ds r → text ≡ form_line r → verdict ≡ Refused → TypesetWrites bytes text verdict
+  is_set : (ds : List Sexp) (p : Program) (qs : List Query) → AreData bytes ds → IsFile ds p qs → text ≡ typeset_text ds → verdict ≡ Done
+      → TypesetWrites bytes text verdict
+
+-- what is written for a file whose data are printed in canonical text, whatever its forms are
+pub data FormatWrites (bytes text : List ℕ) (verdict : Verdict) : Type 0 where
+  unprinted : IsUnread bytes text → verdict ≡ Refused → FormatWrites bytes text verdict
+  printed : (ds : List Sexp) → AreData bytes ds → text ≡ canonical_text ds → verdict ≡ Done → FormatWrites bytes text verdict
+
 -- no line ends in it but where it ends itself
 abbrev pub is_line : List ℕ → Bool
 is_line [] = true
@@ -56,3 +73,5 @@ abbrev pub IsTranscript : Row → List ℕ → List ℕ → Verdict → Type 0
 IsTranscript run bytes text verdict = RunWrites [] bytes text verdict
 IsTranscript (step cs) bytes text verdict = RunWrites cs bytes text verdict
 IsTranscript (workload n) bytes text verdict = WorkloadWrites n text verdict
+IsTranscript typeset bytes text verdict = TypesetWrites bytes text verdict
+IsTranscript format bytes text verdict = FormatWrites bytes text verdict

@@ -2,11 +2,14 @@
 use Rattle.std.specs.Prelude.{◌≡◌, ◌<◌, ◌≤◌, ℕ, List, [], ◌∷◌, map, codes, decimal, string_bytes, String}
 use Rattle.std.specs.declared.alloc.Global.{Global}
 
--- a row of the table: to run the file that is read; to run it so that walks go by these choices; or to run the workload with so many tests
+-- a row of the table: to run the file that is read; to run it so that walks go by these choices; to run the workload with so many tests; or to
+-- typeset the file that is read, or print its data in canonical text
 pub data Row : Type 0 where
   run : Row
   step : List ℕ → Row
   workload : ℕ → Row
+  typeset : Row
+  format : Row
 
 -- the words as lists of bytes
 abbrev pub texts : List (String Global) → List (List ℕ)
@@ -33,6 +36,8 @@ abbrev pub ReadsAs : List (List ℕ) → Row → Type 0
 ReadsAs words run = words ≡ codes "run" ∷ []
 ReadsAs words (step choices) = ReadsAsStep words choices
 ReadsAs words (workload n) = ReadsAsWorkload words n
+ReadsAs words typeset = words ≡ codes "typeset" ∷ []
+ReadsAs words format = words ≡ codes "fmt" ∷ []
 
 -- no row has these words
 abbrev pub FitsNoRow : List (List ℕ) → Type 0

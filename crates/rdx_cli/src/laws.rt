@@ -22,6 +22,7 @@ pub fn one_transcript()
     rdx_query::laws::one_text();
     rdx_query::laws::one_refusal();
     rdx_query::laws::never_both_text_and_refusal();
+    rdx_query::laws::never_both_accepted_and_refused();
 }
 
 /// Where a source tells what it has left, words ask for one text and one verdict at most, and leave
@@ -39,6 +40,7 @@ pub fn some_transcript()
     ensures { SomeTranscript }
 {
     rdx_sexp::laws::never_neither();
+    rdx_query::laws::never_neither();
     rdx_query::laws::some_text_or_refusal();
 }
 

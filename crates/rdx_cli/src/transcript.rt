@@ -2,7 +2,7 @@
 ghost use Rattle.std.specs.Prelude.{◌≡◌, ◌≤◌, ◌++◌, IfOk, codes, decimal, drop, length};
 ghost use Rattle.rdx_answer.specs.Views.{choices_of};
 ghost use Rattle.rdx_cli.specs.Inside.Rows.{IsFit, Writes};
-ghost use Rattle.rdx_cli.specs.Transcript.{RunWrites, WorkloadWrites, last_line, verdict_of};
+ghost use Rattle.rdx_cli.specs.Transcript.{FormatWrites, RunWrites, TypesetWrites, WorkloadWrites, last_line, verdict_of};
 
 use crate::contents::{Contents, contents_of};
 use crate::refusals::form_line;
@@ -12,6 +12,7 @@ use rdx_delta::HostTable;
 use rdx_patterns::DefFault;
 use rdx_query::{Answered, Mode, answer, check_file, workload_text};
 use rdx_term::NoMemory;
+use rdx_typeset::{canonical, typeset};
 use std::alloc::Global;
 
 /// What became of a file.
@@ -51,6 +52,8 @@ pub fn transcript_of(
             run_transcript(alloc, bytes, host, &mode)
         }
         Row::Workload(tests) => workload_transcript(alloc, *tests, host),
+        Row::Typeset => typeset_transcript(alloc, bytes),
+        Row::Format => format_transcript(alloc, bytes),
     }
 }
 
@@ -71,6 +74,31 @@ fn run_transcript(
         Ok(file) => Ok(answered(answer(alloc, &file, host, mode)?)),
         Err(DefFault::Refused(refusal)) => Ok(refused(form_line(alloc, &refusal)?)),
         Err(DefFault::NoMemory) => Err(NoMemory),
+    }
+}
+
+// The typeset text of a file whose forms are all accepted, or the line that says why it is refused.
+fn typeset_transcript(alloc: Global, bytes: &[u8]) -> Result<Transcript, NoMemory>
+    ensures { IfOk result (λ t. TypesetWrites bytes.now t.text.items t.verdict) }
+{
+    let data = match contents_of(alloc, bytes)? {
+        Contents::Data(data) => data,
+        Contents::Unread(line) => return Ok(refused(line)),
+    };
+    match check_file(alloc, &data) {
+        Ok(_) => Ok(written(typeset(alloc, &data)?)),
+        Err(DefFault::Refused(refusal)) => Ok(refused(form_line(alloc, &refusal)?)),
+        Err(DefFault::NoMemory) => Err(NoMemory),
+    }
+}
+
+// The canonical text of a file that is data, or the line that says why it is none.
+fn format_transcript(alloc: Global, bytes: &[u8]) -> Result<Transcript, NoMemory>
+    ensures { IfOk result (λ t. FormatWrites bytes.now t.text.items t.verdict) }
+{
+    match contents_of(alloc, bytes)? {
+        Contents::Data(data) => Ok(written(canonical(alloc, &data)?)),
+        Contents::Unread(line) => Ok(refused(line)),
     }
 }
 
@@ -122,6 +150,17 @@ fn answered(answers: Answered) -> Transcript
     Transcript {
         text: answers.transcript,
         verdict: verdict_for(answers.met),
+    }
+}
+
+// The transcript that is this text alone.
+fn written(text: Vec<u8>) -> Transcript
+    ensures text { result.text.items ≡ text.items }
+    ensures verdict { result.verdict ≡ Verdict.Done }
+{
+    Transcript {
+        text,
+        verdict: Verdict::Done,
     }
 }
 

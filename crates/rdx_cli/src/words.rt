@@ -16,6 +16,10 @@ pub enum Row<'a> {
     Step(&'a [String]),
     /// To run the workload with so many tests.
     Workload(u32),
+    /// To write the typeset text of the file.
+    Typeset,
+    /// To write the canonical text of its data.
+    Format,
 }
 
 // Whether this word is this number, of nine digits at most.
@@ -87,6 +91,8 @@ fn row_with<'a>(first: &str, others: &'a [String]) -> Option<Row<'a>>
             [word] => Some(Row::Workload(tests_in(word.as_str())?)),
             _ => None,
         },
+        "typeset" if others.is_empty() => Some(Row::Typeset),
+        "fmt" if others.is_empty() => Some(Row::Format),
         _ => None,
     }
 }

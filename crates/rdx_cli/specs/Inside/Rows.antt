@@ -2,11 +2,11 @@
 use Rattle.std.specs.Prelude.{◌≡◌, ◌<◌, ◌≤◌, ℕ, List, [], ◌∷◌, map, codes, decimal}
 use Rattle.std.specs.declared.option.Option.{Option}
 use Rattle.rdx_cli.specs.Reading.{IsRead}
-use Rattle.rdx_cli.specs.Words.{run, workload, AreSmall, ReadsAs, texts}
-use Rattle.rdx_cli.specs.Transcript.{RunWrites, WorkloadWrites}
+use Rattle.rdx_cli.specs.Words.{run, workload, typeset, format, AreSmall, ReadsAs, texts}
+use Rattle.rdx_cli.specs.Transcript.{FormatWrites, RunWrites, TypesetWrites, WorkloadWrites}
 use Rattle.rdx_cli.specs.declared.transcript.Verdict.{Verdict}
 use Rattle.rdx_cli.specs.declared.words.Row.{Row}
-use Rattle.rdx_cli.specs.declared.words.Row.TheVariants.{Run, Step, Workload}
+use Rattle.rdx_cli.specs.declared.words.Row.TheVariants.{Run, Step, Workload, Typeset, Format}
 
 -- ---- words
 
@@ -42,24 +42,32 @@ abbrev pub Reads : List (List ℕ) → Row → Type 0
 Reads words Run = ReadsAs words run
 Reads words (Step choices) = (words ≡ codes "step" ∷ texts choices.now) × AreSomeNumbers (texts choices.now)
 Reads words (Workload n) = ReadsAs words (workload n)
+Reads words Typeset = ReadsAs words typeset
+Reads words Format = ReadsAs words format
 
 -- what the row carries is what the table asks for
 abbrev pub IsFit : Row → Type 0
 IsFit Run = Unit {0}
 IsFit (Step choices) = AreSomeNumbers (texts choices.now)
 IsFit (Workload n) = (1 ≤ n) × (n ≤ 2000)
+IsFit Typeset = Unit {0}
+IsFit Format = Unit {0}
 
 -- it is that of the workload
 abbrev pub IsWorkload : Row → Type 0
 IsWorkload Run = ⊥
 IsWorkload (Step choices) = ⊥
 IsWorkload (Workload n) = Unit {0}
+IsWorkload Typeset = ⊥
+IsWorkload Format = ⊥
 
 -- the bytes are those that the row asks the source for
 abbrev pub TakenBy : Row → Option (List ℕ) → Option (List ℕ) → List ℕ → Type 0
 TakenBy Run left rest bytes = IsRead left rest bytes
 TakenBy (Step choices) left rest bytes = IsRead left rest bytes
 TakenBy (Workload n) left rest bytes = (rest ≡ left) × (bytes ≡ [])
+TakenBy Typeset left rest bytes = IsRead left rest bytes
+TakenBy Format left rest bytes = IsRead left rest bytes
 
 -- what is written for a file where walks go by the choices that these words are
 pub record StepWrites (words : List (List ℕ)) (bytes text : List ℕ) (verdict : Verdict) : Type 0 where
@@ -72,3 +80,5 @@ abbrev pub Writes : Row → List ℕ → List ℕ → Verdict → Type 0
 Writes Run bytes text verdict = RunWrites [] bytes text verdict
 Writes (Step choices) bytes text verdict = StepWrites (texts choices.now) bytes text verdict
 Writes (Workload n) bytes text verdict = WorkloadWrites n text verdict
+Writes Typeset bytes text verdict = TypesetWrites bytes text verdict
+Writes Format bytes text verdict = FormatWrites bytes text verdict
