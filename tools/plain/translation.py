@@ -204,6 +204,12 @@ class Translation:
                 self.write(PRELUDE)
             elif is_top and text == "fn" and self.ahead(1) == "main" and self.ahead(3) != ")":
                 self.main()
+            elif text == "fmt" and self.behind() == "fn" and self.ahead(1) == "<":
+                self.copy()
+                self.skip_parameter()
+            elif text == "Formatter" and self.ahead(1) == "<":
+                self.copy()
+                self.skip_parameter()
             elif kind == "word":
                 self.word()
             else:
@@ -251,6 +257,11 @@ class Translation:
             if self.written[at][0] != "space":
                 del self.written[at]
                 count -= 1
+
+    def skip_parameter(self):
+        """Leaves out what stands between `<` and `>`, in which no other stands: the sink of `fmt`, which Rust's has none of."""
+        while self.skip() != ">":
+            pass
 
     def word(self):
         text, before, after = self.ahead(), self.behind(), self.ahead(1)
