@@ -1,0 +1,8 @@
+use Rattle.rdx_gen.proofs.Reaching as reaching
+use Rattle.rdx_gen.proofs.laws.reached_exactly.Goals as goal
+
+pub returns-clause-exactly : goal.returns-clause-exactly
+returns-clause-exactly c = reaching.reached_exactly
+
+pub returns-clause-none_repeated : goal.returns-clause-none_repeated
+returns-clause-none_repeated c = reaching.none_repeated

@@ -1,0 +1,15 @@
+pub mod Slots
+pub mod Scopes
+pub mod Frames
+pub mod Weights
+pub mod Atoms
+pub mod Picks
+pub mod Spots
+pub mod Index
+pub mod Places
+pub mod Waiting
+pub mod Refs
+pub mod SameSlots
+pub mod Answering
+pub mod Groups
+pub mod Symbols
