@@ -8,6 +8,7 @@ pub mod LeastAlike
 pub mod AppendedComparison
 pub mod Compared
 pub mod Trying
+pub mod Attempting
 pub mod OverHosts
 pub mod MetPremises
 pub mod RuleNames

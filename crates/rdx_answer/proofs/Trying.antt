@@ -12,7 +12,7 @@ use Rattle.rdx_answer.specs.AnswerText.{fault_line}
 use Rattle.rdx_answer.specs.Answering.{IsAnswer, IsValueAnswer, HostValue, Over, over_value, OverEach}
 use Rattle.rdx_answer.specs.Inside.Appending.{Tries, host_in, IsAnswerOver}
 use Rattle.rdx_answer.specs.MatchAnswers.{IsMatchesAnswer, IsWhetherAnswer, IsSplitsAnswer}
-use Rattle.rdx_answer.specs.Queries.{Query, matches, whether, splits, value as itself, holds, reducts, tagged, stepper, test_equal, test_step, test_run, test_match, test_holds, test_results}
+use Rattle.rdx_answer.specs.Queries.{Query, matches, whether, splits, value as itself, holds, reducts, tagged, stepper, generate, check, test_equal, test_step, test_run, test_match, test_holds, test_results}
 use Rattle.rdx_answer.specs.StepAnswers.{IsReductsAnswer, IsTaggedAnswer}
 use Rattle.rdx_answer.specs.StepperAnswers.{IsStepperAnswer}
 use Rattle.rdx_answer.specs.TestAnswers.{IsStepTestAnswer, IsRunTestAnswer, IsMatchTestAnswer}
@@ -58,6 +58,8 @@ module _ (P : Program) (cs : List ℕ) (c : Counts) where
   answer_over (reducts name k) h text met e a = subst (λ (i : Host). Over P i (IsReductsAnswer P name) text met) (same_host k h e) a
   answer_over (tagged name k) h text met e a = subst (λ (i : Host). Over P i (IsTaggedAnswer P name) text met) (same_host k h e) a
   answer_over (stepper name k) h text met e a = subst (λ (i : Host). Over P i (IsStepperAnswer P name cs) text met) (same_host k h e) a
+  answer_over (generate name p size seed) h text met e a = absurd cc
+  answer_over (check name p k attempts seed) h text met e a = absurd cc
   answer_over (test_equal k l) h text met e a =
       subst (λ (i : Host). Over P i (λ t. Over P l (λ u. Compares (t ∷ []) (u ∷ []))) text met) (same_host k h e) a
   answer_over (test_step name k ls) h text met e a =

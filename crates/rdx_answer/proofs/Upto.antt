@@ -6,7 +6,7 @@ use Rattle.rdx_lang.specs.Programs.{Program}
 use Rattle.rdx_answer.specs.Answering.{AreAnswers, no_answers, more_answers, counts_behind}
 use Rattle.rdx_answer.specs.Inside.Appending.{AppendsAnswer}
 use Rattle.rdx_answer.specs.Queries as model
-use Rattle.rdx_answer.specs.Queries.{NamesKnown, matches, whether, splits, value, holds, reducts, tagged, stepper, test_equal, test_step, test_run, test_match, test_holds, test_results}
+use Rattle.rdx_answer.specs.Queries.{NamesKnown, matches, whether, splits, value, holds, reducts, tagged, stepper, generate, check, test_equal, test_step, test_run, test_match, test_holds, test_results}
 use Rattle.rdx_answer.specs.Tests.{Counts, no_tests, one_more}
 use Rattle.rdx_answer.specs.Views.{AllNamesKnown, query_of}
 use Rattle.rdx_answer.specs.declared.queries.Query.{Query}
@@ -32,6 +32,8 @@ total-behind (holds q t) m c = omega arith
 total-behind (reducts name h) m c = omega arith
 total-behind (tagged name h) m c = omega arith
 total-behind (stepper name h) m c = omega arith
+total-behind (generate name p size seed) m c = omega arith
+total-behind (check name p h attempts seed) m c = omega arith
 total-behind (test_equal h k) m c = total-more m c
 total-behind (test_step name h ks) m c = total-more m c
 total-behind (test_run name h ks) m c = total-more m c

@@ -1,5 +1,6 @@
 -- What only clauses inside the crate cite.
 pub mod Appending
+pub mod Attempting
 pub mod Counting
 pub mod Comparing
 pub mod Contexts

@@ -4,6 +4,7 @@ pub mod MatchAnswers
 pub mod HoldsAnswers
 pub mod StepAnswers
 pub mod StepperAnswers
+pub mod GenerateAnswers
 pub mod Tests
 pub mod TestAnswers
 pub mod Answering

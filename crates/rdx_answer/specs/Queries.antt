@@ -17,6 +17,10 @@ pub data Query : Type 0 where
   reducts : List ℕ → Host → Query
   tagged : List ℕ → Host → Query
   stepper : List ℕ → Host → Query
+  -- in the language of a name, a term generated of the pattern with a size, from the words of a seed; or whether a host expression makes #f for a
+  -- binding by which the pattern matches one of so many generated terms, from the words of a seed
+  generate : List ℕ → Pattern → ℕ → ℕ → Query
+  check : List ℕ → Pattern → Host → ℕ → ℕ → Query
   -- a test: that two host expressions make the same; that the relation of a name leads from what one makes to what the others make, in one step, or
   -- where the run from it ends; that a pattern matches what one makes, or that it does not; or that a premise is met
   test_equal : Host → Host → Query
@@ -49,6 +53,8 @@ NamesKnown P (holds q t) = KnowsJudgement P q.judgement
 NamesKnown P (reducts name h) = KnowsRelation P name
 NamesKnown P (tagged name h) = KnowsRelation P name
 NamesKnown P (stepper name h) = KnowsRelation P name
+NamesKnown P (generate name p size seed) = IsSome (language_named P name)
+NamesKnown P (check name p h attempts seed) = IsSome (language_named P name)
 NamesKnown P (test_equal h k) = Unit {0}
 NamesKnown P (test_step name h ks) = KnowsRelation P name
 NamesKnown P (test_run name h ks) = KnowsRelation P name

@@ -9,7 +9,7 @@ use Rattle.rdx_answer.specs.declared.answers.Mode.{Mode}
 use Rattle.rdx_answer.specs.declared.answers.Mode.TheVariants.{Run, Step}
 use Rattle.rdx_answer.specs.declared.queries.CheckedFile.{CheckedFile}
 use Rattle.rdx_answer.specs.declared.queries.Query.{Query}
-use Rattle.rdx_answer.specs.declared.queries.Query.TheVariants.{Match, Whether, Decompose, Value, Holds, Reducts, Tagged, Stepper, TestEqual, TestStep, TestRun, TestMatch, TestHolds, TestResults}
+use Rattle.rdx_answer.specs.declared.queries.Query.TheVariants.{Match, Whether, Decompose, Value, Holds, Reducts, Tagged, Stepper, Generate, Check, TestEqual, TestStep, TestRun, TestMatch, TestHolds, TestResults}
 
 -- what a query of the code asks
 abbrev pub query_of : Query → model.Query
@@ -21,6 +21,8 @@ query_of (Holds q t) = model.holds (premise_of q) (option_map template_of t)
 query_of (Reducts name h) = model.reducts name (host_of h)
 query_of (Tagged name h) = model.tagged name (host_of h)
 query_of (Stepper name h) = model.stepper name (host_of h)
+query_of (Generate name p size seed) = model.generate name (pattern_in p) size seed
+query_of (Check name p h attempts seed) = model.check name (pattern_in p) (host_of h) attempts seed
 query_of (TestEqual h k) = model.test_equal (host_of h) (host_of k)
 query_of (TestStep name h ks) = model.test_step name (host_of h) (map host_of ks.items)
 query_of (TestRun name h ks) = model.test_run name (host_of h) (map host_of ks.items)

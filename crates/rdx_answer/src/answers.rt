@@ -13,6 +13,7 @@ ghost use Rattle.rdx_term.specs.View.{tree_of};
 
 use crate::comparing::write_equality;
 use crate::counting::{Counts, counts_behind, no_counts, write_results};
+use crate::generate_answers::{answer_check, answer_generate};
 use crate::holds_answers::{answer_holds, answer_holds_test};
 use crate::match_answers::{answer_match_test, answer_matches, answer_splits, answer_whether};
 use crate::step_answers::{answer_reducts, answer_steps};
@@ -132,6 +133,12 @@ fn try_answer(
             write_results(counts, out)?;
             Ok(true)
         }
+        Query::Generate(name, pat, size, seed) => {
+            Ok(answer_generate(alloc, engine, name, pat, *size, *seed, out)?)
+        }
+        Query::Check(name, pat, host, attempts, seed) => {
+            answer_check(alloc, engine, name, pat, host, *attempts, *seed, out)
+        }
         Query::Match(_, _, host)
         | Query::Whether(_, _, host)
         | Query::Decompose(_, _, host)
@@ -208,6 +215,10 @@ fn try_answer_over(
         Query::TestMatch(name, pat, _, wanted) => {
             Ok(answer_match_test(alloc, engine, name, pat, *wanted, t, out)?)
         }
-        Query::Holds(_, _) | Query::TestHolds(_) | Query::TestResults => unreachable!(),
+        Query::Holds(_, _)
+        | Query::Generate(_, _, _, _)
+        | Query::Check(_, _, _, _, _)
+        | Query::TestHolds(_)
+        | Query::TestResults => unreachable!(),
     }
 }

@@ -58,7 +58,9 @@ pub(crate) fn counts_behind(query: &Query, is_met: bool, counts: Counts) -> Coun
         | Query::Holds(_, _)
         | Query::Reducts(_, _)
         | Query::Tagged(_, _)
-        | Query::Stepper(_, _) => counts,
+        | Query::Stepper(_, _)
+        | Query::Generate(_, _, _, _)
+        | Query::Check(_, _, _, _, _) => counts,
         Query::TestEqual(_, _)
         | Query::TestStep(_, _, _)
         | Query::TestRun(_, _, _)

@@ -10,6 +10,7 @@
 mod answers;
 mod comparing;
 mod counting;
+mod generate_answers;
 mod holds_answers;
 pub mod laws;
 mod match_answers;

@@ -18,8 +18,11 @@ use rdx_table::Table;
 use rdx_term::{Name, NoMemory, Term};
 use std::alloc::Global;
 
-// The language of this name.
-fn language<'a>(engine: &mut Engine<'a, Table>, name: &Name) -> Result<&'a CheckedLang, NoMemory>
+/// The language of this name.
+pub(crate) fn language<'a>(
+    engine: &mut Engine<'a, Table>,
+    name: &Name,
+) -> Result<&'a CheckedLang, NoMemory>
     requires { IsSome (language_named (program_of (engines.program_in engine.old).now) name.now) }
     ensures found { IfOk result (λ l.
         language_named (program_of (engines.program_in engine.old).now) name.now

@@ -21,6 +21,12 @@ pub enum Query {
     Tagged(Name, HostExpr),
     /// The terms at which one comes from the term by the choices with which the file is run.
     Stepper(Name, HostExpr),
+    /// A term generated of the pattern with this size, in the language of this name, from the words of
+    /// the seed.
+    Generate(Name, CheckedPat, u32, u64),
+    /// Whether the host expression makes `#f` for a binding by which the pattern matches one of so many
+    /// terms generated of it, in the language of this name, from the words of the seed.
+    Check(Name, CheckedPat, HostExpr, u32, u64),
     /// A test that two host expressions make the same, marks forgotten.
     TestEqual(HostExpr, HostExpr),
     /// A test that the terms to which the relation of this name leads from the term are those that

@@ -12,8 +12,11 @@ ghost use Rattle.rdx_lang.specs.Shown.{binding_of, bindings_of, decomposition_of
 ghost use Rattle.rdx_eval.specs.Answers.{ambiguous, lengths_differ, not_context, spent};
 ghost use Rattle.rdx_eval.specs.Judgements as judging;
 ghost use Rattle.rdx_eval.specs.Views.{fault_of};
+ghost use Rattle.rdx_gen.specs.Generated.{bad_name, generated};
 ghost use Rattle.rdx_reduce.specs.StepView.{step_of};
 ghost use Rattle.rdx_answer.specs.AnswerText as text;
+ghost use Rattle.rdx_answer.specs.GenerateAnswers.{failed_lines, generated_text, passed_line};
+ghost use Rattle.rdx_answer.specs.Inside.Attempting.{Faults};
 ghost use Rattle.rdx_answer.specs.Inside.Contexts.{HaveContexts};
 ghost use Rattle.rdx_answer.specs.StepAnswers as steps;
 ghost use Rattle.rdx_answer.specs.Tests as tests;
@@ -22,6 +25,7 @@ use itoa::Buffer;
 use rdx_delta::operation_text;
 use rdx_eval::Fault;
 use rdx_fill::path_of;
+use rdx_gen::GenFault;
 use rdx_lang::{Binding, Rule, Split, Value};
 use rdx_reduce::Step;
 use rdx_term::printing::{print_bytes, print_string};
@@ -246,6 +250,72 @@ pub(crate) fn write_value_line(term: &Term, out: &mut Vec<u8>) -> Result<(), NoM
     text_of(term, out)?;
     out.push(b'\n')?;
     Ok(())
+}
+
+/// The term that was generated.
+pub(crate) fn write_generated(term: &Term, out: &mut Vec<u8>) -> Result<(), NoMemory>
+    ensures { OnOk result (out.new.items ≡ out.old.items
+        ++ generated_text (generated (tree_of term.now))) }
+{
+    out.extend_from_slice(b"generated ")?;
+    text_of(term, out)?;
+    out.push(b'\n')?;
+    Ok(())
+}
+
+/// That so many attempts passed.
+pub(crate) fn write_passed(attempts: usize, out: &mut Vec<u8>) -> Result<(), NoMemory>
+    ensures { OnOk result (out.new.items ≡ out.old.items ++ passed_line attempts) }
+{
+    out.extend_from_slice(b"check passed ")?;
+    write_number(attempts, out)?;
+    out.push(b'\n')?;
+    Ok(())
+}
+
+/// At which attempt a counterexample was found, the term, and the binding.
+pub(crate) fn write_counterexample(
+    alloc: Global,
+    attempt: usize,
+    term: &Term,
+    binding: &Binding,
+    out: &mut Vec<u8>,
+) -> Result<(), NoMemory>
+    ensures { OnOk result (out.new.items ≡ out.old.items
+        ++ failed_lines attempt (tree_of term.now) (binding_of binding.now)) }
+{
+    out.extend_from_slice(b"check failed ")?;
+    write_number(attempt, out)?;
+    out.push(b' ')?;
+    text_of(term, out)?;
+    out.extend_from_slice(b"\n  ")?;
+    write_binding(alloc, binding, out)?;
+    out.push(b'\n')?;
+    Ok(())
+}
+
+// The name that breaks a rule of generation.
+fn write_bad_name(name: &Name, out: &mut Vec<u8>) -> Result<(), NoMemory>
+    ensures { OnOk result (out.new.items ≡ out.old.items ++ generated_text (bad_name name.now)) }
+{
+    out.extend_from_slice(b"fault GenName ")?;
+    out.extend_from_slice(name.text().as_bytes())?;
+    out.push(b'\n')?;
+    Ok(())
+}
+
+/// Why no term was generated.
+pub(crate) fn write_generation_fault(fault: &GenFault, out: &mut Vec<u8>) -> Result<(), NoMemory>
+    ensures { OnOk result
+        (Faults (λ a. out.new.items ≡ out.old.items ++ generated_text a) fault.now) }
+{
+    match fault {
+        GenFault::GenName(name) => write_bad_name(name, out),
+        GenFault::Barren => print_bytes(b"fault Barren\n", out),
+        GenFault::TooDeep => print_bytes(b"fault TooDeep\n", out),
+        GenFault::TooLarge => print_bytes(b"fault TooLarge\n", out),
+        GenFault::NoMemory => Err(NoMemory),
+    }
 }
 
 // A line for each term.

@@ -103,7 +103,7 @@ first-number n m (Some q) p h k f r e =
     omega (arith, h, i)
 
 -- the first refusal has no lesser number than the first check
-refused-number : (n : ℕ) (cs : Checks) → AreChecks n cs → IsFrom n (refused cs)
+pub refused-number : (n : ℕ) (cs : Checks) → AreChecks n cs → IsFrom n (refused cs)
 refused-number n [] k r e = absurd cc
 refused-number n (c ∷ cs) k r e = first-number n c.0 c.1 (refused cs) k.0 k.1.0 (refused-number c.0 cs k.1.1) r e
 

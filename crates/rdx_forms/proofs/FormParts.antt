@@ -8,6 +8,8 @@ use Rattle.rdx_patterns.specs.Readable.{IsReadable}
 use Rattle.rdx_patterns.specs.Refusal.{unnamed}
 use Rattle.rdx_patterns.specs.Unbuilt.{has_word_to_come, have_word_to_come, unbuilt_at}
 use Rattle.rdx_patterns.specs.declared.shape.fault.DefKind.TheVariants.{Unbuilt}
+use Rattle.rdx_forms.specs.GenerateForms.{GenerateParts, check_parts, generate_among, generate_parts, in_pairs, is_integer, with_size}
+use Rattle.rdx_forms.specs.Options.{are_pairs}
 use Rattle.rdx_forms.specs.MatchForms.{QueryParts, query_among, query_parts}
 use Rattle.rdx_forms.specs.DefineParts.{DefineKind, DefineParts, ClosureParts, kind_among, define_by, define_among, define_parts, closure_among, closure_parts}
 use Rattle.rdx_forms.specs.StepForms.{StepParts, steps_among, step_parts}
@@ -78,6 +80,37 @@ items_of-query (Some (h ∷ l ∷ p ∷ t ∷ x ∷ xs)) q e = absurd cc
 
 pub query-items : (d : Sexp) (q : QueryParts) → query_parts d ≡ Some q → QueryItems (parts d) q
 query-items d q e = items_of-query (parts d) q e
+
+-- the items of a form that generates a term or checks a property
+pub record GenerateItems (o : Option (List Sexp)) (q : GenerateParts) : Type 0 where
+  pub head : Sexp
+  pub are : o ≡ Some (head ∷ q.language ∷ q.pattern ∷ q.third ∷ q.options)
+
+items_of-generate : (o : Option (List Sexp)) (q : GenerateParts) → in_pairs (generate_among o) ≡ Some q → GenerateItems o q
+items_of-generate None q e = absurd cc
+items_of-generate (Some []) q e = absurd cc
+items_of-generate (Some (h ∷ [])) q e = absurd cc
+items_of-generate (Some (h ∷ l ∷ [])) q e = absurd cc
+items_of-generate (Some (h ∷ l ∷ p ∷ [])) q e = absurd cc
+items_of-generate (Some (h ∷ l ∷ p ∷ t ∷ os)) q e =
+    passed-by (GenerateItems (Some (h ∷ l ∷ p ∷ t ∷ os))) (is_symbol l && are_pairs os) (record { language = l; pattern = p; third = t; options = os }) q
+    (record { head = h; are = refl }) e
+
+-- of one that checks a property
+pub check-items : (d : Sexp) (q : GenerateParts) → check_parts d ≡ Some q → GenerateItems (parts d) q
+check-items d q e = items_of-generate (parts d) q e
+
+-- of one that generates a term
+pub generate-items : (d : Sexp) (q : GenerateParts) → generate_parts d ≡ Some q → GenerateItems (parts d) q
+generate-items d q e = check-items d q (sized (check_parts d) q e)
+  where
+    by_test : (b : Bool) (p q : GenerateParts) → (if b then Some p else None) ≡ Some q → Some p ≡ Some q
+    by_test true p q e = e
+    by_test false p q e = absurd cc
+
+    sized : (o : Option GenerateParts) (q : GenerateParts) → with_size o ≡ Some q → o ≡ Some q
+    sized None q e = absurd cc
+    sized (Some p) q e = by_test (is_integer p.third) p q e
 
 -- the three items of a form that asks for steps
 pub record StepItems (o : Option (List Sexp)) (q : StepParts) : Type 0 where

@@ -22,7 +22,7 @@ use Rattle.rdx_patterns.specs.declared.shape.fault.DefFault.{DefFault}
 use Rattle.rdx_forms.specs.DefineParts.{DefineParts, define_parts}
 use Rattle.rdx_forms.specs.Ends.{define_ends, form_ends}
 use Rattle.rdx_forms.specs.Fitting.{IsCrossedTo, AreCrossed}
-use Rattle.rdx_answer.proofs.Contexts.{member_at}
+use Rattle.rdx_lang.proofs.FactLaws.{member-at}
 use Rattle.rdx_forms.proofs.FormParts.{define-items}
 
 -- ---- a language
@@ -65,7 +65,7 @@ pub gained-at : {A : Type 0} (ls : List CheckedLang) (i : ℕ) (x y : CheckedLan
     → AreCrossed (map language_in ls) zs → AreAmong ys zs → Gained (language_in x) ys r (language_in y) → language_in y ≡ language_in (get_or ls i x)
 gained-at ls i x y ys zs r h e c a g =
     gained-same (language_in x) (language_in y) ys r
-    (crossed-same (language_in x) ys zs (λ z j. c (language_in x) (member_at language_in ls i x h e) z j) a) g
+    (crossed-same (language_in x) ys zs (λ z j. c (language_in x) (member-at language_in ls i x h e) z j) a) g
     ∙ ap language_in e
 
 -- ---- the parts of a form

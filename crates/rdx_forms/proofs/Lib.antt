@@ -20,3 +20,5 @@ pub mod StepChecks
 pub mod Replaced
 pub mod GainingNothing
 pub mod EndsAsked
+pub mod OptionFaults
+pub mod GenerateChecks

@@ -22,7 +22,10 @@ use Rattle.rdx_lang.specs.declared.program.Premise as code_premise
 use Rattle.rdx_defs.specs.declared.judgements.premises.ReadPremise.{ReadPremise}
 use Rattle.rdx_forms.specs.HoldsForms.{holds_parts, lone_parts, holds_refusal, holds_query, holds_test_query}
 use Rattle.rdx_forms.specs.MatchForms.{query_parts, query_refusal, match_query}
-use Rattle.rdx_answer.specs.Queries.{Query, holds, test_equal, test_holds}
+use Rattle.rdx_forms.specs.GenerateForms.{generate_parts, check_parts, generate_refusal, check_refusal, generate_query, check_query}
+use Rattle.rdx_forms.specs.declared.generate_forms.Generating.{Generating}
+use Rattle.rdx_forms.specs.declared.generate_forms.Checking.{Checking}
+use Rattle.rdx_answer.specs.Queries.{Query, generate, check, holds, test_equal, test_holds}
 use Rattle.rdx_forms.specs.StepForms.{step_parts, steps_refusal, steps_query}
 use Rattle.rdx_forms.specs.TestForms.{equal_parts, leading_parts, equal_refusal, leading_refusal, equal_query, leading_query}
 use Rattle.rdx_forms.specs.declared.match_forms.Asked.{Asked}
@@ -68,6 +71,26 @@ pub record IsAsked (K : Known) (d : Sexp) (name : List ℕ) (p : Pattern) (h : H
 abbrev pub AsksBy : Known → Sexp → Result Asked DefFault → Type 0
 AsksBy K d (Ok a) = IsAsked K d a.name (pattern_in a.pat) (host_of a.host)
 AsksBy K d (Err e) = IsFaultAt (query_refusal K d (query_parts d)) e
+
+-- the form is accepted, and asks for a term of the pattern p with this size, in the language of this name, from the words of this seed
+pub record IsGenerating (K : Known) (d : Sexp) (name : List ℕ) (p : Pattern) (size seed : ℕ) : Type 0 where
+  pub passes : generate_refusal K d (generate_parts d) ≡ None
+  pub means : generate_query K d ≡ Some (generate name p size seed)
+
+-- the answer to the form
+abbrev pub GenerateAskedBy : Known → Sexp → Result Generating DefFault → Type 0
+GenerateAskedBy K d (Ok a) = IsGenerating K d a.name (pattern_in a.pat) a.size a.seed
+GenerateAskedBy K d (Err e) = IsFaultAt (generate_refusal K d (generate_parts d)) e
+
+-- the form is accepted, and asks whether h makes #f for one of so many terms
+pub record IsChecking (K : Known) (d : Sexp) (name : List ℕ) (p : Pattern) (h : Host) (attempts seed : ℕ) : Type 0 where
+  pub passes : check_refusal K d (check_parts d) ≡ None
+  pub means : check_query K d ≡ Some (check name p h attempts seed)
+
+-- the answer to the form
+abbrev pub CheckAskedBy : Known → Sexp → Result Checking DefFault → Type 0
+CheckAskedBy K d (Ok a) = IsChecking K d a.name (pattern_in a.pat) (host_of a.host) a.attempts a.seed
+CheckAskedBy K d (Err e) = IsFaultAt (check_refusal K d (check_parts d)) e
 
 -- the form is accepted, and asks for steps of the relation of this name from what h makes
 pub record IsStepping (K : Known) (d : Sexp) (name : List ℕ) (h : Host) : Type 0 where

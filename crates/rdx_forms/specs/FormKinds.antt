@@ -13,7 +13,8 @@ pub data DefinitionKind : Type 0 where
 
 -- what a form asks: the bindings by which a pattern matches a term, whether there are some, or what the pattern splits the term into; what a
 -- host expression makes; whether a premise is met, or what a template makes of the bindings that meet it; the terms to which a relation leads from
--- a term, the steps with the names of their rules, or a walk of them; and the kinds of tests, with how many of them passed and failed
+-- a term, the steps with the names of their rules, or a walk of them; a term generated of a pattern, or whether a host expression makes #f for one of
+-- many; and the kinds of tests, with how many of them passed and failed
 pub data QueryKind : Type 0 where
   matches : QueryKind
   whether : QueryKind
@@ -23,6 +24,8 @@ pub data QueryKind : Type 0 where
   reducts : QueryKind
   tagged : QueryKind
   stepper : QueryKind
+  generate : QueryKind
+  check : QueryKind
   test_equal : QueryKind
   test_step : QueryKind
   test_run : QueryKind
@@ -59,6 +62,8 @@ heads =
     ∷ (codes "apply-reduction-relation", asks reducts)
     ∷ (codes "apply-reduction-relation/tag-with-names", asks tagged)
     ∷ (codes "stepper", asks stepper)
+    ∷ (codes "generate-term", asks generate)
+    ∷ (codes "redex-check", asks check)
     ∷ (codes "test-equal", asks test_equal)
     ∷ (codes "test-->", asks test_step)
     ∷ (codes "test-->>", asks test_run)
@@ -68,8 +73,6 @@ heads =
     ∷ (codes "test-results", asks test_results)
     ∷ (codes "require", passes wants)
     ∷ (codes "provide", passes offers)
-    ∷ (codes "generate-term", to_come)
-    ∷ (codes "redex-check", to_come)
     ∷ (codes "alpha-equivalent?", to_come)
     ∷ (codes "substitute", to_come)
     ∷ []

@@ -10,6 +10,7 @@ use Rattle.rdx_forms.specs.DefineForms.{define_refusal, defined_relation}
 use Rattle.rdx_forms.specs.FormKinds as kind
 use Rattle.rdx_forms.specs.FormKinds.{DefinitionKind, QueryKind, PassedKind, FormKind, defines, asks, passes, to_come, form_kind}
 use Rattle.rdx_forms.specs.Known.{Known}
+use Rattle.rdx_forms.specs.GenerateForms.{generate_parts, check_parts, generate_refusal, check_refusal, generate_query, check_query}
 use Rattle.rdx_forms.specs.HoldsForms.{holds_parts, lone_parts, holds_refusal, holds_query, holds_test_query}
 use Rattle.rdx_forms.specs.HostForms.{value_refusal, value_query}
 use Rattle.rdx_forms.specs.JudgementForms.{define_judgement_refusal, defined_judgement}
@@ -59,6 +60,8 @@ question_refusal K d kind.holds = holds_refusal K d (holds_parts d)
 question_refusal K d kind.reducts = steps_refusal K d (step_parts d)
 question_refusal K d kind.tagged = steps_refusal K d (step_parts d)
 question_refusal K d kind.stepper = steps_refusal K d (step_parts d)
+question_refusal K d kind.generate = generate_refusal K d (generate_parts d)
+question_refusal K d kind.check = check_refusal K d (check_parts d)
 question_refusal K d kind.test_equal = equal_refusal K d (equal_parts d)
 question_refusal K d kind.test_step = leading_refusal K d (leading_parts d)
 question_refusal K d kind.test_run = leading_refusal K d (leading_parts d)
@@ -77,6 +80,8 @@ asked_query K d kind.holds = holds_query K d
 asked_query K d kind.reducts = steps_query K reducts d
 asked_query K d kind.tagged = steps_query K tagged d
 asked_query K d kind.stepper = steps_query K stepper d
+asked_query K d kind.generate = generate_query K d
+asked_query K d kind.check = check_query K d
 asked_query K d kind.test_equal = equal_query K d
 asked_query K d kind.test_step = leading_query K test_step d
 asked_query K d kind.test_run = leading_query K test_run d

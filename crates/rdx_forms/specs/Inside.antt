@@ -5,3 +5,5 @@ pub mod Defining
 pub mod Asking
 pub mod Passing
 pub mod Closing
+pub mod OptionViews
+pub mod Generating

@@ -8,6 +8,8 @@ pub mod LanguageForms
 pub mod HostForms
 pub mod MatchForms
 pub mod HoldsForms
+pub mod Options
+pub mod GenerateForms
 pub mod StepForms
 pub mod TestForms
 pub mod RelationForms

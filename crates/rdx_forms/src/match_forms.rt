@@ -52,8 +52,8 @@ fn check_shape(form: &Datum) -> Result<QueryParts<'_>, DefFault>
     Ok(parts)
 }
 
-// The pattern of a datum over the language at this place.
-fn read_over(
+/// The pattern of a datum over the language at this place.
+pub(crate) fn read_over(
     alloc: Global,
     known: &mut Known,
     place: usize,

@@ -1,8 +1,9 @@
 // The parts of data and of forms.
 ghost use Rattle.std.specs.Prelude.{◌≡◌, [], option_map};
 ghost use Rattle.rdx_patterns.specs.Parts.{parts};
+ghost use Rattle.rdx_forms.specs.GenerateForms.{generate_among};
 ghost use Rattle.rdx_forms.specs.HoldsForms.{holds_parts, lone_parts};
-ghost use Rattle.rdx_forms.specs.Inside.PartViews.{closure_of, define_kind_of, defining_by, defining_of, defining_with, holds_of, judgement_head, parts_of, second_item, language_item, equals_of, leading_of, steps_of};
+ghost use Rattle.rdx_forms.specs.Inside.PartViews.{closure_of, define_kind_of, defining_by, defining_of, defining_with, generate_of, holds_of, judgement_head, parts_of, second_item, language_item, equals_of, leading_of, steps_of};
 ghost use Rattle.rdx_forms.specs.LanguageForms.{base_name};
 ghost use Rattle.rdx_forms.specs.MatchForms.{query_parts};
 ghost use Rattle.rdx_forms.specs.DefineParts.{closure_among, closure_parts, define_named, define_parts, kind_among, kind_by_word};
@@ -18,6 +19,15 @@ pub(crate) struct QueryParts<'a> {
     pub(crate) language: &'a Datum,
     pub(crate) pattern: &'a Datum,
     pub(crate) host: &'a Datum,
+}
+
+/// The name of a language, a pattern, a size or a host expression, and the options behind them.
+#[derive(Clone, Copy)]
+pub(crate) struct GenerateParts<'a> {
+    pub(crate) language: &'a Datum,
+    pub(crate) pattern: &'a Datum,
+    pub(crate) third: &'a Datum,
+    pub(crate) options: &'a [Datum],
 }
 
 /// The name of a relation, and the host expression that gives the term.
@@ -105,6 +115,21 @@ pub(crate) fn base_name(d: &Datum) -> Option<&Datum>
 {
     match items(d)? {
         [_, _, name, ..] => Some(name),
+        _ => None,
+    }
+}
+
+/// The parts of a form that generates a term or checks a property.
+pub(crate) fn generate_parts(d: &Datum) -> Option<GenerateParts<'_>>
+    ensures { option_map generate_of result ≡ generate_among (parts d.now) }
+{
+    match items(d)? {
+        [_, language, pattern, third, options @ ..] => Some(GenerateParts {
+            language,
+            pattern,
+            third,
+            options,
+        }),
         _ => None,
     }
 }

@@ -42,6 +42,7 @@ use Rattle.rdx_forms.specs.Forms.{form_refusal, late_refusal, form_definition, r
 use Rattle.rdx_forms.specs.HoldsForms.{HoldsParts, holds_parts, lone_parts, asked_names, asked_premise, holds_refusal, holds_refusal_over, holds_by, holds_over, holds_test_by}
 use Rattle.rdx_forms.specs.HostForms.{host_of_datum, value_query}
 use Rattle.rdx_forms.specs.JudgementForms.{form_names, judgement_refusal_by, defined_judgement}
+use Rattle.rdx_forms.specs.GenerateForms.{GenerateParts, generate_parts, check_parts, generate_refusal, check_refusal, generate_over, check_over}
 use Rattle.rdx_forms.specs.Known.{Known, with_definition}
 use Rattle.rdx_forms.specs.LanguageForms.{base_name, named_base, name_taken_at, language_refusal, plain_language, extended_language}
 use Rattle.rdx_query.specs.Laws.{AreAccepted, AreRefused}
@@ -155,6 +156,16 @@ step-parts : (K : Known) (d : Sexp) (q : Option StepParts) → steps_refusal K d
 step-parts K d None e = absurd (not_passed (unbuilt_at d) (unnamed Shape d) e)
 step-parts K d (Some q) e = record { value = q; is = refl }
 
+-- so has a form that generates a term
+generate-parts : (K : Known) (d : Sexp) (q : Option GenerateParts) → generate_refusal K d q ≡ None → HasValue GenerateParts q
+generate-parts K d None e = absurd (not_passed (unbuilt_at d) (unnamed Shape d) e)
+generate-parts K d (Some q) e = record { value = q; is = refl }
+
+-- or checks a property
+check-parts : (K : Known) (d : Sexp) (q : Option GenerateParts) → check_refusal K d q ≡ None → HasValue GenerateParts q
+check-parts K d None e = absurd (not_passed (unbuilt_at d) (unnamed Shape d) e)
+check-parts K d (Some q) e = record { value = q; is = refl }
+
 -- so have tests of host expressions
 equal-parts : (K : Known) (d : Sexp) (q : Option EqualParts) → equal_refusal K d q ≡ None → HasValue EqualParts q
 equal-parts K d None e = absurd (not_passed (unbuilt_at d) (unnamed Shape d) e)
@@ -201,6 +212,8 @@ question-means K d kind.tagged e =
     mapped (λ (q : StepParts). tagged (text_of q.relation) (host_of_datum K q.host)) (step_parts d) (step-parts K d (step_parts d) e)
 question-means K d kind.stepper e =
     mapped (λ (q : StepParts). stepper (text_of q.relation) (host_of_datum K q.host)) (step_parts d) (step-parts K d (step_parts d) e)
+question-means K d kind.generate e = mapped (generate_over K) (generate_parts d) (generate-parts K d (generate_parts d) e)
+question-means K d kind.check e = mapped (check_over K) (check_parts d) (check-parts K d (check_parts d) e)
 question-means K d kind.test_equal e =
     mapped (λ (q : EqualParts). test_equal (host_of_datum K q.found) (host_of_datum K q.wanted)) (equal_parts d) (equal-parts K d (equal_parts d) e)
 question-means K d kind.test_step e =

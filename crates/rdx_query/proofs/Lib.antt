@@ -17,6 +17,7 @@ pub mod BoundTexts
 pub mod DistinctDefinitions
 pub mod NamedNonterminals
 pub mod ValidDefinitions
+pub mod OptionNumbers
 pub mod ValidAsked
 pub mod AcceptedLanguages
 pub mod ValidFiles

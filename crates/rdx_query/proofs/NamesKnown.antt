@@ -41,6 +41,7 @@ use Rattle.rdx_forms.specs.OneForm.{Defines, Asks}
 use Rattle.rdx_forms.specs.FormKinds as kind
 use Rattle.rdx_forms.specs.FormKinds.{FormKind, defines, asks, passes, to_come, form_kind}
 use Rattle.rdx_forms.specs.Forms.{refusal_by_kind, definition_by_kind, query_by_kind}
+use Rattle.rdx_forms.specs.GenerateForms.{GenerateParts, generate_parts, check_parts, language_in, names_over, pattern_stands, bound_over, host_stands, generate_shape_at, check_shape_at, check_depth_at, check_undriven_at, generate_refusal, check_refusal, generate_over, check_over}
 use Rattle.rdx_forms.specs.HoldsForms.{HoldsParts, holds_parts, asked_names, asked_unknown_at, lone_parts, asked_premise, holds_refusal, holds_refusal_over, holds_by, holds_over, holds_test_by}
 use Rattle.rdx_forms.specs.HostForms.{host_of_datum, bad_host_at, undriven_host_at, host_escape_at}
 use Rattle.rdx_forms.specs.JudgementForms.{form_name, form_names, judgement_refusal_by, judgement_by, defined_judgement}
@@ -48,7 +49,7 @@ use Rattle.rdx_forms.specs.Known.{Known, empty_program, extended_by, known_as, w
 use Rattle.rdx_forms.specs.LanguageForms.{named_base, name_taken_at, unknown_at, unknown_by, plain_language, extended_language}
 use Rattle.rdx_forms.specs.MatchForms.{QueryParts, query_parts, query_shape_at, checked_parts, query_host, bad_query_at, query_escape_at, query_refusal, query_over}
 use Rattle.rdx_forms.specs.MetafunctionForms.{function_taken_at, defined_function}
-use Rattle.rdx_answer.specs.Queries.{Query, matches, whether, splits, value, holds, reducts, tagged, stepper, test_equal, test_step, test_run, test_match, test_holds, test_results, KnowsRelation, KnowsJudgement, NamesKnown}
+use Rattle.rdx_answer.specs.Queries.{Query, matches, whether, splits, value, holds, reducts, tagged, stepper, generate, check, test_equal, test_step, test_run, test_match, test_holds, test_results, KnowsRelation, KnowsJudgement, NamesKnown}
 use Rattle.rdx_forms.specs.RelationForms.{define_shape_at, bad_relation_at, cases_refusal, relation_names, relation_language}
 use Rattle.rdx_forms.specs.StepForms.{StepParts, step_parts, steps_shape_at, checked_steps, steps_host, unknown_relation_at, unknown_relation_by, steps_refusal}
 use Rattle.rdx_forms.specs.TestForms.{EqualParts, LeadingParts, equal_parts, leading_parts, hosts_shape_at, bad_hosts_at, undriven_hosts_at, hosts_escape_at, unknown_tested_at, leading_refusal}
@@ -104,6 +105,8 @@ IsAwaited K (holds q t) = IsSome (mode_of K.scope q.judgement)
 IsAwaited K (reducts name h) = KnowsRelation K.program name
 IsAwaited K (tagged name h) = KnowsRelation K.program name
 IsAwaited K (stepper name h) = KnowsRelation K.program name
+IsAwaited K (generate name p size seed) = IsSome (language_named K.program name)
+IsAwaited K (check name p h attempts seed) = IsSome (language_named K.program name)
 IsAwaited K (test_equal h k) = Unit {0}
 IsAwaited K (test_step name h ks) = KnowsRelation K.program name
 IsAwaited K (test_run name h ks) = KnowsRelation K.program name
@@ -121,6 +124,8 @@ awaited-more K x (holds q t) e = e
 awaited-more K x (reducts name h) e = relation-more K.program (known_as K.ends x) name e
 awaited-more K x (tagged name h) e = relation-more K.program (known_as K.ends x) name e
 awaited-more K x (stepper name h) e = relation-more K.program (known_as K.ends x) name e
+awaited-more K x (generate name p size seed) e = language-more K.program (known_as K.ends x) name e
+awaited-more K x (check name p h attempts seed) e = language-more K.program (known_as K.ends x) name e
 awaited-more K x (test_equal h k) e = tt
 awaited-more K x (test_step name h ks) e = relation-more K.program (known_as K.ends x) name e
 awaited-more K x (test_run name h ks) e = relation-more K.program (known_as K.ends x) name e
@@ -239,6 +244,8 @@ awaited-known K (holds q t) l f a = knows-by K.program q.judgement (judgement_na
 awaited-known K (reducts name h) l f a = a
 awaited-known K (tagged name h) l f a = a
 awaited-known K (stepper name h) l f a = a
+awaited-known K (generate name p size seed) l f a = a
+awaited-known K (check name p h attempts seed) l f a = a
 awaited-known K (test_equal h k) l f a = tt
 awaited-known K (test_step name h ks) l f a = a
 awaited-known K (test_run name h ks) l f a = a
@@ -297,6 +304,40 @@ by_query : (K : Known) (d : Sexp) (make : List ℕ → Pattern → Host → Quer
     → query_refusal K d o ≡ None → option_map (query_over K make) o ≡ Some r → IsAwaited K r
 by_query K d make None r f e m = absurd cc
 by_query K d make (Some q) r f e m = let g : query_over K make q ≡ r = cc in subst (IsAwaited K) g (f q (query-known K d q e))
+
+-- the language of a form that generates a term is known
+generate-known : (K : Known) (d : Sexp) (q : GenerateParts) → generate_refusal K d (Some q) ≡ None → IsSome (language_named K.program (text_of q.language))
+generate-known K d q e =
+    let os = pattern_stands (Some q) in
+    let ns = names_over K (Some q) in
+    let last = first_refusal (bad_binder_at os ∷ bad_occurrence_at ns os ∷ depth_clash_at ns os ∷ pattern.escape_at os ∷ []) in
+    known-name (language_named K.program (text_of q.language)) q.language
+    (third-none (unbuilt_at d) (generate_shape_at d (Some q)) (unknown_at K (language_in (Some q))) last e)
+
+-- so is that of one that checks a property
+check-known : (K : Known) (d : Sexp) (q : GenerateParts) → check_refusal K d (Some q) ≡ None → IsSome (language_named K.program (text_of q.language))
+check-known K d q e =
+    let os = pattern_stands (Some q) in
+    let ns = names_over K (Some q) in
+    let bs = bound_over K (Some q) in
+    let ps = host_stands K (Some q) in
+    let last =
+    first_refusal
+    (bad_binder_at os ∷ or_else (bad_occurrence_at ns os) (bad_host_at ps) ∷ check_depth_at ns bs os ps ∷ check_undriven_at K bs ps
+    ∷ or_else (pattern.escape_at os) (host_escape_at ps) ∷ [])
+    in
+    known-name (language_named K.program (text_of q.language)) q.language
+    (third-none (unbuilt_at d) (check_shape_at d (Some q)) (unknown_at K (language_in (Some q))) last e)
+
+-- a form that generates a term
+by_generate : (K : Known) (d : Sexp) (o : Option GenerateParts) (r : Query) → generate_refusal K d o ≡ None → option_map (generate_over K) o ≡ Some r → IsAwaited K r
+by_generate K d None r e m = absurd cc
+by_generate K d (Some q) r e m = let g : generate_over K q ≡ r = cc in subst (IsAwaited K) g (generate-known K d q e)
+
+-- one that checks a property
+by_check : (K : Known) (d : Sexp) (o : Option GenerateParts) (r : Query) → check_refusal K d o ≡ None → option_map (check_over K) o ≡ Some r → IsAwaited K r
+by_check K d None r e m = absurd cc
+by_check K d (Some q) r e m = let g : check_over K q ≡ r = cc in subst (IsAwaited K) g (check-known K d q e)
 
 -- a relation of an accepted test is
 tested-known : (K : Known) (d : Sexp) (q : LeadingParts) → LanguagesKnown K.program → leading_refusal K d (Some q) ≡ None
@@ -385,6 +426,8 @@ by_question K d (asks kind.holds) q l e m = by_holds K d (holds_parts d) q e m
 by_question K d (asks kind.reducts) q l e m = by_steps K d (λ r. reducts (text_of r.relation) (host_of_datum K r.host)) (step_parts d) q l (λ r s. s) e m
 by_question K d (asks kind.tagged) q l e m = by_steps K d (λ r. tagged (text_of r.relation) (host_of_datum K r.host)) (step_parts d) q l (λ r s. s) e m
 by_question K d (asks kind.stepper) q l e m = by_steps K d (λ r. stepper (text_of r.relation) (host_of_datum K r.host)) (step_parts d) q l (λ r s. s) e m
+by_question K d (asks kind.generate) q l e m = by_generate K d (generate_parts d) q e m
+by_question K d (asks kind.check) q l e m = by_check K d (check_parts d) q e m
 by_question K d (asks kind.test_equal) q l e m = by_equal K (equal_parts d) q m
 by_question K d (asks kind.test_step) q l e m =
     by_leading K d (λ r. test_step (text_of r.relation) (host_of_datum K r.from) (map (host_of_datum K) r.wanted)) (leading_parts d) q l (λ r s. s) e m

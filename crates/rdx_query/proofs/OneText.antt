@@ -1,6 +1,7 @@
 -- Queries have one text of answers at most, and all that they state is met or not.
-use Rattle.std.proofs.Common.{◌≡◌, ◌++◌, ℕ, Bool, List, [], ◌∷◌, Option, Some, None, refl, ap, sym, ◌∙◌, subst}
+use Rattle.std.proofs.Common.{◌≡◌, ◌++◌, ◌+◌, ◌%◌, ℕ, suc, Bool, true, false, IsFalse, List, [], ◌∷◌, Option, Some, None, refl, ap, sym, ◌∙◌, subst}
 use Rattle.std.specs.Prelude.{◌&&◌}
+use Rattle.rand_pcg.specs.Lcg.{Lcg}
 use Rattle.rdx_lang.specs.Bindings.{Binding, no_names}
 use Rattle.rdx_lang.specs.Decompositions.{Decomposition}
 use Rattle.rdx_lang.specs.Laws.{OneListing, OneSplitsListing}
@@ -15,11 +16,16 @@ use Rattle.rdx_sexp.specs.Sexp.{Sexp}
 use Rattle.rdx_term.specs.Model.TotalOrder.{tree_cmp-total}
 use Rattle.rdx_term.specs.Order.{tree_cmp}
 use Rattle.rdx_term.specs.Tree.{Tree}
+use Rattle.rdx_gen.specs.Generated as making
+use Rattle.rdx_gen.specs.Generated.{Generates}
+use Rattle.rdx_gen.specs.Laws as generation
+use Rattle.rdx_gen.specs.Words.{words_of}
 use Rattle.rdx_eval.specs.Answers.{Answer, Fault, fault, Gather, Single}
 use Rattle.rdx_eval.specs.Answers as evaluation
 use Rattle.rdx_eval.specs.Extending.{Meets}
 use Rattle.rdx_eval.specs.Heights.{calls_at, height}
-use Rattle.rdx_eval.specs.Instantiation.{Makes}
+use Rattle.rdx_eval.specs.Calls.{Calls}
+use Rattle.rdx_eval.specs.Instantiation.{HostMakes, is_false, Makes}
 use Rattle.rdx_eval.specs.Laws.{Once, OneMeeting, OneTerm}
 use Rattle.rdx_eval.proofs.OneAnswer.{once-then, once-gather, once-single, once-lists}
 use Rattle.rdx_reduce.specs.Laws.{OneStepping}
@@ -35,9 +41,10 @@ use Rattle.rdx_answer.specs.Answering.{HostValue, HostValues, Over, over_value, 
 use Rattle.rdx_query.specs.Writing.{Writes}
 use Rattle.rdx_forms.specs.Known.{Known}
 use Rattle.rdx_forms.specs.Before.{known_before}
+use Rattle.rdx_answer.specs.GenerateAnswers.{generated_text, is_term, IsGenerateAnswer, IsThisOr, FirstFalseOf, Verdict, failed, hindered, Attempts, all_pass, none_made, one_fails, one_faults, one_passes, check_text, is_passed, IsCheckAnswer}
 use Rattle.rdx_answer.specs.HoldsAnswers.{FindsMet, WritesWhether, whether_found, question_faulted, IsHoldsAnswer, ValuesOf, values_of, bindings_faulted, WritesValues, values_found, values_faulted, IsValuesAnswer, IsPremiseAnswer}
 use Rattle.rdx_answer.specs.MatchAnswers.{Finds, FindsSplits, IsMatchesAnswer, IsWhetherAnswer, IsSplitsAnswer}
-use Rattle.rdx_answer.specs.Queries.{Query, matches, whether, splits, value, holds, reducts, tagged, stepper, test_equal, test_step, test_run, test_match, test_holds, test_results}
+use Rattle.rdx_answer.specs.Queries.{Query, matches, whether, splits, value, holds, reducts, tagged, stepper, generate, check, test_equal, test_step, test_run, test_match, test_holds, test_results}
 use Rattle.rdx_answer.specs.StepAnswers.{reducts_in, WritesReducts, reducts_found, reducts_faulted, WritesSteps, steps_found, steps_faulted, IsReductsAnswer, IsTaggedAnswer}
 use Rattle.rdx_answer.specs.StepperAnswers.{walk_text, is_done, IsStepperAnswer}
 use Rattle.rdx_answer.specs.TestAnswers.{ComparesSteps, steps_compared, steps_faulted as no_steps_compared, ComparesEnd, rest_compared, run_fails, run_branches, run_is_bound, IsStepTestAnswer, IsRunTestAnswer, IsMatchTestAnswer, WritesVerdict, verdict_found, question_faulted as no_verdict, IsHoldsTestAnswer, IsResultsAnswer}
@@ -121,7 +128,7 @@ once-results : (c : Counts) → OnceWritten (IsResultsAnswer c)
 once-results c t u m n a b = record { text = a.printed ∙ sym b.printed; met = a.is_met ∙ sym b.is_met }
 
 module _ (one_listing : OneListing) (one_splits : OneSplitsListing) (one_term : OneTerm) (one_meeting : OneMeeting) (one_stepping : OneStepping)
-    (one_walk : OneWalk) (one_run : OneRun) where
+    (one_walk : OneWalk) (one_run : OneRun) (one_generated : generation.OneAnswer) where
   -- ---- matches and splits
 
   -- one listing is found at most
@@ -259,6 +266,115 @@ module _ (one_listing : OneListing) (one_splits : OneSplitsListing) (one_term : 
   once-premise P q None = once-holds P q
   once-premise P q (Some t) = once-by-values P q t
 
+  -- ---- generated terms
+
+  once-generate : (P : Program) (name : List ℕ) (p : Pattern) (size seed : ℕ) → OnceWritten (IsGenerateAnswer P name p size seed)
+  once-generate P name p size seed text other m n a b =
+      let k : a.language ≡ b.language = let e = a.known in let f = b.known in cc in
+      let s : a.answer ≡ b.answer =
+      (one_generated b.language p size (words_of seed) a.answer b.answer a.left b.left
+      (subst (λ (L : Language). Generates L p size (words_of seed) a.answer a.left) k a.generates) b.generates).0
+      in
+      record { text = a.printed ∙ ap generated_text s ∙ sym b.printed; met = a.is_met ∙ ap is_term s ∙ sym b.is_met }
+
+  -- the first binding for which a host expression makes #f is one at most, or one fault is
+  once-this : (b : Bool) (c : Binding) (R : Answer (Option Binding) → Type 0) → Once R → Once (IsThisOr b c R)
+  once-this true c R f r s h k = h ∙ sym k
+  once-this false c R f r s h k = f r s h k
+
+  once-first-false : (P : Program) (h : Host) (bs : List Binding) → Once (FirstFalseOf (calls_at P height) h bs)
+  once-first-false P h [] r s e f = e ∙ sym f
+  once-first-false P h (b ∷ bs) r s e f =
+      once-then (HostMakes (calls_at P height) b h) _ (one_term P height b (template.host h))
+      (λ t. once-this (is_false t) b (FirstFalseOf (calls_at P height) h bs) (once-first-false P h bs)) r s e f
+
+  module _ (P : Program) (L : Language) (p : Pattern) (h : Host) where
+    abbrev C : Calls
+    C = calls_at P height
+
+    -- two attempts that make a term make the same one, with the same words behind it
+    record AreSameMade (t u : Tree) (v w : Lcg) : Type 0 where
+      term : t ≡ u
+      words : v ≡ w
+
+    same-made : (size : ℕ) (w v u : Lcg) (t s : Tree) → Generates L p size w (making.generated t) v → Generates L p size w (making.generated s) u
+        → AreSameMade t s v u
+    same-made size w v u t s a b =
+        let k = one_generated L p size w (making.generated t) (making.generated s) v u a b in
+        let e = k.0 in
+        record { term = cc; words = k.1 }
+
+    -- what makes none makes no term
+    none-or-term : (size : ℕ) (w v u : Lcg) (a : making.Answer) (t : Tree) → Generates L p size w a v → Generates L p size w (making.generated t) u
+        → IsFalse (is_term a) → ⊥
+    none-or-term size w v u a t g k f =
+        let e = (one_generated L p size w a (making.generated t) v u g k).0 in
+        let z : IsFalse (is_term (making.generated t)) = subst (λ (b : making.Answer). IsFalse (is_term b)) e f in
+        absurd cc
+
+    -- of one term, the first binding is the same or the same fault is
+    same-found : (t u : Tree) (bs cs : List Binding) (r s : Answer (Option Binding)) → t ≡ u → Matches L p t bs → Matches L p u cs
+        → FirstFalseOf C h bs r → FirstFalseOf C h cs s → r ≡ s
+    same-found t u bs cs r s e m n a b =
+        let k : bs ≡ cs = one_listing L p u bs cs (subst (λ (x : Tree). Matches L p x bs) e m) n in
+        once-first-false P h cs r s (subst (λ (ds : List Binding). FirstFalseOf C h ds r) k a) b
+
+    -- attempts come to one verdict at most
+    once-attempts : (j n : ℕ) (w : Lcg) (o q : Verdict) → Attempts C L p h j n w o → Attempts C L p h j n w q → o ≡ q
+    once-attempts j n w o q all_pass all_pass = refl
+    once-attempts j n w o q (none_made {v} a g f) (none_made {v = u} b k l) =
+        ap (λ x. hindered (generated_text x)) (one_generated L p (j % 6) w a b v u g k).0
+    once-attempts j n w o q (none_made {v} a g f) (one_fails {v = u} t bs b k m z) = absurd (none-or-term (j % 6) w v u a t g k f)
+    once-attempts j n w o q (none_made {v} a g f) (one_faults {v = u} t bs y k m z) = absurd (none-or-term (j % 6) w v u a t g k f)
+    once-attempts j n w o q (none_made {v} a g f) (one_passes {v = u} t bs k m z more) = absurd (none-or-term (j % 6) w v u a t g k f)
+    once-attempts j n w o q (one_fails {v} t bs b k m z) (none_made {v = u} a g f) = absurd (none-or-term (j % 6) w u v a t g k f)
+    once-attempts j n w o q (one_fails {v} t bs b k m z) (one_fails {v = u} s cs c g l y) =
+        let i = same-made (j % 6) w v u t s k g in
+        let e = same-found t s bs cs (evaluation.value (Some b)) (evaluation.value (Some c)) i.term m l z y in
+        let d : b ≡ c = cc in
+        λ x. failed (j + 1) (i.term x) (d x)
+    once-attempts j n w o q (one_fails {v} t bs b k m z) (one_faults {v = u} s cs x g l y) =
+        let i = same-made (j % 6) w v u t s k g in
+        let e = same-found t s bs cs (evaluation.value (Some b)) (fault x) i.term m l z y in
+        absurd cc
+    once-attempts j n w o q (one_fails {v} t bs b k m z) (one_passes {v = u} s cs g l y more) =
+        let i = same-made (j % 6) w v u t s k g in
+        let e = same-found t s bs cs (evaluation.value (Some b)) (evaluation.value None) i.term m l z y in
+        absurd cc
+    once-attempts j n w o q (one_faults {v} t bs x k m z) (none_made {v = u} a g f) = absurd (none-or-term (j % 6) w u v a t g k f)
+    once-attempts j n w o q (one_faults {v} t bs x k m z) (one_fails {v = u} s cs c g l y) =
+        let i = same-made (j % 6) w v u t s k g in
+        let e = same-found t s bs cs (fault x) (evaluation.value (Some c)) i.term m l z y in
+        absurd cc
+    once-attempts j n w o q (one_faults {v} t bs x k m z) (one_faults {v = u} s cs r g l y) =
+        let i = same-made (j % 6) w v u t s k g in
+        ap (λ f. hindered (fault_line f)) (same_fault x r (same-found t s bs cs (fault x) (fault r) i.term m l z y))
+    once-attempts j n w o q (one_faults {v} t bs x k m z) (one_passes {v = u} s cs g l y more) =
+        let i = same-made (j % 6) w v u t s k g in
+        let e = same-found t s bs cs (fault x) (evaluation.value None) i.term m l z y in
+        absurd cc
+    once-attempts j n w o q (one_passes {v} t bs k m z more) (none_made {v = u} a g f) = absurd (none-or-term (j % 6) w u v a t g k f)
+    once-attempts j n w o q (one_passes {v} t bs k m z more) (one_fails {v = u} s cs c g l y) =
+        let i = same-made (j % 6) w v u t s k g in
+        let e = same-found t s bs cs (evaluation.value None) (evaluation.value (Some c)) i.term m l z y in
+        absurd cc
+    once-attempts j n w o q (one_passes {v} t bs k m z more) (one_faults {v = u} s cs r g l y) =
+        let i = same-made (j % 6) w v u t s k g in
+        let e = same-found t s bs cs (evaluation.value None) (fault r) i.term m l z y in
+        absurd cc
+    once-attempts j (suc n) w o q (one_passes {v} t bs k m z more) (one_passes {v = u} s cs g l y rest) =
+        let i = same-made (j % 6) w v u t s k g in
+        once-attempts (j + 1) n u o q (subst (λ (x : Lcg). Attempts C L p h (j + 1) n x o) i.words more) rest
+
+  once-check : (P : Program) (name : List ℕ) (p : Pattern) (h : Host) (attempts seed : ℕ) → OnceWritten (IsCheckAnswer P name p h attempts seed)
+  once-check P name p h attempts seed text other m n a b =
+      let k : a.language ≡ b.language = let e = a.known in let f = b.known in cc in
+      let s : a.verdict ≡ b.verdict =
+      once-attempts P b.language p h 0 attempts (words_of seed) a.verdict b.verdict
+      (subst (λ (L : Language). Attempts (calls_at P height) L p h 0 attempts (words_of seed) a.verdict) k a.tried) b.tried
+      in
+      record { text = a.printed ∙ ap (check_text attempts) s ∙ sym b.printed; met = a.is_met ∙ ap is_passed s ∙ sym b.is_met }
+
   -- ---- queries
 
   -- a host expression makes one term, or has one fault
@@ -306,6 +422,8 @@ module _ (one_listing : OneListing) (one_splits : OneSplitsListing) (one_term : 
   one_answer P cs c (reducts name h) = over-once P h (IsReductsAnswer P name) (once-by-reducts P name)
   one_answer P cs c (tagged name h) = over-once P h (IsTaggedAnswer P name) (once-by-steps P name)
   one_answer P cs c (stepper name h) = over-once P h (IsStepperAnswer P name cs) (once-by-walk P name cs)
+  one_answer P cs c (generate name p size seed) = once-generate P name p size seed
+  one_answer P cs c (check name p h attempts seed) = once-check P name p h attempts seed
   one_answer P cs c (test_equal h k) =
       over-once P h (λ t. Over P k (λ u. Compares (t ∷ []) (u ∷ [])))
       (λ t. over-once P k (λ u. Compares (t ∷ []) (u ∷ [])) (λ u. once-compares (t ∷ []) (u ∷ [])))

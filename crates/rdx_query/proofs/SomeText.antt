@@ -1,6 +1,7 @@
 -- Data that are not refused write some text.
-use Rattle.std.proofs.Common.{◌≡◌, ℕ, Bool, true, false, ◌⊎◌, inl, inr, List, [], ◌∷◌, ◌++◌, Option, Some, None, refl, sym, subst}
+use Rattle.std.proofs.Common.{◌≡◌, ◌+◌, ◌%◌, ℕ, zero, suc, Bool, true, false, ◌⊎◌, inl, inr, List, [], ◌∷◌, ◌++◌, Option, Some, None, refl, sym, subst}
 use Rattle.std.specs.Prelude.{◌&&◌, IsSome}
+use Rattle.rand_pcg.specs.Lcg.{Lcg}
 use Rattle.rdx_sexp.specs.Sexp.{Sexp}
 use Rattle.rdx_term.proofs.OrderLaws.{tree_cmp-equal}
 use Rattle.rdx_term.specs.Model.TotalOrder.{tree_cmp-total}
@@ -10,15 +11,21 @@ use Rattle.rdx_lang.proofs.Finite.{sorted, listed}
 use Rattle.rdx_lang.specs.Bindings.{Binding, no_names}
 use Rattle.rdx_lang.specs.Decompositions.{Decomposition}
 use Rattle.rdx_lang.specs.Laws.{FreeOrRecursive, SomeListing, SomeSplitsListing}
+use Rattle.rdx_lang.specs.Listing.{Matches}
 use Rattle.rdx_lang.specs.Members.{In}
 use Rattle.rdx_lang.specs.Patterns.{Pattern, Language}
 use Rattle.rdx_lang.specs.Programs.{Premise, Program, Relation, Rule, language_named}
 use Rattle.rdx_lang.specs.Templates.{Host, Template}
 use Rattle.rdx_lang.specs.Templates as template
+use Rattle.rdx_gen.specs.Generated as making
+use Rattle.rdx_gen.specs.Generated.{Generates}
+use Rattle.rdx_gen.specs.Laws as generation
+use Rattle.rdx_gen.specs.Words.{words_of}
 use Rattle.rdx_eval.specs.Answers as evaluation
 use Rattle.rdx_eval.specs.Answers.{Answer, fault, Gather, Single}
 use Rattle.rdx_eval.specs.Heights.{calls_at, height}
-use Rattle.rdx_eval.specs.Instantiation.{Makes}
+use Rattle.rdx_eval.specs.Calls.{Calls}
+use Rattle.rdx_eval.specs.Instantiation.{HostMakes, is_false, Makes}
 use Rattle.rdx_eval.specs.Judgements as judging
 use Rattle.rdx_eval.specs.Laws.{HasAnswer, AreFree, SomeMeeting, SomeTerm}
 use Rattle.rdx_eval.proofs.SomeAnswer.{some-then, some-gather, some-single, some-lists}
@@ -31,10 +38,11 @@ use Rattle.rdx_run.specs.Runs as run
 use Rattle.rdx_run.specs.Runs.{RunEnd, most_steps}
 use Rattle.rdx_answer.specs.Answering.{HostValue, HostValues, Over, over_value, over_fault, OverEach, over_values, over_first_fault, IsValueAnswer, IsAnswer, AreAnswers, no_answers, more_answers, counts_behind}
 use Rattle.rdx_forms.specs.Before.{known_before}
+use Rattle.rdx_answer.specs.GenerateAnswers.{generated_text, is_term, IsGenerateAnswer, IsThisOr, FirstFalseOf, Verdict, passed, failed, hindered, Attempts, all_pass, none_made, one_fails, one_faults, one_passes, check_text, is_passed, IsCheckAnswer}
 use Rattle.rdx_answer.specs.HoldsAnswers.{FindsMet, WritesWhether, whether_found, question_faulted, ValuesOf, values_of, bindings_faulted, WritesValues, values_found, values_faulted, IsPremiseAnswer}
 use Rattle.rdx_query.specs.Laws.{AreAccepted, AreRefused, DoWrite}
 use Rattle.rdx_answer.specs.MatchAnswers.{Finds, FindsSplits, IsMatchesAnswer, IsWhetherAnswer, IsSplitsAnswer}
-use Rattle.rdx_answer.specs.Queries.{Query, matches, whether, splits, value, holds, reducts, tagged, stepper, test_equal, test_step, test_run, test_match, test_holds, test_results, NamesKnown, KnowsJudgement, KnowsRelation}
+use Rattle.rdx_answer.specs.Queries.{Query, matches, whether, splits, value, holds, reducts, tagged, stepper, generate, check, test_equal, test_step, test_run, test_match, test_holds, test_results, NamesKnown, KnowsJudgement, KnowsRelation}
 use Rattle.rdx_answer.specs.StepAnswers.{reducts_in, named_steps, AreReducts, WritesReducts, reducts_found, reducts_faulted, WritesSteps, steps_found, steps_faulted, IsReductsAnswer, IsTaggedAnswer}
 use Rattle.rdx_answer.specs.StepperAnswers.{walk_text, is_done, IsStepperAnswer}
 use Rattle.rdx_answer.specs.TestAnswers.{ComparesSteps, steps_compared, steps_faulted as no_steps_compared, ComparesEnd, rest_compared, run_fails, run_branches, run_is_bound, IsStepTestAnswer, IsRunTestAnswer, IsMatchTestAnswer, WritesVerdict, verdict_found, question_faulted as no_verdict, IsHoldsTestAnswer}
@@ -115,7 +123,8 @@ write-verdict (fault f) = record { text = fault_line f; met = false; written = n
 -- rules the listings of their steps; and templates make something
 
 module _ (decided : FreeOrRecursive) (some : SomeListing) (some_splits : SomeSplitsListing) (some_term : SomeTerm)
-    (some_meeting : SomeMeeting) (some_stepping : SomeStepping) (some_walk : SomeWalk) (some_run : SomeRun) where
+    (some_meeting : SomeMeeting) (some_stepping : SomeStepping) (some_walk : SomeWalk) (some_run : SomeRun)
+    (some_generated : generation.SomeAnswer) where
   -- bindings are found
   are_found : (P : Program) (name : List ℕ) (p : Pattern) (t : Tree) → AreFree P → (o : Option Language) → language_named P name ≡ o → IsSome o → AreFound P name p t
   are_found P name p t f None e n = absurd cc
@@ -237,6 +246,75 @@ module _ (decided : FreeOrRecursive) (some : SomeListing) (some_splits : SomeSpl
       let w = write-verdict s.answer in
       record { text = w.text; met = w.met; written = record { found = s.answer; finds = s.allowed; written = w.written } }
 
+  -- ---- generated terms
+
+  write-generate : (P : Program) (name : List ℕ) (p : Pattern) (size seed : ℕ) → (o : Option Language) → language_named P name ≡ o → IsSome o
+      → DoesWrite (IsGenerateAnswer P name p size seed)
+  write-generate P name p size seed None e n = absurd cc
+  write-generate P name p size seed (Some L) e n =
+      let g = some_generated L p size (words_of seed) in
+      record {
+        text = generated_text g.answer;
+        met = is_term g.answer;
+        written = record { language = L; known = e; answer = g.answer; left = g.left; generates = g.generates; printed = refl; is_met = refl };
+      }
+
+  -- the first binding for which a host expression makes #f, or none, or a fault
+  some-this : (b : Bool) (c : Binding) (R : Answer (Option Binding) → Type 0) → HasAnswer R → HasAnswer (IsThisOr b c R)
+  some-this true c R f = record { answer = evaluation.value (Some c); allowed = refl }
+  some-this false c R f = f
+
+  some-first-false : (P : Program) (h : Host) (bs : List Binding) → AreFree P → HasAnswer (FirstFalseOf (calls_at P height) h bs)
+  some-first-false P h [] f = record { answer = evaluation.value None; allowed = refl }
+  some-first-false P h (b ∷ bs) f =
+      let rest = some-first-false P h bs f in
+      some-then (HostMakes (calls_at P height) b h) _ (some_term P height b (template.host h) f)
+      (λ t. some-this (is_false t) b (FirstFalseOf (calls_at P height) h bs) rest)
+
+  module _ (P : Program) (free : AreFree P) (L : Language) (within : In L P.languages) (p : Pattern) (h : Host) where
+    abbrev C : Calls
+    C = calls_at P height
+
+    -- what attempts come to
+    record HasVerdict (j n : ℕ) (w : Lcg) : Type 0 where
+      verdict : Verdict
+      tried : Attempts C L p h j n w verdict
+
+    -- by what the host expression makes for the bindings of a term
+    by_found : (j n : ℕ) (w v : Lcg) (t : Tree) (bs : List Binding) (r : Answer (Option Binding)) → Generates L p (j % 6) w (making.generated t) v → Matches L p t bs
+        → FirstFalseOf C h bs r → HasVerdict (j + 1) n v → HasVerdict j (suc n) w
+    by_found j n w v t bs (evaluation.value None) g m f more = record { verdict = more.verdict; tried = one_passes t bs g m f more.tried }
+    by_found j n w v t bs (evaluation.value (Some b)) g m f more = record { verdict = failed (j + 1) t b; tried = one_fails t bs b g m f }
+    by_found j n w v t bs (fault x) g m f more = record { verdict = hindered (fault_line x); tried = one_faults t bs x g m f }
+
+    -- by what is generated
+    by_made : (j n : ℕ) (w v : Lcg) (a : making.Answer) → Generates L p (j % 6) w a v → HasVerdict (j + 1) n v → HasVerdict j (suc n) w
+    by_made j n w v (making.generated t) g more =
+        let l = some L (free L within) p t in
+        let s = some-first-false P h l.found free in
+        by_found j n w v t l.found s.answer g l.listing s.allowed more
+    by_made j n w v (making.bad_name x) g more = record { verdict = hindered (generated_text (making.bad_name x)); tried = none_made (making.bad_name x) g refl }
+    by_made j n w v making.barren g more = record { verdict = hindered (generated_text making.barren); tried = none_made making.barren g refl }
+    by_made j n w v making.too_deep g more = record { verdict = hindered (generated_text making.too_deep); tried = none_made making.too_deep g refl }
+    by_made j n w v making.too_large g more = record { verdict = hindered (generated_text making.too_large); tried = none_made making.too_large g refl }
+
+    some-verdict : (j n : ℕ) (w : Lcg) → HasVerdict j n w
+    some-verdict j zero w = record { verdict = passed; tried = all_pass }
+    some-verdict j (suc n) w =
+        let g = some_generated L p (j % 6) w in
+        by_made j n w g.left g.answer g.generates (some-verdict (j + 1) n g.left)
+
+  write-check : (P : Program) (name : List ℕ) (p : Pattern) (h : Host) (attempts seed : ℕ) → AreFree P → (o : Option Language) → language_named P name ≡ o → IsSome o
+      → DoesWrite (IsCheckAnswer P name p h attempts seed)
+  write-check P name p h attempts seed f None e n = absurd cc
+  write-check P name p h attempts seed f (Some L) e n =
+      let v = some-verdict P f L (language-among P.languages name L e) p h 0 attempts (words_of seed) in
+      record {
+        text = check_text attempts v.verdict;
+        met = is_passed v.verdict;
+        written = record { language = L; known = e; verdict = v.verdict; tried = v.tried; printed = refl; is_met = refl };
+      }
+
   -- ---- queries
 
   -- a host expression makes a term, or has a fault
@@ -272,6 +350,8 @@ module _ (decided : FreeOrRecursive) (some : SomeListing) (some_splits : SomeSpl
   has_answer P cs c (reducts name h) f n = write-over P h (IsReductsAnswer P name) f (write-by-reducts P name f n)
   has_answer P cs c (tagged name h) f n = write-over P h (IsTaggedAnswer P name) f (write-by-steps P name f n)
   has_answer P cs c (stepper name h) f n = write-over P h (IsStepperAnswer P name cs) f (write-by-walk P name cs f n)
+  has_answer P cs c (generate name p size seed) f n = write-generate P name p size seed (language_named P name) refl n
+  has_answer P cs c (check name p h attempts seed) f n = write-check P name p h attempts seed f (language_named P name) refl n
   has_answer P cs c (test_equal h k) f n =
       write-over P h (λ t. Over P k (λ u. Compares (t ∷ []) (u ∷ []))) f
       (λ t. write-over P k (λ u. Compares (t ∷ []) (u ∷ [])) f (λ u. write-compared (t ∷ []) (u ∷ [])))

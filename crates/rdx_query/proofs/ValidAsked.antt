@@ -1,7 +1,7 @@
 -- What an accepted form of a file asks is valid.
-use Rattle.std.proofs.Common.{◌≡◌, ◌∙◌, ℕ, Bool, true, false, List, [], ◌∷◌, Option, Some, None, map, refl, sym, ap, subst, if◌then◌else◌}
+use Rattle.std.proofs.Common.{◌≡◌, ◌∙◌, ◌++◌, ℕ, Bool, true, false, List, [], ◌∷◌, Option, Some, None, map, refl, sym, ap, subst, if◌then◌else◌}
 use Rattle.std.specs.List.{list_all}
-use Rattle.std.specs.Prelude.{◌&&◌, is_some, option_map}
+use Rattle.std.specs.Prelude.{◌&&◌, nat_lt, is_some, option_map}
 use Rattle.rdx_sexp.specs.Sexp.{Sexp}
 use Rattle.rdx_lang.specs.Depths.{uses}
 use Rattle.rdx_lang.specs.Fitting.{fits}
@@ -12,20 +12,23 @@ use Rattle.rdx_lang.specs.Scopes.{bound_by}
 use Rattle.rdx_lang.specs.Templates.{Host, Template}
 use Rattle.rdx_lang.specs.Valid.{is_valid_extra}
 use Rattle.rdx_patterns.proofs.Booleans.{and_both, and_true}
-use Rattle.rdx_patterns.proofs.Firsts.{none_or}
+use Rattle.rdx_patterns.proofs.DepthsRead.{reading-makes}
+use Rattle.rdx_patterns.proofs.Firsts.{none_both, none_or, nothing}
 use Rattle.rdx_patterns.proofs.KnownReadings.{pattern_well_formed}
+use Rattle.rdx_patterns.proofs.PassedPatterns.{are-passed, pattern-written}
 use Rattle.rdx_patterns.specs.Ends.{ends_in, crossed_for}
 use Rattle.rdx_patterns.specs.Among.{AreAmong}
 use Rattle.rdx_patterns.specs.Nonterminals.{names_of}
 use Rattle.rdx_patterns.specs.Occurrences.{occurrences}
 use Rattle.rdx_patterns.specs.Parts.{parts, text_of, is_symbol}
+use Rattle.rdx_patterns.specs.PatternChecks.{bad_binders, bad_occurrences}
 use Rattle.rdx_patterns.specs.PatternRefusal.{keyword_at, bad_binder_at, bad_occurrence_at, depth_clash_at, escape_at, pattern_refusal}
 use Rattle.rdx_patterns.specs.Readable.{IsReadable}
 use Rattle.rdx_patterns.specs.Reading.{reading}
 use Rattle.rdx_patterns.specs.Refusal.{unnamed, named, or_else}
-use Rattle.rdx_patterns.specs.Unbuilt.{unbuilt_at}
+use Rattle.rdx_patterns.specs.Unbuilt.{has_word_to_come, unbuilt_at}
 use Rattle.rdx_patterns.specs.declared.patterns.position.Position.TheVariants as position
-use Rattle.rdx_patterns.specs.declared.shape.fault.DefKind.TheVariants.{Shape, BadPattern, EllipsisDepth, EllipsisVariable}
+use Rattle.rdx_patterns.specs.declared.shape.fault.DefKind.TheVariants.{Shape, BadName, BadPattern, EllipsisDepth, EllipsisVariable}
 use Rattle.rdx_templates.specs.Earliest.{start, earliest}
 use Rattle.rdx_parts.specs.ExtraReading.{premise_reading}
 use Rattle.rdx_parts.specs.Headed.{Headed, headed}
@@ -34,18 +37,19 @@ use Rattle.rdx_defs.specs.JudgementRefusal.{lone_premise_stands, premise_refusal
 use Rattle.rdx_templates.specs.Scope.{mode_of, callable, has_metafunction}
 use Rattle.rdx_templates.specs.TemplateChecks.{bad_parts, shallow_parts, undriven_parts}
 use Rattle.rdx_templates.specs.TemplateOccurrences.{host_parts}
-use Rattle.rdx_templates.specs.TemplateReading.{template_reading}
+use Rattle.rdx_templates.specs.TemplateReading.{template_reading, host_reading}
 use Rattle.rdx_templates.specs.TemplateShapes.{host_shapes}
 use Rattle.rdx_templates.proofs.EarliestPlaces.{earliest-none}
 use Rattle.rdx_parts.specs.StandChecks.{shape_at}
 use Rattle.rdx_parts.specs.StandRefusal.{stands_refusal}
-use Rattle.rdx_parts.specs.Stands.{names_bound, bound_by_premise}
+use Rattle.rdx_parts.specs.Stands.{names_bound, bound_by_premise, bound_in}
 use Rattle.rdx_defs.proofs.PassedForms.{question-valid}
 use Rattle.rdx_relations.proofs.PassedStands.{host-uses}
 use Rattle.rdx_forms.specs.OneForm.{Asks}
 use Rattle.rdx_forms.specs.FormKinds as kind
 use Rattle.rdx_forms.specs.FormKinds.{FormKind, defines, asks, passes, to_come, form_kind}
 use Rattle.rdx_forms.specs.Forms.{refusal_by_kind, query_by_kind}
+use Rattle.rdx_forms.specs.GenerateForms.{GenerateParts, generate_parts, check_parts, names_over, pattern_stands, bound_over, host_stands, size_faults, numbers_at, generate_options, check_options, generate_shape_at, check_shape_at, check_depth_at, check_undriven_at, generate_refusal, check_refusal, usual_attempts, usual_seed, generate_over, check_over}
 use Rattle.rdx_forms.specs.HoldsForms.{HoldsParts, holds_among, holds_parts, lone_among, lone_parts, asked_language, language_or_empty, asked_names, unfound, unfound_for, asked_unknown_at, holds_refusal, asked_premise, holds_over, holds_by, holds_test_by}
 use Rattle.rdx_forms.specs.HostForms.{parts_of_host, host_of_datum, host_shape_at, bad_host_at, undriven_host_at, host_escape_at}
 use Rattle.rdx_forms.specs.Fitting.{AreCrossed}
@@ -53,16 +57,18 @@ use Rattle.rdx_forms.specs.Known.{Known, judgement_language}
 use Rattle.rdx_forms.specs.LanguageForms.{named_base, unknown_at}
 use Rattle.rdx_forms.specs.MatchForms.{QueryParts, query_parts, checked_parts, query_shape_at, bad_query_at, query_refusal, query_over}
 use Rattle.rdx_answer.specs.Queries.{Query, matches, whether, splits, value, reducts, tagged, stepper, test_equal, test_step, test_run, test_match, test_holds, test_results}
+use Rattle.rdx_forms.specs.Options.{attempts_option, seed_option, number, number_or, option_faults, option_number}
 use Rattle.rdx_forms.specs.StepForms.{StepParts, step_parts, checked_steps, steps_shape_at, unknown_relation_at, unknown_relation_by, steps_refusal}
 use Rattle.rdx_forms.specs.TestForms.{EqualParts, equal_parts, LeadingParts, leading_parts, hosts_shape_at, bad_hosts_at, undriven_hosts_at, unknown_tested_at, test_refusal_over, equal_refusal, leading_refusal}
-use Rattle.rdx_query.specs.ValidQueries.{Askable, is_valid_host, is_valid_pattern, is_valid_premise, fits_behind, is_valid_query}
+use Rattle.rdx_query.specs.ValidQueries.{Askable, is_valid_host, is_valid_pattern, is_valid_premise, fits_behind, fits_where, is_valid_query}
 use Rattle.rdx_query.proofs.AcceptedForms.{image-of}
 use Rattle.rdx_forms.proofs.ClauseStands.{of_lone_premise}
-use Rattle.rdx_forms.proofs.FormParts.{unbuilt_at-built, parts-built, query-items, parts-readable}
+use Rattle.rdx_forms.proofs.FormParts.{unbuilt_at-built, parts-built, query-items, GenerateItems, generate-items, check-items, parts-readable}
 use Rattle.rdx_forms.proofs.FoundByName.{relation-found}
 use Rattle.rdx_forms.proofs.GainingNothing.{parts-ask}
 use Rattle.rdx_forms.proofs.HostChecks.{no_shallow}
 use Rattle.rdx_forms.proofs.StandNumbers.{nameless-refusal}
+use Rattle.rdx_query.proofs.OptionNumbers.{attempts-within, seed-small, size-small}
 use Rattle.rdx_query.proofs.ValidDefinitions.{built, read-over, read-in}
 
 -- ---- what may be asked where a form stands
@@ -129,6 +135,44 @@ module _ (K : Known) (crossed : AreCrossed K.program.languages K.ends) (paired :
 
   -- ---- patterns
 
+  -- a datum of the form is built and can be read, and asks for no more than the file does
+  record IsWithin (p : Sexp) : Type 0 where
+    plain : has_word_to_come p ≡ false
+    clear : IsReadable p
+    among : AreAmong (ends_in p) K.ends
+
+  -- its third does, where nothing in the form is to come
+  third-within : (h l p : Sexp) (ds : List Sexp) → parts d ≡ Some (h ∷ l ∷ p ∷ ds) → unbuilt_at d ≡ None → IsWithin p
+  third-within h l p ds e u =
+      let items : List Sexp = h ∷ l ∷ p ∷ ds in
+      record {
+        plain = (parts-built d items e (built d u)).1.1.0;
+        clear = (parts-readable d items e readable).1.1.0;
+        among = (parts-ask K.ends d items e asked).1.1.0;
+      }
+
+  -- what no check refuses in a pattern of the language of this name
+  record PatternPasses (l p : Sexp) : Type 0 where
+    within : IsWithin p
+    known : unknown_at K (Some l) ≡ None
+    keys : keyword_at (occurrences 0 p) ≡ None
+    binders : bad_binder_at (occurrences 0 p) ≡ None
+    places : bad_occurrence_at (names_of (named_base K (Some l))) (occurrences 0 p) ≡ None
+    depths : depth_clash_at (names_of (named_base K (Some l))) (occurrences 0 p) ≡ None
+    escapes : escape_at (occurrences 0 p) ≡ None
+
+  -- so it is well formed
+  pattern-valid : (l p : Sexp) → PatternPasses l p
+      → is_valid_pattern (language_named K.program (text_of l)) (reading (names_of (named_base K (Some l))) position.Query p) ≡ true
+  pattern-valid l p z =
+      let B = named_base K (Some l) in
+      let u : unbuilt_at p ≡ None = unbuilt_at-built p z.within.plain in
+      let passed : pattern_refusal (names_of B) p ≡ None =
+      λ y. or_else (u y) (or_else (z.keys y) (or_else (z.binders y) (or_else (z.places y) (or_else (z.depths y) (or_else (z.escapes y) None))))) in
+      let over = read-over K crossed l (ends_in p) z.known z.within.among in
+      ap (λ (o : Option Language). is_valid_pattern o (reading (names_of B) position.Query p)) over
+      ∙ pattern_well_formed B (ends_in p) p z.within.clear (λ y j. j) passed
+
   -- the parts of a query are checked by its pattern and its host expression
   shape-by : (b : Bool) (q : QueryParts) → query_shape_at d (if b then Some q else None) ≡ None → keyword_at (occurrences 0 q.pattern) ≡ None
   shape-by true q e = (none_or (keyword_at (occurrences 0 q.pattern)) (host_shape_at q.host) e).0
@@ -139,8 +183,7 @@ module _ (K : Known) (crossed : AreCrossed K.program.languages K.ends) (paired :
       → (is_valid_pattern (language_named K.program (text_of q.language)) (reading (names_of (named_base K (Some q.language))) position.Query q.pattern)
       && is_valid_host C (host_of_datum K q.host)) ≡ true
   query-valid q f r =
-      let B = named_base K (Some q.language) in
-      let ns = names_of B in
+      let ns = names_of (named_base K (Some q.language)) in
       let os = occurrences 0 q.pattern in
       let ps = parts_of_host K q.host in
       let p = reading ns position.Query q.pattern in
@@ -153,19 +196,20 @@ module _ (K : Known) (crossed : AreCrossed K.program.languages K.ends) (paired :
       let i = none_or (undriven_host_at K ps) _ h.1 in
       let escapes = none_or (escape_at os) (host_escape_at ps) (none_or _ None i.1).0 in
       let bad = none_or (bad_occurrence_at ns os) (bad_host_at ps) g.0 in
-      let keys = shape-by (is_symbol q.language) q b.0 in
       let items = query-items d q f in
-      let part = (parts-built d (items.head ∷ q.language ∷ q.pattern ∷ q.host ∷ []) items.are (built d a.0)).1.1.0 in
-      let u : unbuilt_at q.pattern ≡ None = unbuilt_at-built q.pattern part in
-      let passed : pattern_refusal ns q.pattern ≡ None =
-      λ y. or_else (u y) (or_else (keys y) (or_else (e.0 y) (or_else (bad.0 y) (or_else (h.0 y) (or_else (escapes.0 y) None))))) in
-      let es = ends_in q.pattern in
-      let among = (parts-ask K.ends d (items.head ∷ q.language ∷ q.pattern ∷ q.host ∷ []) items.are asked).1.1.0 in
-      let clear = (parts-readable d (items.head ∷ q.language ∷ q.pattern ∷ q.host ∷ []) items.are readable).1.1.0 in
-      let over = read-over K crossed q.language es c.0 among in
+      let z : PatternPasses q.language q.pattern =
+      record {
+        within = third-within items.head q.language q.pattern (q.host ∷ []) items.are a.0;
+        known = c.0;
+        keys = shape-by (is_symbol q.language) q b.0;
+        binders = e.0;
+        places = bad.0;
+        depths = h.0;
+        escapes = escapes.0;
+      }
+      in
       and_both (is_valid_pattern (language_named K.program (text_of q.language)) p) (is_valid_host C (host_of_datum K q.host))
-      (ap (λ (o : Option Language). is_valid_pattern o p) over ∙ pattern_well_formed B es q.pattern clear (λ y j. j) passed)
-      (host-valid K q.host bad.1 i.0)
+      (pattern-valid q.language q.pattern z) (host-valid K q.host bad.1 i.0)
 
   -- whatever kind of query it is
   match-valid : (make : List ℕ → Pattern → Host → Query)
@@ -177,6 +221,118 @@ module _ (K : Known) (crossed : AreCrossed K.program.languages K.ends) (paired :
       let f : query_over K make c ≡ q = cc in
       subst (λ (x : Query). is_valid_query A x ≡ true) f
       (same (text_of c.language) (reading (names_of (named_base K (Some c.language))) position.Query c.pattern) (host_of_datum K c.host) ∙ query-valid c e r)
+
+  -- ---- generated terms
+
+  -- the pattern does not go beyond the form
+  pattern-within : (q : GenerateParts) → GenerateItems (parts d) q → unbuilt_at d ≡ None → IsWithin q.pattern
+  pattern-within q items u = third-within items.head q.language q.pattern (q.third ∷ q.options) items.are u
+
+  -- a host expression fits where the names of the pattern are bound
+  bound-valid : (q : GenerateParts) → PatternPasses q.language q.pattern → bad_host_at (host_stands K (Some q)) ≡ None
+      → check_depth_at (names_over K (Some q)) (bound_over K (Some q)) (pattern_stands (Some q)) (host_stands K (Some q)) ≡ None
+      → check_undriven_at K (bound_over K (Some q)) (host_stands K (Some q)) ≡ None
+      → fits_where C (reading (names_over K (Some q)) position.Query q.pattern) (host_reading K.scope (bound_over K (Some q)) q.third) ≡ true
+  bound-valid q z e f g =
+      let ns = names_over K (Some q) in
+      let os = occurrences 0 q.pattern in
+      let bs = bound_in ns q.pattern in
+      let p = reading ns position.Query q.pattern in
+      let ps = host_parts K.scope (names_bound bs) 0 q.third in
+      let written = pattern-written q.pattern z.within.clear.nested z.within.clear.spelled in
+      let binders = nothing (named BadName) (bad_binders os) z.binders in
+      let places = nothing (unnamed BadPattern) (bad_occurrences ns os) z.places in
+      let makes = (reading-makes ns position.Query 0 q.pattern (are-passed ns 4294967296 os written binders places)).0 in
+      let shallow = (none_or (depth_clash_at ns os) (option_map (named EllipsisDepth) (earliest start (shallow_parts (names_bound bs) ps))) f).1 in
+      host-uses K.scope ns bs (uses 0 p) q.third makes
+      (record {
+        places = earliest-none start (unnamed BadPattern) (bad_parts ps) e;
+        depths = earliest-none start (named EllipsisDepth) (shallow_parts (names_bound bs) ps) shallow;
+        driving = earliest-none start (unnamed EllipsisVariable) (undriven_parts K.scope (names_bound bs) ps) g;
+      })
+
+  -- a form that generates a term
+  generate-valid : (o : Option GenerateParts) (q : Query) → generate_parts d ≡ o → generate_refusal K d o ≡ None
+      → option_map (generate_over K) o ≡ Some q → is_valid_query A q ≡ true
+  generate-valid None q e r m = absurd cc
+  generate-valid (Some c) q e r m =
+      let f : generate_over K c ≡ q = cc in
+      let ns = names_over K (Some c) in
+      let os = occurrences 0 c.pattern in
+      let faults = size_faults c.third ++ option_faults generate_options c.options in
+      let a = none_or (unbuilt_at d) _ r in
+      let b = none_or (generate_shape_at d (Some c)) _ a.1 in
+      let s = none_or (keyword_at os) (numbers_at faults) b.0 in
+      let k = none_or (unknown_at K (Some c.language)) _ b.1 in
+      let l = none_or (bad_binder_at os) _ k.1 in
+      let g = none_or (bad_occurrence_at ns os) _ l.1 in
+      let h = none_or (depth_clash_at ns os) _ g.1 in
+      let i = none_or (escape_at os) None h.1 in
+      let numbers = none_both (size_faults c.third) (option_faults generate_options c.options) (earliest-none start (unnamed Shape) faults s.1) in
+      let z : PatternPasses c.language c.pattern =
+      record {
+        within = pattern-within c (generate-items d c e) a.0;
+        known = k.0;
+        keys = s.0;
+        binders = l.0;
+        places = g.0;
+        depths = h.0;
+        escapes = i.0;
+      }
+      in
+      let p = reading ns position.Query c.pattern in
+      let size = number_or 0 (number c.third) in
+      let seed = number_or usual_seed (option_number seed_option c.options) in
+      subst (λ (x : Query). is_valid_query A x ≡ true) f
+      (and_both (is_valid_pattern (language_named K.program (text_of c.language)) p) (nat_lt size 31 && nat_lt seed 18_446_744_073_709_551_616)
+      (pattern-valid c.language c.pattern z)
+      (and_both (nat_lt size 31) (nat_lt seed 18_446_744_073_709_551_616) (size-small c.third numbers.0) (seed-small c.options)))
+
+  -- one that checks a property
+  check-valid : (o : Option GenerateParts) (q : Query) → check_parts d ≡ o → check_refusal K d o ≡ None
+      → option_map (check_over K) o ≡ Some q → is_valid_query A q ≡ true
+  check-valid None q e r m = absurd cc
+  check-valid (Some c) q e r m =
+      let f : check_over K c ≡ q = cc in
+      let ns = names_over K (Some c) in
+      let bs = bound_over K (Some c) in
+      let os = occurrences 0 c.pattern in
+      let ps = host_stands K (Some c) in
+      let faults = option_faults check_options c.options in
+      let a = none_or (unbuilt_at d) _ r in
+      let b = none_or (check_shape_at d (Some c)) _ a.1 in
+      let s = none_or (or_else (keyword_at os) (host_shape_at c.third)) (numbers_at faults) b.0 in
+      let k = none_or (unknown_at K (Some c.language)) _ b.1 in
+      let l = none_or (bad_binder_at os) _ k.1 in
+      let g = none_or (or_else (bad_occurrence_at ns os) (bad_host_at ps)) _ l.1 in
+      let h = none_or (check_depth_at ns bs os ps) _ g.1 in
+      let j = none_or (check_undriven_at K bs ps) _ h.1 in
+      let i = none_or (or_else (escape_at os) (host_escape_at ps)) None j.1 in
+      let places = none_or (bad_occurrence_at ns os) (bad_host_at ps) g.0 in
+      let depths = none_or (depth_clash_at ns os) _ h.0 in
+      let z : PatternPasses c.language c.pattern =
+      record {
+        within = pattern-within c (check-items d c e) a.0;
+        known = k.0;
+        keys = (none_or (keyword_at os) (host_shape_at c.third) s.0).0;
+        binders = l.0;
+        places = places.0;
+        depths = depths.0;
+        escapes = (none_or (escape_at os) (host_escape_at ps) i.0).0;
+      }
+      in
+      let p = reading ns position.Query c.pattern in
+      let x = host_reading K.scope bs c.third in
+      let attempts = number_or usual_attempts (option_number attempts_option c.options) in
+      let seed = number_or usual_seed (option_number seed_option c.options) in
+      let many = and_true (nat_lt 0 attempts) (nat_lt attempts 100_001) (attempts-within c.options (earliest-none start (unnamed Shape) faults s.1)) in
+      let small = nat_lt seed 18_446_744_073_709_551_616 in
+      subst (λ (x : Query). is_valid_query A x ≡ true) f
+      (and_both (is_valid_pattern (language_named K.program (text_of c.language)) p)
+      (fits_where C p x && (nat_lt 0 attempts && (nat_lt attempts 100_001 && small)))
+      (pattern-valid c.language c.pattern z)
+      (and_both (fits_where C p x) (nat_lt 0 attempts && (nat_lt attempts 100_001 && small)) (bound-valid c z places.1 h.0 j.0)
+      (and_both (nat_lt 0 attempts) (nat_lt attempts 100_001 && small) many.0 (and_both (nat_lt attempts 100_001) small many.1 (seed-small c.options)))))
 
   -- ---- premises
 
@@ -391,6 +547,8 @@ module _ (K : Known) (crossed : AreCrossed K.program.languages K.ends) (paired :
   by_kind (asks kind.reducts) q r m = steps-valid reducts (λ x h. refl) (step_parts d) q r m
   by_kind (asks kind.tagged) q r m = steps-valid tagged (λ x h. refl) (step_parts d) q r m
   by_kind (asks kind.stepper) q r m = steps-valid stepper (λ x h. refl) (step_parts d) q r m
+  by_kind (asks kind.generate) q r m = generate-valid (generate_parts d) q refl r m
+  by_kind (asks kind.check) q r m = check-valid (check_parts d) q refl r m
   by_kind (asks kind.test_equal) q r m = equal-valid (equal_parts d) q r m
   by_kind (asks kind.test_step) q r m = leading-valid test_step (λ x h ks. refl) (leading_parts d) q r m
   by_kind (asks kind.test_run) q r m = leading-valid test_run (λ x h ks. refl) (leading_parts d) q r m

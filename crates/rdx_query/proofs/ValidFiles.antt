@@ -1,7 +1,7 @@
 -- The program of a file that is accepted is valid, and so are its queries.
 use Rattle.std.proofs.Common.{◌≡◌, ◌∙◌, ◌+◌, ◌*◌, ◌≤◌, ◌++◌, ℕ, inl, inr, Bool, true, false, List, [], ◌∷◌, Option, Some, None, IsTrue, refl, sym, ap, subst, arith, if◌then◌else◌}
 use Rattle.std.specs.List.{list_all}
-use Rattle.std.specs.Prelude.{◌&&◌, flat_map, is_some, option_map, bytes_eq}
+use Rattle.std.specs.Prelude.{◌&&◌, nat_lt, flat_map, is_some, option_map, bytes_eq}
 use Rattle.rdx_sexp.specs.Sexp.{Sexp, sexps, sexp_nodes, sexps_nodes}
 use Rattle.rdx_sexp.specs.Size.{sexps_depth, AreSpelled, AreFileData}
 use Rattle.rdx_lang.proofs.Collecting.{only}
@@ -26,8 +26,8 @@ use Rattle.rdx_query.specs.File.{Accepts, accepts_none, accepts_definition, acce
 use Rattle.rdx_forms.specs.Before.{known_before}
 use Rattle.rdx_forms.specs.Fitting.{IsCrossedTo}
 use Rattle.rdx_forms.specs.Known.{Known, with_definition, judgement_language}
-use Rattle.rdx_answer.specs.Queries.{Query, matches, whether, splits, value, holds, reducts, tagged, stepper, test_equal, test_step, test_run, test_match, test_holds, test_results}
-use Rattle.rdx_query.specs.ValidQueries.{Askable, is_valid_host, is_valid_pattern, is_valid_premise, fits_behind, is_valid_query, judged_language, askable_in, are_valid_queries}
+use Rattle.rdx_answer.specs.Queries.{Query, matches, whether, splits, value, holds, reducts, tagged, stepper, generate, check, test_equal, test_step, test_run, test_match, test_holds, test_results}
+use Rattle.rdx_query.specs.ValidQueries.{Askable, is_valid_host, is_valid_pattern, is_valid_premise, fits_behind, fits_where, is_valid_query, judged_language, askable_in, are_valid_queries}
 use Rattle.rdx_query.proofs.AcceptedScopes.{IsScopeIn, accepted-scope, scope-callable}
 use Rattle.rdx_query.proofs.DistinctDefinitions.{distinct-more}
 use Rattle.rdx_query.proofs.FittingKnown.{is_crossed}
@@ -172,6 +172,10 @@ module _ (C : Callable) (f g : List ℕ → Option Language) (r : List ℕ → B
   query-stays (reducts x h) v = named-stays x (is_valid_host C h) v
   query-stays (tagged x h) v = named-stays x (is_valid_host C h) v
   query-stays (stepper x h) v = named-stays x (is_valid_host C h) v
+  query-stays (generate x p size seed) v = pattern-stays x p (nat_lt size 31 && nat_lt seed 18_446_744_073_709_551_616) v
+  query-stays (check x p h attempts seed) v =
+      pattern-stays x p
+      (fits_where C p h && (nat_lt 0 attempts && (nat_lt attempts 100_001 && nat_lt seed 18_446_744_073_709_551_616))) v
   query-stays (test_equal h k) v = v
   query-stays (test_step x h ks) v = named-stays x (is_valid_host C h && list_all (is_valid_host C) ks) v
   query-stays (test_run x h ks) v = named-stays x (is_valid_host C h && list_all (is_valid_host C) ks) v

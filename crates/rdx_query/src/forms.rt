@@ -14,10 +14,11 @@ use crate::Query;
 use crate::kind::{DefinitionKind, FormKind, PassedKind, QueryKind, TestKind, form_kind};
 use rdx_defs::ReadPremise;
 use rdx_forms::{
-    Asked, Known, Leading, Same, Stepping, add_judgement, add_language, add_metafunction,
-    add_relation, check_offers, check_results, check_wants, define_extension, define_judgement,
-    define_language, define_metafunction, define_relation, read_equal, read_holds, read_holds_test,
-    read_leading, read_query, read_steps, read_unbound,
+    Asked, Checking, Generating, Known, Leading, Same, Stepping, add_judgement, add_language,
+    add_metafunction, add_relation, check_offers, check_results, check_wants, define_extension,
+    define_judgement, define_language, define_metafunction, define_relation, read_check,
+    read_equal, read_generate, read_holds, read_holds_test, read_leading, read_query, read_steps,
+    read_unbound,
 };
 use rdx_patterns::refusal::unnamed;
 use rdx_patterns::{DefFault, DefKind};
@@ -153,6 +154,25 @@ fn question(
         QueryKind::Stepper => {
             let Stepping { relation, host } = read_steps(alloc, known, form)?;
             Ok(Query::Stepper(relation, host))
+        }
+        QueryKind::Generate => {
+            let Generating {
+                name,
+                pat,
+                size,
+                seed,
+            } = read_generate(alloc, known, form)?;
+            Ok(Query::Generate(name, pat, size, seed))
+        }
+        QueryKind::Check => {
+            let Checking {
+                name,
+                pat,
+                host,
+                attempts,
+                seed,
+            } = read_check(alloc, known, form)?;
+            Ok(Query::Check(name, pat, host, attempts, seed))
         }
         QueryKind::Test(kind) => test(alloc, known, kind, form),
     }

@@ -41,6 +41,10 @@ pub enum QueryKind {
     Tagged,
     /// A walk of steps: `stepper`.
     Stepper,
+    /// A term generated of a pattern: `generate-term`.
+    Generate,
+    /// Whether a host expression makes `#f` for one of many: `redex-check`.
+    Check,
     /// Whether a test passes, or how many did.
     Test(TestKind),
 }
@@ -103,6 +107,8 @@ fn kind_by_text(head: &str) -> FormKind
         "apply-reduction-relation" => FormKind::Asks(QueryKind::Reducts),
         "apply-reduction-relation/tag-with-names" => FormKind::Asks(QueryKind::Tagged),
         "stepper" => FormKind::Asks(QueryKind::Stepper),
+        "generate-term" => FormKind::Asks(QueryKind::Generate),
+        "redex-check" => FormKind::Asks(QueryKind::Check),
         "test-equal" => FormKind::Asks(QueryKind::Test(TestKind::Equal)),
         "test-->" => FormKind::Asks(QueryKind::Test(TestKind::Step)),
         "test-->>" => FormKind::Asks(QueryKind::Test(TestKind::Run)),
@@ -112,7 +118,7 @@ fn kind_by_text(head: &str) -> FormKind
         "test-results" => FormKind::Asks(QueryKind::Test(TestKind::Results)),
         "require" => FormKind::Passes(PassedKind::Wants),
         "provide" => FormKind::Passes(PassedKind::Offers),
-        "generate-term" | "redex-check" | "alpha-equivalent?" | "substitute" => FormKind::ToCome,
+        "alpha-equivalent?" | "substitute" => FormKind::ToCome,
         _ => FormKind::Asks(QueryKind::Value),
     }
 }

@@ -27,6 +27,7 @@ pub fn one_text()
     rdx_eval::laws::one_meeting();
     rdx_reduce::laws::one_stepping();
     rdx_run::laws::one_walk();
+    rdx_gen::laws::one_answer();
 }
 
 /// The data of a file have one refusal at most.
@@ -61,6 +62,7 @@ pub fn some_text_or_refusal()
     rdx_eval::laws::one_meeting();
     rdx_reduce::laws::one_stepping();
     rdx_run::laws::some_walk();
+    rdx_gen::laws::some_answer();
 }
 
 /// The examples of `specs/Examples.antt` hold.

@@ -16,6 +16,8 @@ mod definitions;
 #[cfg(test)]
 mod ends;
 #[cfg(test)]
+mod generated;
+#[cfg(test)]
 mod languages;
 #[cfg(test)]
 mod making;

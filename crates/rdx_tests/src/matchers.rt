@@ -85,6 +85,8 @@ fn pattern_in(query: &Query) -> Option<(&Name, &CheckedPat, &HostExpr)> {
         | Query::Reducts(_, _)
         | Query::Tagged(_, _)
         | Query::Stepper(_, _)
+        | Query::Generate(_, _, _, _)
+        | Query::Check(_, _, _, _, _)
         | Query::TestEqual(_, _)
         | Query::TestStep(_, _, _)
         | Query::TestRun(_, _, _)

@@ -3,6 +3,7 @@ use Rattle.std.specs.Prelude.{Bool, true, false, List, [], ◌∷◌, Option, So
 use Rattle.rdx_patterns.specs.Parts.{parts, is_symbol}
 use Rattle.rdx_parts.specs.Headed.{headed}
 use Rattle.rdx_sexp.specs.Sexp.{Sexp}
+use Rattle.rdx_forms.specs.GenerateForms as generating
 use Rattle.rdx_forms.specs.HoldsForms as holding
 use Rattle.rdx_forms.specs.MatchForms as matching
 use Rattle.rdx_forms.specs.DefineParts as defining
@@ -14,6 +15,7 @@ use Rattle.rdx_forms.specs.declared.parts.DefineKind as code_kind
 use Rattle.rdx_forms.specs.declared.parts.DefineKind.TheVariants.{Cases, Contexts, Crosses}
 use Rattle.rdx_forms.specs.declared.parts.DefineParts.{DefineParts}
 use Rattle.rdx_forms.specs.declared.parts.EqualParts.{EqualParts}
+use Rattle.rdx_forms.specs.declared.parts.GenerateParts.{GenerateParts}
 use Rattle.rdx_forms.specs.declared.parts.HoldsParts.{HoldsParts}
 use Rattle.rdx_forms.specs.declared.parts.LeadingParts.{LeadingParts}
 use Rattle.rdx_forms.specs.declared.parts.QueryParts.{QueryParts}
@@ -22,6 +24,10 @@ use Rattle.rdx_forms.specs.declared.parts.StepParts.{StepParts}
 -- the parts of a query that parts of the code stand for
 abbrev pub parts_of : QueryParts → matching.QueryParts
 parts_of q = record { language = q.language.now; pattern = q.pattern.now; host = q.host.now }
+
+-- those of a form that generates a term or checks a property
+abbrev pub generate_of : GenerateParts → generating.GenerateParts
+generate_of q = record { language = q.language.now; pattern = q.pattern.now; third = q.third.now; options = q.options.now }
 
 -- those of a form that asks for steps
 abbrev pub steps_of : StepParts → stepping.StepParts

@@ -7,7 +7,7 @@ use Rattle.rdx_query.specs.declared.kind.FormKind.TheVariants.{Defines, Asks, Pa
 use Rattle.rdx_query.specs.declared.kind.PassedKind.{PassedKind}
 use Rattle.rdx_query.specs.declared.kind.PassedKind.TheVariants.{Wants, Offers}
 use Rattle.rdx_query.specs.declared.kind.QueryKind.{QueryKind}
-use Rattle.rdx_query.specs.declared.kind.QueryKind.TheVariants.{Match, Whether, Decompose, Value, Holds, Reducts, Tagged, Stepper, Test}
+use Rattle.rdx_query.specs.declared.kind.QueryKind.TheVariants.{Match, Whether, Decompose, Value, Holds, Reducts, Tagged, Stepper, Generate, Check, Test}
 use Rattle.rdx_query.specs.declared.kind.TestKind.{TestKind}
 use Rattle.rdx_query.specs.declared.kind.TestKind.TheVariants as tests
 
@@ -39,6 +39,8 @@ query_kind_of Holds = model.holds
 query_kind_of Reducts = model.reducts
 query_kind_of Tagged = model.tagged
 query_kind_of Stepper = model.stepper
+query_kind_of Generate = model.generate
+query_kind_of Check = model.check
 query_kind_of (Test k) = test_kind_of k
 
 -- what is passed over

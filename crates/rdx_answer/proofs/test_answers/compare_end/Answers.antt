@@ -1,4 +1,4 @@
-use Rattle.std.proofs.Common.{◌≡◌, ◌∙◌, List, [], ◌∷◌, Some, map, refl, ap, subst, Bor}
+use Rattle.std.proofs.Common.{◌≡◌, Some, refl, ap, subst, Bor}
 use Rattle.std.specs.Prelude.{Err}
 use Rattle.rdx_term.specs.Tree.{Tree}
 use Rattle.rdx_term.specs.View.{tree_of}
@@ -13,7 +13,6 @@ use Rattle.rdx_run.specs.Views.{SaysEnd}
 use Rattle.rdx_run.specs.declared.run.RunFault.{RunFault}
 use Rattle.rdx_answer.specs.AnswerText.{branches_line, bound_line}
 use Rattle.rdx_answer.specs.TestAnswers.{rest_compared, run_fails, run_branches, run_is_bound}
-use Rattle.rdx_answer.specs.Tests.{Compares}
 use Rattle.rdx_answer.proofs.test_answers.compare_end.Goals as goal
 
 pub returns-in_ok-compare_rest-in-Ok-clause-answer : goal.returns-in_ok-compare_rest-in-Ok-clause-answer

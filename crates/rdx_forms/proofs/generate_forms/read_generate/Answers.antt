@@ -1,0 +1,74 @@
+use Rattle.std.proofs.Common.{◌≡◌, Some, None, sym, ap, subst, ◌∙◌}
+use Rattle.std.proofs.lemmas.Result.{err_from_is_err_and}
+use Rattle.rdx_lang.specs.Checked.{language_in}
+use Rattle.rdx_lang.specs.Patterns.{Language}
+use Rattle.rdx_lang.specs.Programs.{language_named}
+use Rattle.rdx_patterns.specs.Answers.{ReadsPattern}
+use Rattle.rdx_patterns.specs.Nonterminals.{names_of}
+use Rattle.rdx_patterns.specs.Parts.{text_of}
+use Rattle.rdx_forms.specs.Faults.{IsFaultAt}
+use Rattle.rdx_forms.specs.GenerateForms.{generate_parts, generate_refusal}
+use Rattle.rdx_forms.specs.KnownView.{known_of}
+use Rattle.rdx_forms.specs.Inside.Generating.{GenerateNumbers}
+use Rattle.rdx_forms.specs.Inside.PartViews.{generate_of}
+use Rattle.rdx_forms.proofs.FormParts.{generate-items}
+use Rattle.rdx_forms.proofs.GenerateChecks.{items-readable, items-ask, generate-unknown, generate-fault, generate-asked}
+use Rattle.rdx_forms.proofs.QueryChecks.{language_named-name}
+use Rattle.rdx_forms.proofs.generate_forms.read_generate.Goals as goal
+
+pub returns-in_err-parts-clause-asks : goal.returns-in_err-parts-clause-asks
+returns-in_err-parts-clause-asks c =
+    let K = known_of c.args.known.now in
+    let p = err_from_is_err_and c.from_residual.result c.from_residual.ensures.1 in
+    rw (p.1, p.2) (subst (λ o. IsFaultAt (generate_refusal K c.args.form.now o) c.in_err-parts.field-0.0) c.sized_parts.ensures (c.in_err-parts.ensures.generate K))
+
+pub read_over-pat-requires-clause-readable : goal.read_over-pat-requires-clause-readable
+read_over-pat-requires-clause-readable c =
+    let q = generate_of c.in_ok-parts.parts in
+    let e : generate_parts c.args.form.now ≡ Some q = sym c.sized_parts.ensures ∙ c.in_ok-parts.ensures.parts in
+    (items-readable c.args.form.now q (generate-items c.args.form.now q e) c.requires.readable).0
+
+pub read_over-pat-requires-clause-ends : goal.read_over-pat-requires-clause-ends
+read_over-pat-requires-clause-ends c =
+    let q = generate_of c.in_ok-parts.parts in
+    let e : generate_parts c.args.form.now ≡ Some q = sym c.sized_parts.ensures ∙ c.in_ok-parts.ensures.parts in
+    items-ask (known_of c.args.known.now).ends c.args.form.now q (generate-items c.args.form.now q e) c.requires.ends
+
+pub returns-in_err-pat-in-Some-clause-asks : goal.returns-in_err-pat-in-Some-clause-asks
+returns-in_err-pat-in-Some-clause-asks c =
+    let q = generate_of c.in_ok-parts.parts in
+    let K = known_of c.args.known.now in
+    let l = c.index.result.now in
+    let e : generate_parts c.args.form.now ≡ Some q = sym c.sized_parts.ensures ∙ c.in_ok-parts.ensures.parts in
+    let k : language_named K.program (text_of q.language) ≡ Some (language_in l) = ap (language_named K.program) (sym c.text.ensures) ∙ c.in-Some.ensures.some l c.index.ensures in
+    let p = err_from_is_err_and c.from_residual-in_err-pat-in-Some.result c.from_residual-in_err-pat-in-Some.ensures.1 in
+    rw (p.1, p.2) (generate-fault K c.args.form.now q e c.in_ok-parts.ensures.built (language_in l) c.read_over-pat.result c.read_generating-numbers.result
+    c.in_err-pat-in-Some.field-0.0 k (c.read_over-pat.ensures.reads l c.index.ensures) c.read_generating-numbers.ensures c.in_err-pat-in-Some.ensures.refused)
+
+pub returns-in_ok-pat-in-Some-clause-asks : goal.returns-in_ok-pat-in-Some-clause-asks
+returns-in_ok-pat-in-Some-clause-asks c =
+    let q = generate_of c.in_ok-parts.parts in
+    let K = known_of c.args.known.now in
+    let l = c.index.result.now in
+    let e : generate_parts c.args.form.now ≡ Some q = sym c.sized_parts.ensures ∙ c.in_ok-parts.ensures.parts in
+    let k : language_named K.program (text_of q.language) ≡ Some (language_in l) = ap (language_named K.program) (sym c.text.ensures) ∙ c.in-Some.ensures.some l c.index.ensures in
+    generate-asked K c.args.form.now q e c.in_ok-parts.ensures.built (language_in l) c.in_ok-pat-in-Some.pat c.in_ok-pat-in-Some.numbers c.in_ok-name-in-Some.name k
+    (subst (ReadsPattern (names_of (language_in l)) q.pattern) c.in_ok-pat-in-Some.ensures.read.0 (c.read_over-pat.ensures.reads l c.index.ensures))
+    (subst (GenerateNumbers q) c.in_ok-pat-in-Some.ensures.read.1 c.read_generating-numbers.ensures)
+    (c.in_ok-name-in-Some.ensures ∙ ap (λ (M : Language). M.name) c.language.ensures.value ∙ language_named-name K.program (text_of q.language) (language_in l) k)
+
+pub read_pattern-pat-requires : goal.read_pattern-pat-requires
+read_pattern-pat-requires c =
+    let q = generate_of c.in_ok-parts.parts in
+    let e : generate_parts c.args.form.now ≡ Some q = sym c.sized_parts.ensures ∙ c.in_ok-parts.ensures.parts in
+    (items-readable c.args.form.now q (generate-items c.args.form.now q e) c.requires.readable).0
+
+pub returns-in_ok-unknown-in-None-clause-asks : goal.returns-in_ok-unknown-in-None-clause-asks
+returns-in_ok-unknown-in-None-clause-asks c =
+    let q = generate_of c.in_ok-parts.parts in
+    let K = known_of c.args.known.now in
+    let e : generate_parts c.args.form.now ≡ Some q = sym c.sized_parts.ensures ∙ c.in_ok-parts.ensures.parts in
+    let n : language_named K.program (text_of q.language) ≡ None = ap (language_named K.program) (sym c.text.ensures) ∙ c.in-None.ensures.none in
+    generate-unknown K c.args.form.now q e c.in_ok-parts.ensures.built (names_of (language_in c.in_ok-empty-in-None.empty)) c.in_ok-unknown-in-None.unknown
+    c.read_pattern-pat.result c.read_generating-numbers.result c.both-in-None.result c.first_fault.result n c.in_ok-empty-in-None.ensures c.in_ok-unknown-in-None.ensures
+    c.read_pattern-pat.ensures.reads c.read_generating-numbers.ensures c.both-in-None.ensures.refused c.first_fault.ensures
