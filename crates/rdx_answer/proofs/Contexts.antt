@@ -10,7 +10,7 @@ use Rattle.rdx_answer.specs.Inside.Contexts.{HaveContexts}
 
 -- those of a listing are
 pub listed-contexts : (L : Language) (p : Pattern) (t : Tree) (ds : List Decomposition) → Splits L p t ds → HaveContexts ds
-listed-contexts L p t ds l d i = (split-fills (l.sound d i)).context
+listed-contexts L p t ds l d i = (split-fills (l.sound d i).holds).context
 
 -- the image of an element is a member of the images
 pub member_at : {A B : Type 0} (f : A → B) (xs : List A) (i : ℕ) (x : A) → i < length xs → x ≡ get_or xs i x → In (f x) (map f xs)

@@ -3,7 +3,7 @@ use Rattle.std.proofs.Common.{◌≡◌, Bool, true, false, List, [], ◌∷◌,
 use Rattle.std.proofs.Math.Bool.{beq}
 use Rattle.rdx_term.specs.Tree.{Tree}
 use Rattle.rdx_lang.proofs.RuleSteps.{closed_inside}
-use Rattle.rdx_lang.specs.Bindings.{Binding, no_names}
+use Rattle.rdx_lang.specs.Bindings.{Binding, no_names, visible}
 use Rattle.rdx_lang.specs.Edges.{IsFree}
 use Rattle.rdx_lang.specs.Laws.{SomeListing}
 use Rattle.rdx_lang.specs.Listing.{Matches}
@@ -22,10 +22,12 @@ none_in b i = elim i [ ]
 some_as_closed : (L : Language) (p : Pattern) (t : Tree) (bs cs : List Binding) → Matches L p t bs → Matches L (closed p) t cs → are_some cs ≡ are_some bs
 some_as_closed L p t [] [] m n = refl
 some_as_closed L p t (b ∷ bs) (c ∷ cs) m n = refl
-some_as_closed L p t (b ∷ bs) [] m n = absurd (none_in no_names (n.complete no_names (match_closed (m.sound b (here refl)))))
+some_as_closed L p t (b ∷ bs) [] m n =
+    let s = m.sound b (here refl) in
+    absurd (none_in no_names (n.complete no_names (record { whole = no_names; holds = match_closed s.holds; seen = refl })))
 some_as_closed L p t [] (c ∷ cs) m n =
-    let s = (closed_inside (n.sound c (here refl))).0 in
-    absurd (none_in s.binding (m.complete s.binding s.matched))
+    let s = (closed_inside (n.sound c (here refl)).holds).0 in
+    absurd (none_in (visible s.binding) (m.complete (visible s.binding) (record { whole = s.binding; holds = s.matched; seen = refl })))
 
 -- so what tells whether it does tells it of the part
 pub whether_closed : SomeListing → (L : Language) (p : Pattern) (t : Tree) (b : Bool) → IsFree L → TellsWhether L (closed p) t b → TellsWhether L p t b

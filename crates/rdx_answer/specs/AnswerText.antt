@@ -54,14 +54,18 @@ abbrev pub pair_text : Pair → List ℕ
 pair_text p = p.0 ++ codes " = " ++ value_text p.1
 
 -- each pair with a comma before it
-abbrev pub further_text : Binding → List ℕ
+abbrev pub further_text : List Pair → List ℕ
 further_text [] = []
-further_text (p ∷ b) = codes ", " ++ pair_text p ++ further_text b
+further_text (p ∷ ps) = codes ", " ++ pair_text p ++ further_text ps
 
 -- the pairs with commas between, or `-` where there are none
+abbrev pub pairs_text : List Pair → List ℕ
+pairs_text [] = codes "-"
+pairs_text (p ∷ ps) = pair_text p ++ further_text ps
+
+-- the names of a binding with their values; its mismatch names are not printed
 abbrev pub binding_text : Binding → List ℕ
-binding_text [] = codes "-"
-binding_text (p ∷ b) = pair_text p ++ further_text b
+binding_text b = pairs_text b.pairs
 
 -- ---- splits
 

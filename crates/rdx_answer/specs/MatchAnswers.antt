@@ -8,7 +8,7 @@ use Rattle.rdx_lang.specs.Patterns.{Pattern, Language}
 use Rattle.rdx_answer.specs.AnswerText.{matches_text, whether_text, splits_text}
 use Rattle.rdx_lang.specs.Programs.{Program, language_named}
 
--- found is the listing of the bindings by which p matches t, in the language of this name
+-- found is the listing of what is seen of the bindings by which p matches t, in the language of this name
 pub record Finds (P : Program) (name : List ℕ) (p : Pattern) (t : Tree) (found : List Binding) : Type 0 where
   pub language : Language
   pub known : language_named P name ≡ Some language

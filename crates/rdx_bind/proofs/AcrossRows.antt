@@ -4,7 +4,7 @@ use Rattle.std.proofs.Common.{◌≡◌, ◌∙◌, List, [], ◌∷◌, ◌++�
 use Rattle.std.proofs.lemmas.List.{map-append, take-append-drop}
 use Rattle.std.specs.declared.alloc.Global.{Global}
 use Rattle.rdx_lang.proofs.Collecting.{listing_of, only}
-use Rattle.rdx_lang.proofs.JoinLaws.{unit_left, unit_left-only, unit_right, unit_right-only}
+use Rattle.rdx_lang.proofs.JoinLaws.{join_ascends, no_names-ascends, unit_left, unit_left-only, unit_right, unit_right-only}
 use Rattle.rdx_lang.proofs.Joins.{joined_first, joined_last}
 use Rattle.rdx_lang.proofs.MemberLaws.{in-map}
 use Rattle.rdx_lang.specs.Ascending.{IsAscending}
@@ -30,7 +30,7 @@ RowsAreMaps rows = (row : List Binding) → In row rows → AreMaps row
 
 -- the bindings of the code are finite maps
 pub bindings_are_maps : (bs : List code.Binding) → AreMaps (bindings_of bs)
-bindings_are_maps bs b h = let k = in-map binding_of bs b h in subst HasAscendingNames (sym k.2) k.0.ascending
+bindings_are_maps bs b h = let k = in-map binding_of bs b h in subst HasAscendingNames (sym k.2) (k.0.ascending, k.0.sets)
 
 -- so are those of rows
 pub rows_are_maps : (rows : List (Vec code.Binding Global)) → RowsAreMaps (rows_of rows)
@@ -40,8 +40,8 @@ rows_are_maps rows row h =
 
 -- what comes across rows is a finite map
 pub across_map : (rows : List (List Binding)) (b : Binding) → JoinsAcross rows b → HasAscendingNames b
-across_map [] b across_none = tt
-across_map (row ∷ rows) b (across_row i a j) = j.map
+across_map [] b across_none = no_names-ascends
+across_map (row ∷ rows) b (across_row i a j) = join_ascends j
 
 -- ---- no name
 

@@ -1,4 +1,6 @@
 pub mod Merging
+pub mod MergingTerms
+pub mod MergingSets
 pub mod JoinedPairs
 pub mod ValueColumnLaws
 pub mod Gathering
@@ -10,8 +12,11 @@ pub mod TurnRows
 pub mod TurnLoop
 pub mod TrailOrder
 pub mod SpotOrder
+pub mod Namings
+pub mod NoSets
 pub mod Extended
 pub mod SplitRules
+pub mod Seeing
 pub mod SplitItems
 pub mod AskedRows
 pub mod ColumnLoops

@@ -2,7 +2,7 @@
 use Rattle.std.proofs.Common.{◌≡◌, ℕ, suc, ◌+◌, Option, List, [], ◌∷◌, ◌++◌, length, refl, sym, ◌∙◌, ap, subst, arith}
 use Rattle.rdx_term.specs.Tree.{Tree, Trees, trees}
 use Rattle.rdx_lang.proofs.CollectionLaws.{repetition-ascends}
-use Rattle.rdx_lang.proofs.JoinLaws.{unit_right, unit_right-only, turned_join}
+use Rattle.rdx_lang.proofs.JoinLaws.{join_ascends, unit_right, unit_right-only, turned_join}
 use Rattle.rdx_lang.proofs.Joins.{joined_first, joined_last}
 use Rattle.rdx_lang.proofs.NameLaws.{names-ascend, match-ascends, items-ascends, run-ascends, split-ascends}
 use Rattle.rdx_lang.specs.Bindings.{Binding, HasAscendingNames}
@@ -36,9 +36,9 @@ module _ {L : Language} where
 
   -- what items bind as they split is a finite map
   pub items_split_map : {n : ℕ} {ps : Items} {ts : Trees} {r : Spot} → ItemsSplitAt L n ps ts r → HasAscendingNames r.binding
-  items_split_map (splits_here h g j e) = j.map
-  items_split_map (splits_behind h g j e) = j.map
-  items_split_map (splits_many h e j) = j.map
+  items_split_map (splits_here h g j e) = join_ascends j
+  items_split_map (splits_behind h g j e) = join_ascends j
+  items_split_map (splits_many h e j) = join_ascends j
 
   -- so is what the items behind a run bind
   run_split_map : {n : ℕ} {p : Pattern} {ps : Items} {ts : Trees} {ks : List ℕ} {cs : List Binding} {d : Binding} → RunSplitsAt L n p ps ts ks cs d → HasAscendingNames d

@@ -1,21 +1,31 @@
 -- What a repetition binds whose turns bind one of each row.
-use Rattle.std.proofs.Common.{◌≡◌, ℕ, suc, ◌+◌, inl, inr, List, [], ◌∷◌, ◌++◌, length, Option, Some, None, IfNone, length-append, refl}
-use Rattle.std.proofs.Common.{sym, ap, subst, arith}
+use Rattle.std.proofs.Common.{◌≡◌, ℕ, suc, ◌+◌, ◌⊎◌, inl, inr, List, [], ◌∷◌, ◌++◌, length, Option, Some, None, IfNone, length-append, refl}
+use Rattle.std.proofs.Common.{sym, ◌∙◌, ap, subst, arith}
 use Rattle.std.proofs.lemmas.List.{length-map}
 use Rattle.rdx_lang.proofs.Collecting.{In_along, no_member, only}
 use Rattle.rdx_lang.proofs.CollectionLaws.{AreMaps, BindNames, one_collection}
 use Rattle.rdx_lang.proofs.JoinLaws.{one_join}
+use Rattle.rdx_lang.proofs.MemberLaws.{in-append}
+use Rattle.rdx_lang.proofs.SetJoins.{no_sets_left}
 use Rattle.rdx_lang.specs.Ascending.{IsAscending}
-use Rattle.rdx_lang.specs.Bindings.{len, Binding, bound_names, name_cmp, no_names, one_name}
-use Rattle.rdx_lang.specs.Collections.{IsCollection, IsRepetition, without_length, with_length}
+use Rattle.rdx_lang.specs.Bindings.{len, Mismatch, Binding, bound_names, name_cmp, no_names, one_name, AreSets, HasAscendingNames}
+use Rattle.rdx_lang.specs.Collections.{AreSetsOf, sets_of_none, sets_of_more, IsCollection, IsRepetition, without_length, with_length}
 use Rattle.rdx_lang.specs.Collecting.{Adds, Arises, HasExactly}
-use Rattle.rdx_lang.specs.Join.{IsJoin}
+use Rattle.rdx_lang.specs.Join.{JoinsSets, IsJoin}
 use Rattle.rdx_lang.specs.Members.{In, here, there}
 use Rattle.rdx_bind.proofs.ChoiceLaws.{continued_more}
-use Rattle.rdx_bind.specs.Choices.{IsChoice, choice_end, choice_more, IsLonger, IsContinued, RowsBind, NoneEmpty, IsCounted}
+use Rattle.rdx_bind.specs.Choices.{IsChoice, choice_end, choice_more, IsLonger, IsContinued, RowsBind, ArePlain, RowsArePlain, NoneEmpty, IsCounted}
 use Rattle.rdx_bind.specs.Choices.{not_counted, counted, Repeats}
 use Rattle.rdx_bind.specs.Ends.{rows_around}
 use Rattle.rdx_bind.specs.Rows.{SplitRow, all_matches}
+
+-- ---- loops that test all members
+
+-- one that comes first and passes leaves those behind it
+pub passed : {A : Type 0} (P : A → Type 0) (x y : A) (more : List A) → P y → In x (y ∷ more) ⊎ P x → In x more ⊎ P x
+passed P x y more e (inl (here f)) = inr (subst P (sym f) e)
+passed P x y more e (inl (there h)) = inl h
+passed P x y more e (inr f) = inr f
 
 -- ---- the number of turns
 
@@ -53,9 +63,14 @@ adds_nothing R xs f x = (λ i. inl i, elim [ inl i ↦ i | inr r ↦ absurd (f x
 
 -- ---- choices
 
--- bindings of ascending names are finite maps
-pub names_maps : (xs : List (List ℕ)) (cs : List Binding) → IsAscending name_cmp xs → BindNames xs cs → AreMaps cs
-names_maps xs cs a f b i = subst (λ (ys : List (List ℕ)). IsAscending name_cmp ys) (sym (f b i)) a
+-- a choice of rows that have it has it
+pub choice_has : {P : Binding → Type 0} (rows : List (List Binding)) (cs : List Binding)
+    → ((row : List Binding) → In row rows → (b : Binding) → In b row → P b) → IsChoice rows cs → (b : Binding) → In b cs → P b
+choice_has [] [] h choice_end b i = no_member i
+choice_has [] (c ∷ cs) h k b i = elim k [ ]
+choice_has (row ∷ rows) [] h k b i = elim k [ ]
+choice_has {P} (row ∷ rows) (c ∷ cs) h (choice_more i k) b (here e) = subst P (sym e) (h row (here refl) c i)
+choice_has (row ∷ rows) (c ∷ cs) h (choice_more i k) b (there m) = choice_has rows cs (λ r j. h r (there j)) k b m
 
 -- a choice binds the names of its rows
 pub choice_binds : {xs : List (List ℕ)} (rows : List (List Binding)) (cs : List Binding) → RowsBind xs rows → IsChoice rows cs →
@@ -161,29 +176,69 @@ repeats_exactly h g = record {
   complete = λ c r. g.complete c (record { from = r.turns; among = h.complete r.turns r.choice; by = r.repetition });
 }
 
--- the binding of no name is the collection of no names
-no_collection : (cs : List Binding) → IsCollection [] cs no_names
-no_collection cs = record { names = refl; sequences = λ x v i. no_member i }
+-- bindings without mismatch names have no sets
+no_sets : (cs : List Binding) → ArePlain cs → AreSetsOf cs []
+no_sets [] h = sets_of_none
+no_sets (c ∷ cs) h =
+    sets_of_more (no_sets cs (λ b i. h b (there i)))
+    (subst (λ (ms : List Mismatch). JoinsSets ms [] []) (sym (h c (here refl))) (no_sets_left [] (tt, tt)))
 
--- without names the number of turns alone counts
+-- the binding of no name is the collection of no names, where there are no mismatch names
+no_collection : (cs : List Binding) → ArePlain cs → IsCollection [] cs no_names
+no_collection cs h = record { names = refl; sequences = λ x v i. no_member i; differs = no_sets cs h }
+
+-- what binds no name, and has no mismatch name, is a finite map
+plain_map : (b : Binding) → bound_names b ≡ [] → b.differs ≡ [] → HasAscendingNames b
+plain_map b e f =
+    (subst (λ (xs : List (List ℕ)). IsAscending name_cmp xs) (sym e) tt, subst (λ (ms : List Mismatch). AreSets ms) (sym f) (tt, tt))
+
+-- without names and mismatch names the number of turns alone counts
 pub repeats_unnamed : (xs : List (List ℕ)) (x : Option (List ℕ)) (rows : List (List Binding)) (found : List Binding) → xs ≡ [] →
-    RowsBind xs rows → NoneEmpty rows →
+    RowsBind xs rows → RowsArePlain rows → NoneEmpty rows →
     HasExactly found (IsCounted no_names (length rows) x) → HasExactly found (Repeats xs x rows)
-repeats_unnamed xs x rows found e f h g =
+repeats_unnamed xs x rows found e f w h g =
     record { sound = λ c i. onward c (some_choice rows h) (g.sound c i); complete = λ c r. g.complete c (back c r) }
   where
+    plain : (cs : List Binding) → IsChoice rows cs → ArePlain cs
+    plain cs k = choice_has {P = λ b. b.differs ≡ []} rows cs w k
+
     onward : (c : Binding) → ((cs : List Binding) × IsChoice rows cs) → IsCounted no_names (length rows) x c → Repeats xs x rows c
     onward c p n = record {
       turns = p.0;
       choice = p.1;
-      repetition = counted_repetition (subst (λ (ys : List (List ℕ)). IsCollection ys p.0 no_names) (sym e) (no_collection p.0))
+      repetition = counted_repetition (subst (λ (ys : List (List ℕ)). IsCollection ys p.0 no_names) (sym e) (no_collection p.0 (plain p.0 p.1)))
           (subst (λ (m : ℕ). IsCounted no_names m x c) (sym (choice_length p.1)) n);
     }
 
     unnamed : RowsBind [] rows
     unnamed = subst (λ (ys : List (List ℕ)). RowsBind ys rows) e f
 
+    maps : (cs : List Binding) → IsChoice rows cs → AreMaps cs
+    maps cs k b i = plain_map b (choice_binds rows cs unnamed k b i) (plain cs k b i)
+
     back : (c : Binding) → Repeats xs x rows c → IsCounted no_names (length rows) x c
     back c r = subst (λ (m : ℕ). IsCounted no_names m x c) (choice_length r.choice)
-        (repetition_counted no_names tt (names_maps [] r.turns tt (choice_binds rows r.turns unnamed r.choice)) (no_collection r.turns)
+        (repetition_counted no_names tt (maps r.turns r.choice) (no_collection r.turns (plain r.turns r.choice))
         (subst (λ (ys : List (List ℕ)). IsRepetition ys r.turns x c) e r.repetition))
+
+-- one binding between rows, all without mismatch names
+pub around_plain : (before : List SplitRow) (c : Binding) (between : List SplitRow) → RowsArePlain (all_matches before) → c.differs ≡ []
+    → RowsArePlain (all_matches between) → RowsArePlain (rows_around before c between)
+around_plain before c between f e g row i b k = by_part (in-append (all_matches before) ((c ∷ []) ∷ all_matches between) row i)
+  where
+    of_turn : In b (c ∷ []) → b.differs ≡ []
+    of_turn j = ap (λ (d : Binding). d.differs) (only j) ∙ e
+
+    by_row : In row ((c ∷ []) ∷ all_matches between) → b.differs ≡ []
+    by_row (here h) = of_turn (In_along row (c ∷ []) h k)
+    by_row (there j) = g row j b k
+
+    by_part : In row (all_matches before) ⊎ In row ((c ∷ []) ∷ all_matches between) → b.differs ≡ []
+    by_part (inl j) = f row j b k
+    by_part (inr j) = by_row j
+
+-- what there is no collection of, no repetition binds
+pub never_repeated : {xs : List (List ℕ)} {cs : List Binding} {x : Option (List ℕ)} → ((c : Binding) → ¬ IsCollection xs cs c)
+    → (b : Binding) → ¬ IsRepetition xs cs x b
+never_repeated n b (without_length h) = n b h
+never_repeated n b (with_length {c = c} h j) = n c h

@@ -6,22 +6,24 @@ use Rattle.rdx_term.specs.Path.{path}
 use Rattle.rdx_term.specs.Tree.{Tree}
 use Rattle.rdx_term.proofs.AtPaths.{path-context_at, IsPlace-++, tree_at-++, fill_of-context_at}
 use Rattle.rdx_lang.proofs.Collecting.{listing_of, In_along, only}
-use Rattle.rdx_lang.proofs.RuleSteps.{in_hole_inside, hole_splits, nt_splits, named_splits, in_hole_splits, closed_splits, InHoleSplit}
+use Rattle.rdx_lang.proofs.RuleSteps.{in_hole_inside, hole_splits, nt_splits, in_hole_splits, closed_splits, InHoleSplit}
 use Rattle.rdx_lang.proofs.SplitLaws.{split-along}
 use Rattle.rdx_lang.specs.Bindings.{Binding, no_names}
 use Rattle.rdx_lang.specs.Collecting.{Arises, Adds, HasExactly}
 use Rattle.rdx_lang.specs.Join.{IsJoin}
 use Rattle.rdx_lang.specs.Laws.{IsAlongPath}
 use Rattle.rdx_lang.specs.Decompositions.{Decomposition}
-use Rattle.rdx_lang.specs.Listing.{IsListing, Matches, SplitsInto, Splits}
+use Rattle.rdx_lang.specs.Listing.{IsListing, AllMatches, SplitsInto, AllSplits}
 use Rattle.rdx_lang.specs.Members.{here}
 use Rattle.rdx_lang.specs.Order.{binding_cmp, decomposition_cmp}
-use Rattle.rdx_lang.specs.Patterns.{Pattern, hole, nt, named, in_hole, closed, Language}
-use Rattle.rdx_lang.specs.Rules.{Match, Split, AreAlternatives, match_in_hole, split_hole, split_nt, split_named, split_in_hole, split_closed}
+use Rattle.rdx_lang.specs.Patterns.{Pattern, hole, nt, in_hole, closed, Language}
+use Rattle.rdx_lang.specs.Rules.{Match, Split, AreAlternatives, match_in_hole, split_hole, split_nt, split_in_hole, split_closed}
 use Rattle.rdx_lang.specs.declared.pattern.Ref.{Ref}
 use Rattle.rdx_bind.proofs.Extended.{one_spot}
 use Rattle.rdx_bind.proofs.Gathering.{exactly_as, exactly_sole, adds_as}
+use Rattle.rdx_bind.proofs.Namings.{split_under, under_splits}
 use Rattle.rdx_bind.specs.Combining.{JoinsWith}
+use Rattle.rdx_bind.specs.Namings.{Naming, under}
 use Rattle.rdx_bind.specs.Searching.{AnySplits}
 use Rattle.rdx_bind.specs.Spots.{Spot, SplitsAt}
 use Rattle.rdx_bind.specs.Splitting.{IsNameless, NamesContext, GoesOn, IsSplitAt}
@@ -119,19 +121,19 @@ module _ {L : Language} where
   -- ---- patterns with a name
 
   -- a pattern with a name splits where its part does, and binds the name to the context
-  pub exactly_named : {x : List ℕ} {q : Pattern} {t : Tree} {xs : List Spot} (cs : List Spot) → HasExactly cs (SplitsAt L q t) → HasExactly xs (Arises (NamesContext x t) cs)
-      → HasExactly xs (SplitsAt L (named x q) t)
-  exactly_named {x} {q} {t} cs h = exactly_as sound complete
+  pub exactly_named : (n : Naming) {q : Pattern} {t : Tree} {xs : List Spot} (cs : List Spot) → HasExactly cs (SplitsAt L q t) → HasExactly xs (Arises (NamesContext n t) cs)
+      → HasExactly xs (SplitsAt L (under n q) t)
+  exactly_named n {q} {t} cs h = exactly_as sound complete
     where
-      sound : (s : Spot) → Arises (NamesContext x t) cs s → SplitsAt L (named x q) t s
+      sound : (s : Spot) → Arises (NamesContext n t) cs s → SplitsAt L (under n q) t s
       sound s a =
           let b = h.sound a.from a.among in
-          let there : SplitsAt L (named x q) t (record { path = a.from.path; binding = s.binding }) = record { inside = b.inside; split = split_named b.split a.by.joined } in
-          subst (SplitsAt L (named x q) t) (one_spot (record { path = a.from.path; binding = s.binding }) s (sym a.by.same) refl) there
+          let there : SplitsAt L (under n q) t (record { path = a.from.path; binding = s.binding }) = record { inside = b.inside; split = split_under n b.split a.by.joined } in
+          subst (SplitsAt L (under n q) t) (one_spot (record { path = a.from.path; binding = s.binding }) s (sym a.by.same) refl) there
 
-      complete : (s : Spot) → SplitsAt L (named x q) t s → Arises (NamesContext x t) cs s
+      complete : (s : Spot) → SplitsAt L (under n q) t s → Arises (NamesContext n t) cs s
       complete s k =
-          let i = named_splits k.split in
+          let i = under_splits n k.split in
           let c : Spot = record { path = s.path; binding = i.inside } in
           record { from = c; among = h.complete c (record { inside = k.inside; split = i.split }); by = record { same = refl; joined = i.joined } }
 
@@ -184,7 +186,7 @@ module _ {L : Language} where
 
   -- it matches where the second matches what the first leaves in the hole
   pub listing_in_hole : {q r : Pattern} {t : Tree} {bs : List Binding} (cs : List Spot) → HasExactly cs (SplitsAt L q t)
-      → IsListing binding_cmp bs (Arises (MatchesOn L r t) cs) → Matches L (in_hole q r) t bs
+      → IsListing binding_cmp bs (Arises (MatchesOn L r t) cs) → AllMatches L (in_hole q r) t bs
   listing_in_hole {q} {r} {t} cs h = listing_of sound complete
     where
       sound : (b : Binding) → Arises (MatchesOn L r t) cs b → Match L (in_hole q r) t b
@@ -220,7 +222,7 @@ module _ {L : Language} where
   -- ---- the whole list
 
   -- what the spots stand for is what the pattern splits the term into
-  pub splits_listing : {p : Pattern} {t : Tree} {ds : List Decomposition} (cs : List Spot) → HasExactly cs (SplitsAt L p t) → IsListing decomposition_cmp ds (Arises (IsSplitAt t) cs) → Splits L p t ds
+  pub splits_listing : {p : Pattern} {t : Tree} {ds : List Decomposition} (cs : List Spot) → HasExactly cs (SplitsAt L p t) → IsListing decomposition_cmp ds (Arises (IsSplitAt t) cs) → AllSplits L p t ds
   splits_listing {p} {t} cs h = listing_of sound complete
     where
       sound : (d : Decomposition) → Arises (IsSplitAt t) cs d → SplitsInto L p t d

@@ -2,7 +2,7 @@
 use Rattle.std.proofs.Common.{◌≡◌, ◌∙◌, ◌⊎◌, inl, inr, List, [], ◌∷◌, ◌++◌, refl, sym, subst}
 use Rattle.std.proofs.lemmas.List.{map-append}
 use Rattle.rdx_lang.proofs.Collecting.{In_along, only}
-use Rattle.rdx_lang.proofs.JoinLaws.{one_join, turned_join, unit_right, unit_right-only}
+use Rattle.rdx_lang.proofs.JoinLaws.{one_join, join_ascends, turned_join, unit_right, unit_right-only}
 use Rattle.rdx_lang.proofs.Joins.{joined_first, joined_last}
 use Rattle.rdx_lang.proofs.MemberLaws.{in-map, in-append, append-left, append-right}
 use Rattle.rdx_lang.specs.Bindings.{Binding, no_names, HasAscendingNames}
@@ -34,7 +34,7 @@ AreMapRows rows = (row : SplitRow) → In row rows → IsMapRow row
 
 -- what spots of the code bind is a finite map
 pub spots_are_maps : (spots : List code_spot.Spot) → SpotsAreMaps (spots_of spots)
-spots_are_maps spots s h = let k = in-map spot_of spots s h in subst (λ (z : Spot). HasAscendingNames z.binding) (sym k.2) k.0.binding.ascending
+spots_are_maps spots s h = let k = in-map spot_of spots s h in subst (λ (z : Spot). HasAscendingNames z.binding) (sym k.2) (k.0.binding.ascending, k.0.binding.sets)
 
 -- so is what rows of the code bind
 pub split_rows_are_maps : (rows : List code.Row) → AreMapRows (split_rows_of rows)
@@ -50,8 +50,8 @@ matches_are_maps rows h ms i b j =
 
 -- what a spot of rows binds
 across_spot_map : (rows : List SplitRow) (r : Spot) → SpotsAcross rows r → HasAscendingNames r.binding
-across_spot_map (row ∷ rows) r (across_here i a p) = p.joined.map
-across_spot_map (row ∷ rows) r (across_behind i q j e) = j.map
+across_spot_map (row ∷ rows) r (across_here i a p) = join_ascends p.joined
+across_spot_map (row ∷ rows) r (across_behind i q j e) = join_ascends j
 across_spot_map [] r h = elim h [ ]
 
 -- ---- two parts

@@ -5,7 +5,7 @@ use Rattle.rdx_lang.proofs.Collecting.{listing_of}
 use Rattle.rdx_lang.proofs.RuleSteps.{list_inside}
 use Rattle.rdx_lang.specs.Bindings.{Binding}
 use Rattle.rdx_lang.specs.Collecting.{HasExactly}
-use Rattle.rdx_lang.specs.Listing.{IsListing, Matches}
+use Rattle.rdx_lang.specs.Listing.{IsListing, AllMatches}
 use Rattle.rdx_lang.specs.Order.{binding_cmp}
 use Rattle.rdx_lang.specs.Patterns.{seq, Language}
 use Rattle.rdx_lang.specs.PatternView.{Slot, items_of}
@@ -69,7 +69,7 @@ module _ (L : Language) {slots : List Slot} {t : Tree} {x y z : Part} (cut : IsC
   -- what comes across the rows of all parts is what the list pattern binds
   pub listing_parts_of : {bs : List Binding} (firsts middles lasts : List (List Binding)) → RowsAreMaps firsts → RowsAreMaps middles → BindAcross L x.slots x.terms firsts
       → BindAcross L y.slots y.terms middles → BindAcross L z.slots z.terms lasts → IsListing binding_cmp bs (JoinsAcross (firsts ++ (middles ++ lasts)))
-      → Matches L (seq (items_of slots)) t bs
+      → AllMatches L (seq (items_of slots)) t bs
   listing_parts_of firsts middles lasts v w f g h l =
       let k : BindAcross L (y.slots ++ z.slots) (y.terms ++ z.terms) (middles ++ lasts) = binds_both y.slots z.slots y.terms z.terms middles lasts inner w g h in
       let all : BindAcross L (x.slots ++ (y.slots ++ z.slots)) (x.terms ++ (y.terms ++ z.terms)) (firsts ++ (middles ++ lasts)) =
@@ -93,13 +93,13 @@ module _ (L : Language) {slots : List Slot} {t : Tree} {x y z : Part} (cut : IsC
       (l.other, l.other_matched)
 
   -- where a part does not match, the list pattern binds nothing
-  pub first_unmatched : {bs : List Binding} → Unmatched L x.slots x.terms → bs ≡ [] → Matches L (seq (items_of slots)) t bs
+  pub first_unmatched : {bs : List Binding} → Unmatched L x.slots x.terms → bs ≡ [] → AllMatches L (seq (items_of slots)) t bs
   first_unmatched u e = listing_none e (λ b m. let k = first_matches b m in u k.0 k.1)
 
-  pub middle_unmatched : {bs : List Binding} → Unmatched L y.slots y.terms → bs ≡ [] → Matches L (seq (items_of slots)) t bs
+  pub middle_unmatched : {bs : List Binding} → Unmatched L y.slots y.terms → bs ≡ [] → AllMatches L (seq (items_of slots)) t bs
   middle_unmatched u e = listing_none e (λ b m. let k = middle_matches b m in u k.0 k.1)
 
-  pub last_unmatched : {bs : List Binding} → Unmatched L z.slots z.terms → bs ≡ [] → Matches L (seq (items_of slots)) t bs
+  pub last_unmatched : {bs : List Binding} → Unmatched L z.slots z.terms → bs ≡ [] → AllMatches L (seq (items_of slots)) t bs
   last_unmatched u e = listing_none e (λ b m. let k = last_matches b m in u k.0 k.1)
 
   -- ---- splitting

@@ -1,6 +1,6 @@
 -- What turns bind, from exact lists of what the repetition binds.
 use Rattle.std.proofs.Common.{◌≡◌, ◌∙◌, ℕ, zero, suc, ◌+◌, ◌-◌, ◌<◌, ◌⊎◌, inl, inr, List, [], ◌∷◌, ◌++◌, length, get_or, map, take, drop}
-use Rattle.std.proofs.Common.{Option, refl, sym, ap, subst, arith}
+use Rattle.std.proofs.Common.{Option, Bool as Truth, refl, sym, ap, subst, arith}
 use Rattle.std.proofs.lemmas.List.{get_or-map, take-map, drop-map}
 use Rattle.rdx_lang.proofs.JoinLaws.{one_join, unit_right, unit_right-only}
 use Rattle.rdx_lang.proofs.Collecting.{In_along, no_member, only}
@@ -10,13 +10,13 @@ use Rattle.rdx_lang.specs.Collecting.{Adds, Arises, Combined, HasExactly}
 use Rattle.rdx_lang.specs.Join.{IsJoin}
 use Rattle.rdx_lang.specs.Members.{In, here, there}
 use Rattle.rdx_lang.specs.Shown.{bindings_of}
-use Rattle.rdx_bind.specs.Choices.{NoneEmpty, Repeats, RepeatsWith, RowsBind}
+use Rattle.rdx_bind.specs.Choices.{ArePlain, NoneEmpty, Repeats, RepeatsWith, RowsBind}
 use Rattle.rdx_bind.specs.Combining.{Joined}
 use Rattle.rdx_bind.specs.Ends.{no_row, row_at, rows_around, rows_around_at, IsSpotWith, SplitsCell, SplitsNext, SplitsCellAt}
 use Rattle.rdx_bind.specs.Ends.{SplitsNextAt}
 use Rattle.rdx_bind.specs.Rows.{SplitRow, all_matches, split_row_of, split_rows_of}
 use Rattle.rdx_bind.specs.Spots.{Spot, spots_of}
-use Rattle.rdx_bind.specs.Turns.{BindExactly}
+use Rattle.rdx_bind.specs.Turns.{BindExactly, PlainWhere}
 use Rattle.rdx_bind.specs.declared.rows.Row as code
 use Rattle.rdx_bind.proofs.AcrossRows.{AreMaps}
 
@@ -56,6 +56,13 @@ rows_bind xs cells some h f row b i j =
     let k = in-map (λ (cell : SplitRow). cell.matches) some row i in
     h.matches k.0 b (f k.0 k.1) (In_along row k.0.matches k.2 j)
 
+-- cells among those without mismatch names have none
+pub plain_among : (plain : Truth) (cells some : List SplitRow) → PlainWhere plain cells → ((cell : SplitRow) → In cell some → In cell cells)
+    → PlainWhere plain some
+plain_among plain cells some h f t row i =
+    let k = in-map (λ (cell : SplitRow). cell.matches) some row i in
+    subst ArePlain (sym k.2) (h t k.0.matches (map-in (λ (cell : SplitRow). cell.matches) cells k.0 (f k.0 k.1)))
+
 -- so do the cells from a place on
 pub drop_binds : (xs : List (List ℕ)) (cells : List code.Row) (n : ℕ) → BindExactly xs (split_rows_of cells) →
     BindExactly xs (split_rows_of (drop n cells))
@@ -67,6 +74,16 @@ drop_binds xs cells n h = record {
     among : (cell : SplitRow) → In cell (split_rows_of (drop n cells)) → In cell (split_rows_of cells)
     among cell i =
         drop-in n (split_rows_of cells) cell (In_along (split_rows_of (drop n cells)) (drop n (split_rows_of cells)) (sym (drop-map split_row_of n cells)) i)
+
+-- nor have the first of them
+pub take_plain : (plain : Truth) (cells : List code.Row) (n : ℕ) → PlainWhere plain (split_rows_of cells) → PlainWhere plain (split_rows_of (take n cells))
+take_plain plain cells n h = plain_among plain (split_rows_of cells) (split_rows_of (take n cells)) h
+    (λ cell i. take-in n (split_rows_of cells) cell (In_along (split_rows_of (take n cells)) (take n (split_rows_of cells)) (sym (take-map split_row_of n cells)) i))
+
+-- nor those from a place on
+pub drop_plain : (plain : Truth) (cells : List code.Row) (n : ℕ) → PlainWhere plain (split_rows_of cells) → PlainWhere plain (split_rows_of (drop n cells))
+drop_plain plain cells n h = plain_among plain (split_rows_of cells) (split_rows_of (drop n cells)) h
+    (λ cell i. drop-in n (split_rows_of cells) cell (In_along (split_rows_of (drop n cells)) (drop n (split_rows_of cells)) (sym (drop-map split_row_of n cells)) i))
 
 -- so do cells with a turn between them that does
 pub around_bind : (xs : List (List ℕ)) (before : List SplitRow) (c : Binding) (between : List SplitRow) →

@@ -1,8 +1,8 @@
 -- The columns of bindings of the same names are their collection.
 use Rattle.std.proofs.Common.{◌≡◌, ℕ, zero, suc, ◌+◌, ◌<◌, List, [], ◌∷◌, ◌++◌, append_assoc, length, drop, get_or, map, refl, sym, ◌∙◌, ap, subst, arith, add-one}
 use Rattle.rdx_lang.specs.Ascending.{IsAscending}
-use Rattle.rdx_lang.specs.Bindings.{Value, many, values, Pair, Binding, bound_names, name_cmp, HasAscendingNames}
-use Rattle.rdx_lang.specs.Collections.{AreValuesOf, of_none, of_more, IsSequenceOf, IsCollection}
+use Rattle.rdx_lang.specs.Bindings.{Value, many, values, Pair, Binding, pair_names, bound_names, name_cmp, HaveAscendingNames}
+use Rattle.rdx_lang.specs.Collections.{AreValuesOf, of_none, of_more, IsSequenceOf, AreSetsOf, IsCollection}
 use Rattle.rdx_lang.specs.Members.{In, here, there}
 use Rattle.rdx_bind.specs.Inside.ValueColumns.{pair_at, column, columns_from}
 
@@ -22,13 +22,17 @@ rest_behind (x ∷ xs) ys zero y e = cc
 rest_behind (x ∷ xs) ys (suc i) y e = let k = rest_behind xs ys i y e in rw add-one (rw add-one at k)
 
 -- there are as many pairs as names
-pub as_many_names : (b : Binding) → length (bound_names b) ≡ length b
-as_many_names [] = refl
-as_many_names (p ∷ b) = ap suc (as_many_names b)
+as_many_pairs : (ps : List Pair) → length (pair_names ps) ≡ length ps
+as_many_pairs [] = refl
+as_many_pairs (p ∷ ps) = ap suc (as_many_pairs ps)
+
+-- so there are of a binding
+pub as_many_names : (b : Binding) → length (bound_names b) ≡ length b.pairs
+as_many_names b = as_many_pairs b.pairs
 
 -- so a place of a name is one of a pair
-pub has_place : (b : Binding) (xs : List (List ℕ)) (n : ℕ) → bound_names b ≡ xs → n < length xs → n < length b
-has_place b xs n e h = let k : length xs ≡ length b = ap length (sym e) ∙ as_many_names b in subst (λ (m : ℕ). n < m) k h
+pub has_place : (b : Binding) (xs : List (List ℕ)) (n : ℕ) → bound_names b ≡ xs → n < length xs → n < length b.pairs
+has_place b xs n e h = let k : length xs ≡ length b.pairs = ap length (sym e) ∙ as_many_names b in subst (λ (m : ℕ). n < m) k h
 
 -- what is at a place does not depend on what stands for none
 pub pair_read : {A : Type 0} (f : A → Pair) (xs : List A) (n : ℕ) (x : A) → n < length xs → x ≡ get_or xs n x → pair_at n (map f xs) ≡ f x
@@ -55,25 +59,25 @@ pub columns-next : (xs : List (List ℕ)) (bs : List Binding) (i : ℕ) (x : Lis
 columns-next xs bs i x h e = ap (λ ys. columns_from i ys bs) (rest_from xs i x h e)
 
 -- the names of the columns are the names
-pub columns-names : (n : ℕ) (xs : List (List ℕ)) (bs : List Binding) → bound_names (columns_from n xs bs) ≡ xs
+pub columns-names : (n : ℕ) (xs : List (List ℕ)) (bs : List Binding) → pair_names (columns_from n xs bs) ≡ xs
 columns-names n [] bs = refl
 columns-names n (x ∷ xs) bs = ap (λ ys. x ∷ ys) (columns-names (n + 1) xs bs)
 
 -- so they ascend where the names do
-pub columns_ascend : (xs : List (List ℕ)) (bs : List Binding) → IsAscending name_cmp xs → HasAscendingNames (columns_from 0 xs bs)
+pub columns_ascend : (xs : List (List ℕ)) (bs : List Binding) → IsAscending name_cmp xs → HaveAscendingNames (columns_from 0 xs bs)
 columns_ascend xs bs h = subst (IsAscending name_cmp) (sym (columns-names 0 xs bs)) h
 
--- a binding that has the name x at the n-th place binds it to the value there
-at_place : (b : Binding) (n : ℕ) (x : List ℕ) (xs : List (List ℕ)) → drop n (bound_names b) ≡ x ∷ xs → In (x, (pair_at n b).1) b
+-- pairs that have the name x at the n-th place have it with the value there
+at_place : (ps : List Pair) (n : ℕ) (x : List ℕ) (xs : List (List ℕ)) → drop n (pair_names ps) ≡ x ∷ xs → In (x, (pair_at n ps).1) ps
 at_place [] zero x xs e = absurd cc
 at_place [] (suc n) x xs e = absurd cc
-at_place (p ∷ b) zero x xs e = let f : p.0 ≡ x = cc in here (λ i. (sym f i, p.1))
-at_place (p ∷ b) (suc n) x xs e = there (at_place b n x xs e)
+at_place (p ∷ ps) zero x xs e = let f : p.0 ≡ x = cc in here (λ i. (sym f i, p.1))
+at_place (p ∷ ps) (suc n) x xs e = there (at_place ps n x xs e)
 
 -- so a column has what its name stands for in each of the bindings
 in_column : (bs : List Binding) (n : ℕ) (x : List ℕ) (xs : List (List ℕ)) → ((b : Binding) → In b bs → drop n (bound_names b) ≡ x ∷ xs) → AreValuesOf x bs (values (column n bs))
 in_column [] n x xs h = of_none
-in_column (b ∷ bs) n x xs h = of_more (at_place b n x xs (h b (here refl))) (in_column bs n x xs (λ c i. h c (there i)))
+in_column (b ∷ bs) n x xs h = of_more (at_place b.pairs n x xs (h b (here refl))) (in_column bs n x xs (λ c i. h c (there i)))
 
 -- and each pair of the columns is a name with such a sequence
 in_columns : (ys : List (List ℕ)) (n : ℕ) (bs : List Binding) → ((b : Binding) → In b bs → drop n (bound_names b) ≡ ys)
@@ -86,6 +90,11 @@ in_columns (y ∷ ys) n bs h x v (here e) = record {
 }
 in_columns (y ∷ ys) n bs h x v (there i) = in_columns ys (n + 1) bs (λ b j. rest_behind (bound_names b) ys n y (h b j)) x v i
 
--- the columns of bindings of these names are their collection
-pub columns_collect : (xs : List (List ℕ)) (bs : List Binding) (c : Binding) → c ≡ columns_from 0 xs bs → ((b : Binding) → In b bs → bound_names b ≡ xs) → IsCollection xs bs c
-columns_collect xs bs c e h = subst (IsCollection xs bs) (sym e) (record { names = columns-names 0 xs bs; sequences = in_columns xs 0 bs h })
+-- the columns of bindings of these names, with their sets, are their collection
+pub columns_collect : (xs : List (List ℕ)) (bs : List Binding) (c : Binding) → c.pairs ≡ columns_from 0 xs bs → AreSetsOf bs c.differs
+    → ((b : Binding) → In b bs → bound_names b ≡ xs) → IsCollection xs bs c
+columns_collect xs bs c e s h = record {
+  names = ap pair_names e ∙ columns-names 0 xs bs;
+  sequences = λ x v i. in_columns xs 0 bs h x v (subst (λ (ps : List Pair). In (x, v) ps) e i);
+  differs = s;
+}

@@ -29,6 +29,14 @@ IsContinued rows cs ds = (es : List Binding) × IsChoice rows es × (ds ≡ cs +
 abbrev pub RowsBind : List (List ℕ) → List (List Binding) → Type 0
 RowsBind xs rows = (row : List Binding) (b : Binding) → In row rows → In b row → bound_names b ≡ xs
 
+-- none of these bindings has a mismatch name
+abbrev pub ArePlain : List Binding → Type 0
+ArePlain bs = (b : Binding) → In b bs → b.differs ≡ []
+
+-- nor has any of these rows
+abbrev pub RowsArePlain : List (List Binding) → Type 0
+RowsArePlain rows = (row : List Binding) → In row rows → ArePlain row
+
 -- no row is empty
 abbrev pub NoneEmpty : List (List Binding) → Type 0
 NoneEmpty rows = (row : List Binding) → In row rows → ¬ (row ≡ [])

@@ -1,14 +1,15 @@
 -- Lists of bindings, and what is put together of them.
-use Rattle.std.specs.Prelude.{ℕ, List, map, Vec, Result, IfOk}
+use Rattle.std.specs.Prelude.{List, map, Vec, Result, IfOk}
 use Rattle.std.specs.declared.alloc.Global.{Global}
 use Rattle.rdx_term.specs.Tree.{Tree}
-use Rattle.rdx_lang.specs.Bindings.{Binding, one, no_names, one_name}
+use Rattle.rdx_lang.specs.Bindings.{Binding, no_names}
 use Rattle.rdx_lang.specs.Collecting.{Arises, Combined, Across, Adds}
 use Rattle.rdx_lang.specs.Join.{IsJoin}
 use Rattle.rdx_lang.specs.Listing.{IsListing}
 use Rattle.rdx_lang.specs.Order.{binding_cmp}
 use Rattle.rdx_lang.specs.Shown.{bindings_of}
 use Rattle.rdx_lang.specs.declared.binding.Binding as code
+use Rattle.rdx_bind.specs.Namings.{Naming, alone}
 
 -- the answer, if it is no error, is the listing of the bindings of which R holds
 abbrev pub Lists : {E : Type 0} → Result (Vec code.Binding Global) E → (Binding → Type 0) → Type 0
@@ -26,9 +27,9 @@ JoinsWith ds c b = Arises (IsJoin c) ds b
 abbrev pub Joined : List Binding → List Binding → Binding → Type 0
 Joined cs ds b = Combined IsJoin cs ds b
 
--- the joins of one of cs with the binding of x to t
-abbrev pub Named : List Binding → List ℕ → Tree → Binding → Type 0
-Named cs x t b = Arises (λ c d. IsJoin c (one_name x (one t)) d) cs b
+-- the joins of one of cs with what the name alone binds for t
+abbrev pub Named : List Binding → Naming → Tree → Binding → Type 0
+Named cs n t b = Arises (λ c d. IsJoin c (alone n t) d) cs b
 
 -- the joins of one binding of each row
 abbrev pub JoinsAcross : List (List Binding) → Binding → Type 0

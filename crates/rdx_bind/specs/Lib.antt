@@ -1,4 +1,5 @@
 pub mod Atoms
+pub mod Namings
 pub mod Combining
 pub mod Choices
 pub mod Columns
@@ -12,4 +13,5 @@ pub mod Searching
 pub mod Trails
 pub mod Spots
 pub mod Splitting
+pub mod Seen
 pub mod Inside

@@ -1,12 +1,13 @@
 -- What is made of spots.
-use Rattle.std.specs.Prelude.{◌≡◌, ℕ, List, ◌++◌, Vec, Result, IfOk}
+use Rattle.std.specs.Prelude.{◌≡◌, List, ◌++◌, Vec, Result, IfOk}
 use Rattle.std.specs.declared.alloc.Global.{Global}
 use Rattle.rdx_term.specs.Tree.{Tree}
 use Rattle.rdx_term.specs.AtPaths.{tree_at, context_at}
-use Rattle.rdx_lang.specs.Bindings.{no_names, one, one_name}
+use Rattle.rdx_lang.specs.Bindings.{no_names}
 use Rattle.rdx_lang.specs.Decompositions.{Decomposition}
 use Rattle.rdx_lang.specs.Collecting.{HasExactly}
 use Rattle.rdx_lang.specs.Join.{IsJoin}
+use Rattle.rdx_bind.specs.Namings.{Naming, alone}
 use Rattle.rdx_bind.specs.Spots.{Spot, spots_of}
 use Rattle.rdx_bind.specs.declared.spots.Gathered as code_gathered
 use Rattle.rdx_bind.specs.declared.spots.Spot as code
@@ -23,10 +24,10 @@ gathered_spots g = spots_of g.spots.items
 abbrev pub IsNameless : Spot → Spot → Type 0
 IsNameless s u = u ≡ record { path = s.path; binding = no_names }
 
--- u is s, with the name x for the context too
-pub record NamesContext (x : List ℕ) (t : Tree) (s u : Spot) : Type 0 where
+-- u is s, with the name for the context too
+pub record NamesContext (n : Naming) (t : Tree) (s u : Spot) : Type 0 where
   pub same : u.path ≡ s.path
-  pub joined : IsJoin s.binding (one_name x (one (context_at t s.path))) u.binding
+  pub joined : IsJoin s.binding (alone n (context_at t s.path)) u.binding
 
 -- w goes on where s ends, as u says
 pub record GoesOn (s u w : Spot) : Type 0 where

@@ -1,12 +1,13 @@
 -- A repetition over rows alone: the cells of its pattern, one for each place, and the rows of the items behind it, one for each place and one
 -- for the place behind the last.
-use Rattle.std.specs.Prelude.{◌≡◌, ℕ, List, [], ◌∷◌, Option}
+use Rattle.std.specs.Prelude.{◌≡◌, ℕ, Bool, IsTrue, List, [], ◌∷◌, Option}
 use Rattle.rdx_lang.specs.Bindings.{Binding, bound_names}
 use Rattle.rdx_lang.specs.Collections.{IsRepetition}
 use Rattle.rdx_lang.specs.Join.{IsJoin}
 use Rattle.rdx_lang.specs.Members.{In}
+use Rattle.rdx_bind.specs.Choices.{RowsArePlain}
 use Rattle.rdx_bind.specs.Columns.{HasAsked}
-use Rattle.rdx_bind.specs.Rows.{SplitRow}
+use Rattle.rdx_bind.specs.Rows.{SplitRow, all_matches}
 use Rattle.rdx_bind.specs.Spots.{Spot}
 use Rattle.rdx_bind.specs.declared.asks.Ask.{Ask}
 
@@ -50,6 +51,10 @@ pub data AreTurns (xs : List (List ℕ)) (x : Option (List ℕ)) : List Ask → 
   turns_more : {a : Ask} {asks : List Ask} {cell next row : SplitRow} {cells nexts rows : List SplitRow} →
       HasAsked (TurnsTo xs x (cell ∷ cells) (next ∷ nexts)) (SplitsTurn xs x (cell ∷ cells) (next ∷ nexts)) a row
       → AreTurns xs x asks cells nexts rows → AreTurns xs x (a ∷ asks) (cell ∷ cells) (next ∷ nexts) (row ∷ rows)
+
+-- where it is told so, none of the matches of the cells has a mismatch name
+abbrev pub PlainWhere : Bool → List SplitRow → Type 0
+PlainWhere plain cells = IsTrue plain → RowsArePlain (all_matches cells)
 
 -- whatever a cell binds, it binds exactly these names
 pub record BindExactly (xs : List (List ℕ)) (cells : List SplitRow) : Type 0 where

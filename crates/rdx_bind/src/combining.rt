@@ -8,8 +8,10 @@ ghost use Rattle.rdx_lang.specs.Order.{binding_cmp};
 ghost use Rattle.rdx_lang.specs.Shown.{binding_of, bindings_of};
 ghost use Rattle.rdx_term.specs.View.{tree_of};
 ghost use Rattle.rdx_bind.specs.Combining.{AddsBindings, JoinsWith, Joined, Lists, Named};
+ghost use Rattle.rdx_bind.specs.Namings.{naming_of};
 
 use crate::joining::join;
+use crate::naming::Naming;
 use crate::single::one;
 use crate::sorting::listing;
 use rdx_lang::{Binding, Value};
@@ -111,7 +113,7 @@ pub fn add_all(
 pub fn is_no_names_alone(bindings: &[Binding]) -> bool
     ensures { IsTrue result ↔ (bindings_of bindings.now ≡ no_names ∷ []) }
 {
-    bindings.len() == 1 && bindings[0].pairs().is_empty()
+    bindings.len() == 1 && bindings[0].pairs().is_empty() && bindings[0].differs().is_empty()
 }
 
 /// The joins of each of `firsts` with each of `others`, where both are listings.
@@ -140,17 +142,17 @@ pub fn one_pair(alloc: Global, name: &Name, t: &Term) -> Result<Binding, NoMemor
     one(alloc, name, Value::One(t.share()?))
 }
 
-/// Each of `firsts` joined with the binding of the name to the term.
+/// Each of `firsts` joined with what the name alone binds for the term.
 #[inline(never)]
 pub fn with_name(
     alloc: Global,
     firsts: &[Binding],
-    name: &Name,
+    name: Naming<'_>,
     t: &Term,
 ) -> Result<Vec<Binding>, NoMemory>
-    ensures { Lists result (Named (bindings_of firsts.now) name.now (tree_of t.now)) }
+    ensures { Lists result (Named (bindings_of firsts.now) (naming_of name.entry) (tree_of t.now)) }
 {
-    let named = one_pair(alloc, name, t)?;
+    let named = name.alone(alloc, t)?;
     let mut found = Vec::new(alloc);
     for first in firsts {
         add_join(alloc, first, &named, &mut found)?;

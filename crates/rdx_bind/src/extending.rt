@@ -4,28 +4,29 @@ ghost use Rattle.rdx_lang.specs.Collecting.{Adds, Arises};
 ghost use Rattle.rdx_term.specs.AtPaths.{context_at};
 ghost use Rattle.rdx_term.specs.Tree.{Tree};
 ghost use Rattle.rdx_term.specs.View.{tree_of};
+ghost use Rattle.rdx_bind.specs.Namings.{naming_of};
 ghost use Rattle.rdx_bind.specs.Spots.{spot_of, spots_of};
 ghost use Rattle.rdx_bind.specs.Splitting.{Finds, NamesContext, GoesOn, gathered_spots};
 
-use crate::combining::one_pair;
 use crate::joining::join;
+use crate::naming::Naming;
 use crate::spots::{Gathered, Spot};
-use rdx_term::{Name, NoMemory, Term};
+use rdx_term::{NoMemory, Term};
 use std::alloc::Global;
 
 /// Adds the spot with the name for its context too, where it may have it.
 pub fn add_with_context(
     alloc: Global,
     spot: Spot,
-    name: &Name,
+    name: Naming<'_>,
     context: &Term,
     found: &mut Vec<Spot>,
 ) -> Result<(), NoMemory>
     ensures { (t : Tree) → tree_of context.now ≡ context_at t (spot_of spot).path
-        → OnOk result (Adds (NamesContext name.now t (spot_of spot))
+        → OnOk result (Adds (NamesContext (naming_of name.entry) t (spot_of spot))
         (spots_of found.old.items) (spots_of found.new.items)) }
 {
-    let named = one_pair(alloc, name, context)?;
+    let named = name.alone(alloc, context)?;
     if let Some(binding) = join(alloc, &spot.binding, &named)? {
         found.push(Spot {
             trail: spot.trail,

@@ -26,7 +26,8 @@ fn mentions(name: &Name, pat: &Pat) -> bool
         Pat::Wild | Pat::Kind(_) | Pat::Except(_) | Pat::Prefix(_) | Pat::Hole | Pat::Nt(_) =>
             false,
         Pat::Lit(literal) => is_symbol(name, literal),
-        Pat::Named(_, inner) | Pat::HideHole(inner) | Pat::Closed(inner) => mentions(name, inner),
+        Pat::Named(_, inner) | Pat::Differ(_, inner) | Pat::HideHole(inner) | Pat::Closed(inner) =>
+            mentions(name, inner),
         Pat::InHole(left, right) => mentions(name, left) || mentions(name, right),
         Pat::Seq(items) => items_mention(name, items),
     }

@@ -1,21 +1,23 @@
 //! What a repetition binds where it is known what its turns bind.
-ghost use Rattle.std.specs.Prelude.{◌≡◌, ◌+◌, ◌++◌, ◌∷◌, [], IfNone, IfOk, IfSome, OnOk, length};
+ghost use Rattle.std.specs.Prelude.{◌≡◌, ◌+◌, ◌++◌, ◌∷◌, [], IfNone, IfOk, IfSome, IsTrue, OnOk, length};
 ghost use Rattle.rdx_lang.specs.Ascending.{IsAscending};
 ghost use Rattle.rdx_lang.specs.Bindings.{bound_names, name_cmp, no_names};
 ghost use Rattle.rdx_lang.specs.Collections.{IsRepetition};
 ghost use Rattle.rdx_lang.specs.Collecting.{Adds, Arises, HasExactly};
 ghost use Rattle.rdx_lang.specs.Members.{In};
 ghost use Rattle.rdx_lang.specs.Shown.{binding_of, bindings_of};
-ghost use Rattle.rdx_bind.specs.Choices.{IsCounted, NoneEmpty, Repeats, RowsBind};
+ghost use Rattle.rdx_bind.specs.Choices.{IsCounted, NoneEmpty, Repeats, RowsArePlain, RowsBind};
 ghost use Rattle.rdx_bind.specs.Choices.{length_name};
 ghost use Rattle.rdx_bind.specs.Combining.{rows_of};
 ghost use Rattle.rdx_bind.specs.Ends.{rows_around};
 ghost use Rattle.rdx_bind.specs.Rows.{all_matches, split_rows_of};
+ghost use Rattle.rdx_bind.specs.Turns.{PlainWhere};
 
 use crate::choices::{no_choice, with_matches, with_one_of};
 use crate::collecting::collect;
 use crate::joining::join;
 use crate::rows::Row;
+use crate::seen::are_plain;
 use crate::single::one;
 use rdx_lang::{Binding, Value};
 use rdx_term::{Name, NoMemory};
@@ -83,8 +85,10 @@ fn add_bound(
         (length_name repetition.entry.length))
         (bindings_of found.old.items) (bindings_of found.new.items)) }
 {
-    let collected = collect(alloc, repetition.names, turns)?;
-    add_counted(alloc, collected, repetition.length, turns.len(), found)
+    match collect(alloc, repetition.names, turns)? {
+        None => Ok(()),
+        Some(collected) => add_counted(alloc, collected, repetition.length, turns.len(), found),
+    }
 }
 
 // What the repetition binds in each of these lists of turns.
@@ -121,21 +125,35 @@ fn bound_unnamed(
     Ok(found)
 }
 
+/// Whether none of the matches of the cells has a mismatch name.
+pub(crate) fn rows_are_plain(cells: &[Row]) -> bool
+    ensures { IsTrue result → RowsArePlain (all_matches (split_rows_of cells.now)) }
+{
+    for cell in cells {
+        if !are_plain(&cell.matches) {
+            return false;
+        }
+    }
+    true
+}
+
 /// What the repetition binds where its turns are these cells, each with one of its matches. Without
-/// names their number alone counts.
+/// names their number alone counts, where it is told that there are no mismatch names.
 pub fn bound_over(
     alloc: Global,
     repetition: Repetition<'_>,
     cells: &[Row],
+    plain: bool,
 ) -> Result<Vec<Binding>, NoMemory>
     requires ascending { IsAscending name_cmp repetition.names.now }
+    requires plain { PlainWhere plain (split_rows_of cells.now) }
     requires bound { RowsBind repetition.names.now (all_matches (split_rows_of cells.now)) }
     requires full { NoneEmpty (all_matches (split_rows_of cells.now)) }
     ensures { IfOk result (λ found. HasExactly (bindings_of found.items)
         (Repeats repetition.entry.names.now (length_name repetition.entry.length)
         (all_matches (split_rows_of cells.now)))) }
 {
-    if repetition.names.is_empty() {
+    if plain && repetition.names.is_empty() {
         return bound_unnamed(alloc, repetition.length, cells.len());
     }
     let first = no_choice(alloc)?;
@@ -151,8 +169,11 @@ pub fn bound_around(
     turn: &Binding,
     between: &[Row],
     turns: usize,
+    plain: bool,
 ) -> Result<Vec<Binding>, NoMemory>
     requires ascending { IsAscending name_cmp repetition.names.now }
+    requires before { PlainWhere plain (split_rows_of before.now) }
+    requires between { PlainWhere plain (split_rows_of between.now) }
     requires turns { turns ≡ length before.now + length between.now + 1 }
     requires bound { RowsBind repetition.names.now
         (rows_around (split_rows_of before.now) (binding_of turn.now) (split_rows_of between.now)) }
@@ -163,7 +184,7 @@ pub fn bound_around(
         (rows_around (split_rows_of before.now) (binding_of turn.now)
         (split_rows_of between.now)))) }
 {
-    if repetition.names.is_empty() {
+    if plain && repetition.names.is_empty() && turn.differs().is_empty() {
         return bound_unnamed(alloc, repetition.length, turns);
     }
     let first = no_choice(alloc)?;

@@ -40,7 +40,7 @@ fn bind_nothing(spots: &[Spot]) -> bool
     ensures { IsTrue result → (s : _) → In s (spots_of spots.now) → s.binding ≡ no_names }
 {
     for spot in spots {
-        if !spot.binding.pairs().is_empty() {
+        if !spot.binding.pairs().is_empty() || !spot.binding.differs().is_empty() {
             return false;
         }
     }

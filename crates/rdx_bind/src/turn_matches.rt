@@ -8,7 +8,7 @@ ghost use Rattle.rdx_bind.specs.Choices.{NoneEmpty, RepeatsWith, RowsBind, lengt
 ghost use Rattle.rdx_bind.specs.Combining.{Lists};
 ghost use Rattle.rdx_bind.specs.Ends.{HasMatches, IsReached};
 ghost use Rattle.rdx_bind.specs.Rows.{all_matches, split_rows_of};
-ghost use Rattle.rdx_bind.specs.Turns.{BindExactly, TurnsTo};
+ghost use Rattle.rdx_bind.specs.Turns.{BindExactly, PlainWhere, TurnsTo};
 
 use crate::combining::add_all;
 use crate::repetition::{Repetition, bound_over};
@@ -23,10 +23,12 @@ fn add_turns(
     alloc: Global,
     repetition: Repetition<'_>,
     cells: &[Row],
+    plain: bool,
     others: &[Binding],
     found: &mut Vec<Binding>,
 ) -> Result<(), NoMemory>
     requires ascending { IsAscending name_cmp repetition.names.now }
+    requires plain { PlainWhere plain (split_rows_of cells.now) }
     requires bound { RowsBind repetition.names.now (all_matches (split_rows_of cells.now)) }
     requires full { NoneEmpty (all_matches (split_rows_of cells.now)) }
     ensures { OnOk result (Adds
@@ -34,20 +36,22 @@ fn add_turns(
         (all_matches (split_rows_of cells.now)) (bindings_of others.now))
         (bindings_of found.old.items) (bindings_of found.new.items)) }
 {
-    let firsts = bound_over(alloc, repetition, cells)?;
+    let firsts = bound_over(alloc, repetition, cells, plain)?;
     add_all(alloc, firsts, others, found)
 }
 
 /// What the repetition binds from the first of the cells on, together with what comes behind it. A
-/// run leads to each of the ends.
+/// run leads to each of the ends. It may be told that the cells have no mismatch names.
 pub fn matches_from(
     alloc: Global,
     repetition: Repetition<'_>,
     cells: &[Row],
+    plain: bool,
     nexts: &[Row],
     ends: &[usize],
 ) -> Result<Vec<Binding>, NoMemory>
     requires ascending { IsAscending name_cmp repetition.names.now }
+    requires plain { PlainWhere plain (split_rows_of cells.now) }
     requires bound { BindExactly repetition.names.now (split_rows_of cells.now) }
     requires behind { length nexts.now ≡ length cells.now + 1 }
     requires ends { HasExactly ends.now
@@ -62,6 +66,7 @@ pub fn matches_from(
             alloc,
             repetition,
             &cells[..count],
+            plain,
             &nexts[count].matches,
             &mut found,
         )?;

@@ -12,7 +12,7 @@ ghost use Rattle.rdx_bind.specs.Ends.{SplitsNextTo, rows_around, rows_around_at}
 ghost use Rattle.rdx_bind.specs.Rows.{all_matches, split_rows_of};
 ghost use Rattle.rdx_bind.specs.Spots.{spot_of, spots_of};
 ghost use Rattle.rdx_bind.specs.Splitting.{Finds, gathered_spots};
-ghost use Rattle.rdx_bind.specs.Turns.{BindExactly, SplitsTurn};
+ghost use Rattle.rdx_bind.specs.Turns.{BindExactly, PlainWhere, SplitsTurn};
 
 use crate::joining::join;
 use crate::repetition::{Repetition, bound_around, bound_over};
@@ -87,10 +87,13 @@ fn add_cell_spots(
     spot: &Spot,
     between: &[Row],
     turns: usize,
+    plain: bool,
     others: &[Binding],
     found: &mut Vec<Spot>,
 ) -> Result<(), NoMemory>
     requires ascending { IsAscending name_cmp repetition.names.now }
+    requires before { PlainWhere plain (split_rows_of before.now) }
+    requires between { PlainWhere plain (split_rows_of between.now) }
     requires turns { turns ≡ length before.now + length between.now + 1 }
     requires bound { RowsBind repetition.names.now
         (rows_around (split_rows_of before.now) (binding_of spot.now.binding)
@@ -104,7 +107,15 @@ fn add_cell_spots(
         (split_rows_of between.now) (bindings_of others.now) (spot_of spot.now))
         (spots_of found.old.items) (spots_of found.new.items)) }
 {
-    let firsts = bound_around(alloc, repetition, before, &spot.binding, between, turns)?;
+    let firsts = bound_around(
+        alloc,
+        repetition,
+        before,
+        &spot.binding,
+        between,
+        turns,
+        plain,
+    )?;
     add_spots(alloc, spot, &firsts, others, found)
 }
 
@@ -117,9 +128,12 @@ fn cell_spots(
     spots: &[Spot],
     between: &[Row],
     turns: usize,
+    plain: bool,
     others: &[Binding],
 ) -> Result<Vec<Spot>, NoMemory>
     requires ascending { IsAscending name_cmp repetition.names.now }
+    requires before { PlainWhere plain (split_rows_of before.now) }
+    requires between { PlainWhere plain (split_rows_of between.now) }
     requires turns { turns ≡ length before.now + length between.now + 1 }
     requires bound { (s : _) → In s (spots_of spots.now) →
         RowsBind repetition.names.now (rows_around (split_rows_of before.now) s.binding
@@ -135,7 +149,7 @@ fn cell_spots(
     let mut found = Vec::new(alloc);
     for spot in spots {
         add_cell_spots(
-            alloc, repetition, before, spot, between, turns, others, &mut found,
+            alloc, repetition, before, spot, between, turns, plain, others, &mut found,
         )?;
     }
     Ok(found)
@@ -146,9 +160,11 @@ fn next_spots(
     alloc: Global,
     repetition: Repetition<'_>,
     cells: &[Row],
+    plain: bool,
     spots: &[Spot],
 ) -> Result<Vec<Spot>, NoMemory>
     requires ascending { IsAscending name_cmp repetition.names.now }
+    requires plain { PlainWhere plain (split_rows_of cells.now) }
     requires bound { RowsBind repetition.names.now (all_matches (split_rows_of cells.now)) }
     requires full { NoneEmpty (all_matches (split_rows_of cells.now)) }
     ensures { Finds result (Arises
@@ -156,7 +172,7 @@ fn next_spots(
         (split_rows_of cells.now))
         (spots_of spots.now)) }
 {
-    let firsts = bound_over(alloc, repetition, cells)?;
+    let firsts = bound_over(alloc, repetition, cells, plain)?;
     let mut found = Vec::new(alloc);
     for spot in spots {
         add_spots(
@@ -175,11 +191,13 @@ fn cell_spots_at(
     alloc: Global,
     repetition: Repetition<'_>,
     cells: &[Row],
+    plain: bool,
     nexts: &[Row],
     place: usize,
     turns: usize,
 ) -> Result<Vec<Spot>, NoMemory>
     requires ascending { IsAscending name_cmp repetition.names.now }
+    requires plain { PlainWhere plain (split_rows_of cells.now) }
     requires bound { BindExactly repetition.names.now (split_rows_of cells.now) }
     requires behind { length nexts.now ≡ length cells.now + 1 }
     requires order { place < turns }
@@ -199,6 +217,7 @@ fn cell_spots_at(
         spots,
         between,
         turns,
+        plain,
         &nexts[turns].matches,
     )
 }
@@ -208,11 +227,13 @@ fn gather_cells(
     alloc: Global,
     repetition: Repetition<'_>,
     cells: &[Row],
+    plain: bool,
     nexts: &[Row],
     split_ends: &[(usize, usize)],
     found: &mut Gathered,
 ) -> Result<(), NoMemory>
     requires ascending { IsAscending name_cmp repetition.names.now }
+    requires plain { PlainWhere plain (split_rows_of cells.now) }
     requires bound { BindExactly repetition.names.now (split_rows_of cells.now) }
     requires behind { length nexts.now ≡ length cells.now + 1 }
     requires ways { HasExactly split_ends.now
@@ -225,7 +246,7 @@ fn gather_cells(
     for (from, end) in split_ends {
         let place = cells.len() - *from;
         let turns = cells.len() - *end;
-        let more = cell_spots_at(alloc, repetition, cells, nexts, place, turns)?;
+        let more = cell_spots_at(alloc, repetition, cells, plain, nexts, place, turns)?;
         found.add(more)?;
     }
     Ok(())
@@ -236,11 +257,13 @@ fn gather_nexts(
     alloc: Global,
     repetition: Repetition<'_>,
     cells: &[Row],
+    plain: bool,
     nexts: &[Row],
     split_nexts: &[usize],
     found: &mut Gathered,
 ) -> Result<(), NoMemory>
     requires ascending { IsAscending name_cmp repetition.names.now }
+    requires plain { PlainWhere plain (split_rows_of cells.now) }
     requires bound { BindExactly repetition.names.now (split_rows_of cells.now) }
     requires behind { length nexts.now ≡ length cells.now + 1 }
     requires ways { HasExactly split_nexts.now
@@ -252,22 +275,30 @@ fn gather_nexts(
 {
     for place in split_nexts {
         let count = cells.len() - *place;
-        let more = next_spots(alloc, repetition, &cells[..count], &nexts[count].spots)?;
+        let more = next_spots(
+            alloc,
+            repetition,
+            &cells[..count],
+            plain,
+            &nexts[count].spots,
+        )?;
         found.add(more)?;
     }
     Ok(())
 }
 
 /// Where the repetition from the first of the cells on, together with what comes behind it, is
-/// split: in a cell, or behind the cells.
+/// split: in a cell, or behind the cells. It may be told that the cells have no mismatch names.
 pub fn spots_from(
     alloc: Global,
     repetition: Repetition<'_>,
     cells: &[Row],
+    plain: bool,
     nexts: &[Row],
     ways: &Ways,
 ) -> Result<Vec<Spot>, NoMemory>
     requires ascending { IsAscending name_cmp repetition.names.now }
+    requires plain { PlainWhere plain (split_rows_of cells.now) }
     requires bound { BindExactly repetition.names.now (split_rows_of cells.now) }
     requires behind { length nexts.now ≡ length cells.now + 1 }
     requires ways { AreWays (split_rows_of cells.now) (split_rows_of nexts.now)
@@ -281,6 +312,7 @@ pub fn spots_from(
         alloc,
         repetition,
         cells,
+        plain,
         nexts,
         &ways.split_ends,
         &mut found,
@@ -289,6 +321,7 @@ pub fn spots_from(
         alloc,
         repetition,
         cells,
+        plain,
         nexts,
         &ways.split_nexts,
         &mut found,

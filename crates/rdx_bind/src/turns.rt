@@ -8,10 +8,10 @@ ghost use Rattle.rdx_bind.specs.Choices.{length_name};
 ghost use Rattle.rdx_bind.specs.Columns.{HasAsked};
 ghost use Rattle.rdx_bind.specs.Ends.{AreWays};
 ghost use Rattle.rdx_bind.specs.Rows.{split_row_of, split_rows_of};
-ghost use Rattle.rdx_bind.specs.Turns.{AreTurns, BindExactly, SplitsTurn, TurnsTo};
+ghost use Rattle.rdx_bind.specs.Turns.{AreTurns, BindExactly, PlainWhere, SplitsTurn, TurnsTo};
 
 use crate::asks::Ask;
-use crate::repetition::Repetition;
+use crate::repetition::{Repetition, rows_are_plain};
 use crate::rows::Row;
 use crate::turn_matches::matches_from;
 use crate::turn_spots::spots_from;
@@ -26,10 +26,12 @@ fn row_from(
     repetition: Repetition<'_>,
     ask: Ask,
     cells: &[Row],
+    plain: bool,
     nexts: &[Row],
     ways: &Ways,
 ) -> Result<Row, NoMemory>
     requires ascending { IsAscending name_cmp repetition.names.now }
+    requires plain { PlainWhere plain (split_rows_of cells.now) }
     requires bound { BindExactly repetition.names.now (split_rows_of cells.now) }
     requires behind { length nexts.now ≡ length cells.now + 1 }
     requires ways { AreWays (split_rows_of cells.now) (split_rows_of nexts.now)
@@ -47,15 +49,15 @@ fn row_from(
             spots: Vec::new(alloc),
         }),
         Ask::Matches => {
-            let matches = matches_from(alloc, repetition, cells, nexts, &ways.ends)?;
+            let matches = matches_from(alloc, repetition, cells, plain, nexts, &ways.ends)?;
             Ok(Row {
                 matches,
                 spots: Vec::new(alloc),
             })
         }
         Ask::Splits => {
-            let matches = matches_from(alloc, repetition, cells, nexts, &ways.ends)?;
-            let spots = spots_from(alloc, repetition, cells, nexts, ways)?;
+            let matches = matches_from(alloc, repetition, cells, plain, nexts, &ways.ends)?;
+            let spots = spots_from(alloc, repetition, cells, plain, nexts, ways)?;
             Ok(Row { matches, spots })
         }
     }
@@ -80,6 +82,7 @@ pub fn turns_column(
         (split_rows_of cells.now) (split_rows_of nexts.now) (split_rows_of rows.items)) }
 {
     let count = cells.len();
+    let plain = rows_are_plain(cells);
     let mut ways = Ways::last(alloc, &nexts[count])?;
     let mut rows = Vec::with_capacity(alloc, nexts.len())?;
     let last = row_from(
@@ -87,13 +90,22 @@ pub fn turns_column(
         repetition,
         asks[count],
         &cells[count..],
+        plain,
         &nexts[count..],
         &ways,
     )?;
     rows.push(last)?;
     for i in (0..count).rev() {
         ways.step(&cells[i], &nexts[i], count - i)?;
-        let row = row_from(alloc, repetition, asks[i], &cells[i..], &nexts[i..], &ways)?;
+        let row = row_from(
+            alloc,
+            repetition,
+            asks[i],
+            &cells[i..],
+            plain,
+            &nexts[i..],
+            &ways,
+        )?;
         rows.push(row)?;
     }
     rows.reverse();

@@ -271,7 +271,7 @@ const REFUSED: [(&str, &str); 23] = [
         "refused S10 RacketEscape at 1:29\n",
     ),
     (
-        "(define-language L (e number)) (redex-match L e_!_1 (term 1))",
+        "(define-language L (e number)) (redex-match L #:binding-forms (term 1))",
         "refused S0 Unbuilt at 1:32\n",
     ),
     ("(define-language)", "refused S1 Shape at 1:1\n"),

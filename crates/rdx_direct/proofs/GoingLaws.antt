@@ -4,20 +4,19 @@ use Rattle.std.proofs.lemmas.Bool.Decides.{nat_tests}
 use Rattle.rdx_lang.proofs.Rest.{rest_none}
 use Rattle.std.specs.Prelude.{◌↔◌, not}
 use Rattle.rdx_term.specs.Tree.{Tree}
-use Rattle.rdx_lang.proofs.Collecting.{In_along, no_member, only, listing_of}
-use Rattle.rdx_lang.proofs.JoinLaws.{unit_left, unit_left-only, unit_right, unit_right-only}
+use Rattle.rdx_lang.proofs.Collecting.{In_along, no_member, only}
+use Rattle.rdx_lang.proofs.JoinLaws.{one_name-ascends, one_differs-ascends, unit_left, unit_left-only, unit_right, unit_right-only}
 use Rattle.rdx_lang.proofs.Joins.{joined_first, joined_last}
 use Rattle.rdx_lang.proofs.NameLaws.{match-ascends}
-use Rattle.rdx_lang.proofs.RuleSteps.{nt_inside, named_inside, hide_hole_inside, closed_inside}
-use Rattle.rdx_lang.specs.Bindings.{Binding, no_names, one_name, HasAscendingNames}
-use Rattle.rdx_lang.specs.Bindings.{one as one_term}
+use Rattle.rdx_lang.proofs.RuleSteps.{nt_inside, hide_hole_inside, closed_inside}
+use Rattle.rdx_lang.specs.Bindings.{Binding, no_names, one, HasAscendingNames}
 use Rattle.rdx_lang.specs.Collecting.{Adds, HasExactly}
 use Rattle.rdx_lang.specs.Join.{IsJoin}
-use Rattle.rdx_lang.specs.Listing.{IsListing, Matches}
+use Rattle.rdx_lang.specs.Listing.{IsListing, AllMatches}
 use Rattle.rdx_lang.specs.Members.{In, here}
 use Rattle.rdx_lang.specs.Order.{binding_cmp}
-use Rattle.rdx_lang.specs.Patterns.{Pattern, nt, named, hide_hole, closed, Language}
-use Rattle.rdx_lang.specs.Rules.{Match, AreAlternatives, match_nt, match_named, match_hide_hole, match_closed}
+use Rattle.rdx_lang.specs.Patterns.{Pattern, nt, hide_hole, closed, Language}
+use Rattle.rdx_lang.specs.Rules.{Match, AreAlternatives, match_nt, match_hide_hole, match_closed}
 use Rattle.rdx_lang.specs.Shown.{binding_of, bindings_of}
 use Rattle.rdx_lang.specs.declared.binding.Binding as code
 use Rattle.rdx_lang.specs.declared.pattern.Ref.{Ref}
@@ -25,6 +24,8 @@ use Rattle.rdx_bind.specs.Searching.{AnyMatches}
 use Rattle.rdx_bind.proofs.AcrossRows.{AreMaps}
 use Rattle.rdx_bind.proofs.AtomListings.{empty_alone}
 use Rattle.rdx_bind.proofs.Gathering.{exactly_as}
+use Rattle.rdx_bind.proofs.Namings.{match_under, under_inside}
+use Rattle.rdx_bind.specs.Namings.{Naming, binds, differs, under, alone}
 use Rattle.rdx_direct.specs.Inside.Going.{Goes, Joins, Fits, Alone}
 
 -- ---- the binding of no name alone
@@ -38,7 +39,7 @@ alone_listed true {bs} e l = record {
 alone_listed false {bs} e l = record { there = λ h. absurd cc; none_else = λ b r. no_member (In_along bs [] e (l.complete b r)) }
 
 -- the same, of a pattern that is equal to one that is listed
-pub alone_at : {L : Language} {t : Tree} (p q : Pattern) (so : Truth) → p ≡ q → Matches L q t (if so then empty_alone else []) → Alone (Match L p t) so
+pub alone_at : {L : Language} {t : Tree} (p q : Pattern) (so : Truth) → p ≡ q → AllMatches L q t (if so then empty_alone else []) → Alone (Match L p t) so
 alone_at {L} {t} p q so e l = subst (λ r. Alone (Match L r t) so) (sym e) (alone_listed so refl l)
 
 module _ {L : Language} where
@@ -125,23 +126,28 @@ module _ (R S T : Binding → Type 0) (maps_first : (b : Binding) → R b → Ha
 
 -- ---- a name
 
+-- a name alone is a finite map
+alone-ascends : (n : Naming) (t : Tree) → HasAscendingNames (alone n t)
+alone-ascends (binds x) t = one_name-ascends x (one t)
+alone-ascends (differs x) t = one_differs-ascends x t
+
 module _ {L : Language} where
   -- a pattern with a name: what its part binds, and then the name
-  pub goes_named : {x : List ℕ} {q : Pattern} {t : Tree} (gs found bs : List Binding) → AreMaps gs → HasExactly found (Goes (Match L q t) gs)
-      → HasExactly bs (Joins (one_name x (one_term t)) found) → HasExactly bs (Goes (Match L (named x q) t) gs)
-  goes_named {x} {q} {t} gs found bs m h k = record {
+  pub goes_under : (n : Naming) {q : Pattern} {t : Tree} (gs found bs : List Binding) → AreMaps gs → HasExactly found (Goes (Match L q t) gs)
+      → HasExactly bs (Joins (alone n t) found) → HasExactly bs (Goes (Match L (under n q) t) gs)
+  goes_under n {q} {t} gs found bs m h k = record {
     sound = λ b i. onward b (by_name b (k.sound b i));
     complete = λ b g. k.complete b (of_name b (back b g));
   }
     where
       d : Binding
-      d = one_name x (one_term t)
+      d = alone n t
 
       S : Binding → Type 0
       S e = e ≡ d
 
       map_of : (b : Binding) → S b → HasAscendingNames b
-      map_of b e = subst HasAscendingNames (sym e) (tt, tt)
+      map_of b e = subst HasAscendingNames (sym e) (alone-ascends n t)
 
       by_name : (b : Binding) → Joins d found b → Goes S found b
       by_name b j = record { from = j.from; among = j.among; by = record { bound = d; holds = refl; joined = j.by } }
@@ -149,13 +155,13 @@ module _ {L : Language} where
       of_name : (b : Binding) → Goes S found b → Joins d found b
       of_name b g = record { from = g.from; among = g.among; by = subst (λ e. IsJoin g.from e b) g.by.holds g.by.joined }
 
-      onward : (b : Binding) → Goes S found b → Goes (Match L (named x q) t) gs b
-      onward = goes_onward (Match L q t) S (Match L (named x q) t) (λ b r. match-ascends r) map_of gs found h
-          (λ b k. match_named k.first_holds (subst (λ e. IsJoin k.first e b) k.second_holds k.joined))
+      onward : (b : Binding) → Goes S found b → Goes (Match L (under n q) t) gs b
+      onward = goes_onward (Match L q t) S (Match L (under n q) t) (λ b r. match-ascends r) map_of gs found h
+          (λ b k. match_under n k.first_holds (subst (λ e. IsJoin k.first e b) k.second_holds k.joined))
 
-      back : (b : Binding) → Goes (Match L (named x q) t) gs b → Goes S found b
-      back = goes_back (Match L q t) S (Match L (named x q) t) (λ b r. match-ascends r) map_of gs found h m
-          (λ b r. let i = named_inside r in record { first = i.inside; second = d; first_holds = i.matched; second_holds = refl; joined = i.joined })
+      back : (b : Binding) → Goes (Match L (under n q) t) gs b → Goes S found b
+      back = goes_back (Match L q t) S (Match L (under n q) t) (λ b r. match-ascends r) map_of gs found h m
+          (λ b r. let i = under_inside n r in record { first = i.inside; second = d; first_holds = i.matched; second_holds = refl; joined = i.joined })
 
 -- ---- from the binding of no name
 
@@ -180,10 +186,6 @@ some_found (b ∷ bs) n h = (binding_of b, h.sound (binding_of b) (here refl))
 pub none_found : {R : Binding → Type 0} (bs : List code.Binding) → length bs ≡ 0 → HasExactly (bindings_of bs) R → (b : Binding) → R b → ⊥
 none_found [] e h b r = no_member (h.complete b r)
 none_found (c ∷ bs) e h b r = absurd (omega arith)
-
--- the listing of what was found
-pub found_listed : {R : Binding → Type 0} (bs listed : List Binding) → HasExactly bs R → IsListing binding_cmp listed (λ b. In b bs) → IsListing binding_cmp listed R
-found_listed bs listed h l = listing_of (λ b i. h.sound b i) (λ b r. h.complete b r) l
 
 -- whether a pattern matches, by what comes of the binding of no name
 pub fits_found : {L : Language} {p : Pattern} {t : Tree} (gs : List Binding) (bs : List code.Binding) (empty : Truth) → gs ≡ no_names ∷ [] → (IsTrue empty ↔ (length bs ≡ 0))

@@ -1,23 +1,23 @@
 -- A walk over the items of a list pattern, from the first on.
 use Rattle.std.proofs.Common.{◌≡◌, ◌∙◌, Bool as Truth, true, false, IsTrue, IsFalse, if◌then◌else◌, None, List, [], ◌∷◌, refl, sym, ap, subst}
+use Rattle.std.proofs.lemmas.Bool.{and_parts}
 use Rattle.std.specs.Prelude.{◌↔◌}
 use Rattle.rdx_term.specs.Tree.{Tree, Trees, cons, trees, list}
 use Rattle.rdx_term.specs.Tree.{nil as no_trees}
 use Rattle.rdx_lang.proofs.Collecting.{In_along, no_member}
-use Rattle.rdx_lang.proofs.JoinLaws.{unit_left}
-use Rattle.rdx_lang.proofs.NameLaws.{match-ascends, items-ascends, items-names, match-names}
+use Rattle.rdx_lang.proofs.JoinLaws.{none_left}
+use Rattle.rdx_lang.proofs.NameLaws.{match-ascends, items-ascends}
 use Rattle.rdx_lang.proofs.RuleSteps.{item_inside, none_inside, list_inside, many_inside, run_at_term, RunParts, ended, turned}
 use Rattle.rdx_lang.specs.Bindings.{Binding, no_names}
 use Rattle.rdx_lang.specs.Collecting.{HasExactly}
-use Rattle.rdx_lang.specs.Names.{names, item_names}
 use Rattle.rdx_lang.specs.Patterns.{Pattern, Items, nil, one, many, seq, Language}
-use Rattle.rdx_lang.specs.Rules.{Match, MatchItems, MatchRun, match_none, match_one, match_many, match_seq, run_end, run_more}
-use Rattle.rdx_lang.specs.Collections.{IsCollection, IsRepetition, without_length}
+use Rattle.rdx_lang.specs.Rules.{Match, MatchItems, MatchRun, match_none, match_one, match_seq}
 use Rattle.rdx_bind.proofs.AcrossRows.{AreMaps}
 use Rattle.rdx_bind.proofs.Gathering.{exactly_as}
 use Rattle.rdx_direct.proofs.GoingLaws.{goes_onward, goes_back, goes_alone, goes_none}
-use Rattle.rdx_direct.proofs.PlainLaws.{no_names_apart, binds_nothing}
+use Rattle.rdx_direct.proofs.PlainLaws.{nothing_bound, one_turn_more, no_turn_more}
 use Rattle.rdx_direct.specs.Inside.Going.{Goes, Alone, Fits, FitAll}
+use Rattle.rdx_direct.specs.Inside.Plain.{is_plain, are_plain}
 
 -- whatever ps bind at ts beside what is found, all items bind at all terms beside what was given
 pub record StillGoes (L : Language) (all : Items) (all_terms : Trees) (gs : List Binding) (ps : Items) (ts : Trees) (found : List Binding) : Type 0 where
@@ -75,10 +75,10 @@ module _ {L : Language} where
 
 -- ---- whether items match
 
--- where all have no names, ps match ts only if all match; and only if ps match some way do all
+-- where all bind nothing, ps match ts only if all match; and only if ps match some way do all
 pub record StillFits (L : Language) (all : Items) (all_terms : Trees) (ps : Items) (ts : Trees) : Type 0 where
-  pub plain : item_names all ≡ [] → item_names ps ≡ []
-  pub some : item_names all ≡ [] → MatchItems L ps ts no_names → MatchItems L all all_terms no_names
+  pub plain : are_plain all ≡ true → are_plain ps ≡ true
+  pub some : are_plain all ≡ true → MatchItems L ps ts no_names → MatchItems L all all_terms no_names
   pub none : ((b : Binding) → MatchItems L ps ts b → ⊥) → (b : Binding) → MatchItems L all all_terms b → ⊥
 
 module _ {L : Language} (all : Items) (all_terms : Trees) where
@@ -89,13 +89,13 @@ module _ {L : Language} (all : Items) (all_terms : Trees) where
   -- behind an item that matches
   pub fits_next : {p : Pattern} {ps qs : Items} {t : Tree} {ts us : Trees} → qs ≡ one p ps → us ≡ cons t ts → Fits L p t → StillFits L all all_terms qs us → StillFits L all all_terms ps ts
   fits_next {p} {ps} {qs} {t} {ts} {us} e f i s = record {
-    plain = λ n. (no_names_apart (names p) (item_names ps) (ap item_names (sym e) ∙ s.plain n)).1;
-    some = λ n m. s.some n (along (no_names) (match_one (first n) m (unit_left no_names tt)));
+    plain = λ n. (apart n).1;
+    some = λ n m. s.some n (along no_names (match_one (nothing_bound (apart n).0 i.matched) m none_left));
     none = λ n b m. s.none (λ c k. let j = item_inside (against c k) in n j.rest j.rest_matched) b m;
   }
     where
-      first : item_names all ≡ [] → Match L p t no_names
-      first n = subst (Match L p t) (binds_nothing i.binding (match-names i.matched ∙ (no_names_apart (names p) (item_names ps) (ap item_names (sym e) ∙ s.plain n)).0)) i.matched
+      apart : are_plain all ≡ true → (is_plain p ≡ true) × (are_plain ps ≡ true)
+      apart n = and_parts (is_plain p) (are_plain ps) (ap are_plain (sym e) ∙ s.plain n)
 
       along : (b : Binding) → MatchItems L (one p ps) (cons t ts) b → MatchItems L qs us b
       along b g = subst (λ x. MatchItems L x us b) (sym e) (subst (λ x. MatchItems L (one p ps) x b) (sym f) g)
@@ -134,37 +134,18 @@ fits_rest all all_terms so s f = record { some = λ h n. s.some n (f.some h (s.p
 
 -- where p binds nothing, a run through the terms that are left goes through all; and only if one does do they have a run
 pub record StillRun (L : Language) (p : Pattern) (all_terms ts : Trees) : Type 0 where
-  pub some : names p ≡ [] → MatchItems L (many p None nil) ts no_names → MatchItems L (many p None nil) all_terms no_names
+  pub some : is_plain p ≡ true → MatchItems L (many p None nil) ts no_names → MatchItems L (many p None nil) all_terms no_names
   pub none : ((cs : List Binding) (d : Binding) → MatchRun L p nil ts cs d → ⊥) → (cs : List Binding) (d : Binding) → MatchRun L p nil all_terms cs d → ⊥
-
--- what binds no names collects to what does
-no_collection : {cs ds : List Binding} {c : Binding} → IsCollection [] cs c → IsCollection [] ds no_names
-no_collection h = record { names = refl; sequences = λ x v i. no_member i }
 
 module _ {L : Language} {p : Pattern} where
   -- at the start
   pub run_start : (ts : Trees) → StillRun L p ts ts
   run_start ts = record { some = λ e m. m; none = λ n cs d r. n cs d r }
 
-  -- one turn before others
-  one_turn : {t : Tree} {ts : Trees} → names p ≡ [] → Match L p t no_names → MatchItems L (many p None nil) ts no_names → MatchItems L (many p None nil) (cons t ts) no_names
-  one_turn {t} {ts} e h m =
-      let i = many_inside m in
-      let n : i.rest ≡ no_names = binds_nothing i.rest (items-names (rest_of i.run)) in
-      match_many (run_more h (subst (MatchRun L p nil ts i.turns) n i.run)) (nothing_repeated i.repeats) (unit_left no_names tt)
-    where
-      rest_of : {us : Trees} {cs : List Binding} {d : Binding} → MatchRun L p nil us cs d → MatchItems L nil no_trees d
-      rest_of (run_end {ts = no_trees} k) = k
-      rest_of (run_end {ts = cons u us} k) = elim k [ ]
-      rest_of (run_more k r) = rest_of r
-
-      nothing_repeated : {cs : List Binding} {c d : Binding} → IsRepetition (names p) cs None c → IsRepetition (names p) (d ∷ cs) None no_names
-      nothing_repeated {cs} {c} {d} (without_length k) = subst (λ xs. IsRepetition xs (d ∷ cs) None no_names) (sym e) (without_length (no_collection (subst (λ xs. IsCollection xs cs c) e k)))
-
   -- behind a term that is matched
   pub run_next : (all_terms : Trees) {t : Tree} {ts us : Trees} → us ≡ cons t ts → Fits L p t → StillRun L p all_terms us → StillRun L p all_terms ts
   run_next all_terms {t} {ts} {us} e f s = record {
-    some = λ n m. s.some n (subst (λ x. MatchItems L (many p None nil) x no_names) (sym e) (one_turn n (subst (Match L p t) (binds_nothing f.binding (match-names f.matched ∙ n)) f.matched) m));
+    some = λ n m. s.some n (subst (λ x. MatchItems L (many p None nil) x no_names) (sym e) (one_turn_more n refl f.matched m));
     none = λ n cs d r. s.none (λ ds g k. no_turn n (run_at_term (subst (λ x. MatchRun L p nil x ds g) e k))) cs d r;
   }
     where
@@ -186,12 +167,9 @@ module _ {L : Language} {p : Pattern} where
   -- behind the last term
   pub run_done : (all_terms : Trees) {us : Trees} → us ≡ no_trees → StillRun L p all_terms us → FitAll L (many p None nil) all_terms true
   run_done all_terms {us} e s = record {
-    some = λ h n. s.some (no_names_apart (names p) [] n).0 (subst (λ x. MatchItems L (many p None nil) x no_names) (sym e) (at_end (no_names_apart (names p) [] n).0));
+    some = λ h n. let q = (and_parts (is_plain p) true n).0 in s.some q (subst (λ x. MatchItems L (many p None nil) x no_names) (sym e) (no_turn_more q refl match_none));
     none = λ h. absurd cc;
   }
-    where
-      at_end : names p ≡ [] → MatchItems L (many p None nil) no_trees no_names
-      at_end n = match_many (run_end match_none) (subst (λ xs. IsRepetition xs [] None no_names) (sym n) (without_length (record { names = refl; sequences = λ x v i. no_member i }))) (unit_left no_names tt)
 
 -- ---- the ends of the walk over items
 
@@ -210,7 +188,7 @@ module _ {L : Language} (all : Items) (all_terms : Trees) (gs : List Binding) wh
 -- whether a list pattern matches, by its items
 module _ {L : Language} {ps : Items} {ts : Trees} (t : Tree) (m : _) (e : t ≡ list m ts) where
   -- where they bind nothing
-  pub list_fits : (so : Truth) → item_names ps ≡ [] → FitAll L ps ts so → (IsTrue so ↔ Fits L (seq ps) t)
+  pub list_fits : (so : Truth) → are_plain ps ≡ true → FitAll L ps ts so → (IsTrue so ↔ Fits L (seq ps) t)
   list_fits so n f = (λ a. record { binding = no_names; matched = subst (λ u. Match L (seq ps) u no_names) (sym e) (match_seq (f.some a n)) }, λ k. all so f (inside k))
     where
       inside : Fits L (seq ps) t → (b : Binding) × MatchItems L ps ts b
@@ -219,3 +197,11 @@ module _ {L : Language} {ps : Items} {ts : Trees} (t : Tree) (m : _) (e : t ≡ 
       all : (a : Truth) → FitAll L ps ts a → ((b : Binding) × MatchItems L ps ts b) → IsTrue a
       all true g k = refl
       all false g k = absurd (g.none refl k.0 k.1)
+
+  -- where it is so, and they bind nothing, it does
+  pub fit_list : (so : Truth) → so ≡ true → are_plain ps ≡ true → FitAll L ps ts so → (IsTrue true ↔ Fits L (seq ps) t)
+  fit_list so h n f = subst (λ a. IsTrue a ↔ Fits L (seq ps) t) h (list_fits so n f)
+
+  -- and where it is not so, it does not, whatever they bind
+  pub unfit_list : (so : Truth) → so ≡ false → FitAll L ps ts so → (IsTrue false ↔ Fits L (seq ps) t)
+  unfit_list so h f = (λ a. absurd cc, λ k. absurd (f.none h k.binding (list_inside (subst (λ u. Match L (seq ps) u k.binding) e k.matched))))

@@ -1,20 +1,19 @@
 -- A pattern in the hole of one that binds nothing: what comes of the part at the end of a path.
-use Rattle.std.proofs.Common.{◌≡◌, ◌∙◌, ℕ, List, [], refl, sym, ap, subst}
+use Rattle.std.proofs.Common.{◌≡◌, ◌∙◌, ℕ, true, List, refl, sym, ap, subst}
 use Rattle.rdx_term.specs.AtPaths.{IsPlace, tree_at, context_at}
 use Rattle.rdx_term.specs.Path.{path}
 use Rattle.rdx_term.specs.Tree.{Tree}
 use Rattle.rdx_lang.proofs.Collecting.{In_along}
-use Rattle.rdx_lang.proofs.JoinLaws.{one_value, turned_join, unit_left, unit_left-only}
-use Rattle.rdx_lang.proofs.NameLaws.{match-ascends, split-names}
+use Rattle.rdx_lang.proofs.JoinLaws.{one_left-only, one_name-ascends, one_value, turned_join, unit_left, unit_left-only}
+use Rattle.rdx_lang.proofs.NameLaws.{match-ascends}
 use Rattle.rdx_lang.proofs.RuleSteps.{named_splits, in_hole_inside}
 use Rattle.rdx_lang.proofs.SplitLaws.{split-along}
-use Rattle.rdx_lang.specs.Bindings.{Binding, pairs, no_names, one_name, HasAscendingNames}
+use Rattle.rdx_lang.specs.Bindings.{Binding, no_names, one_name, HasAscendingNames}
 use Rattle.rdx_lang.specs.Bindings.{one as one_term}
 use Rattle.rdx_lang.specs.Collecting.{Arises, HasExactly}
 use Rattle.rdx_lang.specs.Join.{IsJoin}
 use Rattle.rdx_lang.specs.Laws.{IsAlongPath}
-use Rattle.rdx_lang.specs.Members.{In, here, there}
-use Rattle.rdx_lang.specs.Names.{names}
+use Rattle.rdx_lang.specs.Members.{In, here}
 use Rattle.rdx_lang.specs.Patterns.{Pattern, named, in_hole, Language}
 use Rattle.rdx_lang.specs.Rules.{Match, Split, split_named, match_in_hole}
 use Rattle.rdx_bind.proofs.AcrossRows.{AreMaps}
@@ -22,8 +21,9 @@ use Rattle.rdx_bind.proofs.Gathering.{exactly_as}
 use Rattle.rdx_bind.proofs.SplitRules.{at_its_path}
 use Rattle.rdx_bind.specs.Spots.{SplitsAt}
 use Rattle.rdx_direct.proofs.GoingLaws.{Both, goes_onward, goes_back}
-use Rattle.rdx_direct.proofs.PlainLaws.{binds_nothing}
+use Rattle.rdx_direct.proofs.PlainLaws.{split-empty}
 use Rattle.rdx_direct.specs.Inside.Going.{Fits, Goes, Joins, NamedAt, OnlyOf}
+use Rattle.rdx_direct.specs.Inside.Plain.{is_plain}
 use Rattle.rdx_direct.specs.Inside.Wanted.{Anything}
 use Rattle.rdx_direct.specs.Inside.Paths.{Leads}
 use Rattle.rdx_direct.specs.declared.paths.Paths.{Paths}
@@ -38,7 +38,7 @@ GoesAt L r t gs w = Goes (Match L r (tree_at t w)) gs
 abbrev pub GoesWithName : (L : Language) → Pattern → Tree → List ℕ → List Binding → List ℕ → Binding → Type 0
 GoesWithName L r t x gs w = Goes (NamedAt L r t x w) gs
 
-module _ {L : Language} {Q : Tree → Type 0} {q r : Pattern} {t : Tree} (e : names q ≡ []) {P : Paths} (reach : Between (Reached L Q q t) (Reached L Anything q t) P) (ws : List (List ℕ)) (listed : HasExactly ws (Leads P)) (gs : List Binding) where
+module _ {L : Language} {Q : Tree → Type 0} {q r : Pattern} {t : Tree} (e : is_plain q ≡ true) {P : Paths} (reach : Between (Reached L Q q t) (Reached L Anything q t) P) (ws : List (List ℕ)) (listed : HasExactly ws (Leads P)) (gs : List Binding) where
   part_there : {C u : Tree} {c d : Binding} → Split L q t C u c → Match L r u d → Match L r (tree_at t (path C)) d
   part_there {d = d} h m = let a : IsAlongPath t _ _ = split-along h in subst (λ v. Match L r v d) a.part m
 
@@ -56,7 +56,7 @@ module _ {L : Language} {Q : Tree → Type 0} {q r : Pattern} {t : Tree} (e : na
       back b g =
           let i = in_hole_inside g.by.holds in
           let k = reach.complete (path i.context) (reached_split i.split (f i.part (record { binding = i.inner; matched = i.matched }))) in
-          let z : i.outer ≡ no_names = binds_nothing i.outer (split-names i.split ∙ e) in
+          let z : i.outer ≡ no_names = split-empty e i.split in
           let y : g.by.bound ≡ i.inner = unit_left-only (match-ascends i.matched) (subst (λ c. IsJoin c i.inner g.by.bound) z i.joined) in
           record {
             from = path i.context;
@@ -77,7 +77,7 @@ module _ {L : Language} {Q : Tree → Type 0} {q r : Pattern} {t : Tree} (e : na
           let k = reach.sound a.from (listed.sound a.from a.among) in
           let s = split_there e k in
           let d : Binding = one_name x (one_term (context_at t a.from)) in
-          let split : Split L (named x q) t (context_at t a.from) (tree_at t a.from) d = split_named s.split (unit_left d (tt, tt)) in
+          let split : Split L (named x q) t (context_at t a.from) (tree_at t a.from) d = split_named s.split (unit_left d (one_name-ascends x (one_term (context_at t a.from)))) in
           record { from = g.from; among = g.among; by = record { bound = g.by.bound; holds = match_in_hole split m.matched (turned_join m.inner d g.by.bound m.joined); joined = g.by.joined } }
 
       back : (b : Binding) → Goes (Match L (in_hole (named x q) r) t) gs b → Arises (GoesWithName L r t x gs) ws b
@@ -87,11 +87,11 @@ module _ {L : Language} {Q : Tree → Type 0} {q r : Pattern} {t : Tree} (e : na
           let a : IsAlongPath t i.context i.part = split-along i.split in
           let l : SplitsAt L q t _ = at_its_path n.split in
           let there : List ℕ = path i.context in
-          let z : n.inside ≡ no_names = binds_nothing n.inside (split-names n.split ∙ e) in
-          let o : i.outer ≡ one_name x (one_term i.context) = unit_left-only (tt, tt) (subst (λ v. IsJoin v (one_name x (one_term i.context)) i.outer) z n.joined) in
+          let z : n.inside ≡ no_names = split-empty e n.split in
+          let o : i.outer ≡ one_name x (one_term i.context) = one_left-only (subst (λ v. IsJoin v (one_name x (one_term i.context)) i.outer) z n.joined) in
           let y : i.outer ≡ one_name x (one_term (context_at t there)) = o ∙ ap (λ v. one_name x (one_term v)) a.context in
-          let within : In (x, one_term (context_at t there)) (pairs b) = g.by.joined.right _ (i.joined.left _ (In_along (one_name x (one_term (context_at t there))) i.outer (sym y) (here refl))) in
-          let alone : OnlyOf x (one_term (context_at t there)) g.from = λ v k. one_value x v (one_term (context_at t there)) b g.by.joined.map (g.by.joined.left (x, v) k) within in
+          let within : In (x, one_term (context_at t there)) b.pairs = g.by.joined.pairs.right _ (i.joined.pairs.left _ (In_along (one_name x (one_term (context_at t there))).pairs i.outer.pairs (ap (λ (c : Binding). c.pairs) (sym y)) (here refl))) in
+          let alone : OnlyOf x (one_term (context_at t there)) g.from = λ v k. one_value x v (one_term (context_at t there)) b.pairs g.by.joined.pairs.map (g.by.joined.pairs.left (x, v) k) within in
           let wanted : Q i.part = subst Q (sym a.part) (f there g.from l.inside g.among alone (record { binding = i.inner; matched = subst (λ v. Match L r v i.inner) a.part i.matched })) in
           let k = reach.complete there (reached_split n.split wanted) in
           let j : IsJoin i.inner i.outer g.by.bound = turned_join i.outer i.inner g.by.bound i.joined in
@@ -127,8 +127,8 @@ name_for t x w = one_name x (one_term (context_at t w))
 pub named_after : {L : Language} {r : Pattern} (t u : Tree) (x w : List ℕ) (gs : List Binding) → AreMaps gs → u ≡ tree_at t w → (inners bs : List Binding) → HasExactly inners (Goes (Match L r u) gs)
     → HasExactly bs (Joins (name_for t x w) inners) → HasExactly bs (Goes (NamedAt L r t x w) gs)
 named_after {L} {r} t u x w gs maps part inners bs h k = exactly_as
-    (λ b j. goes_onward (Match L r u) (λ c. c ≡ d) (NamedAt L r t x w) (λ c i. match-ascends i) (only_map d (tt, tt)) gs inners h made b (by_name d inners b j))
-    (λ b g. of_name d inners b (goes_back (Match L r u) (λ c. c ≡ d) (NamedAt L r t x w) (λ c i. match-ascends i) (only_map d (tt, tt)) gs inners h maps taken b g)) k
+    (λ b j. goes_onward (Match L r u) (λ c. c ≡ d) (NamedAt L r t x w) (λ c i. match-ascends i) (only_map d (one_name-ascends x (one_term (context_at t w)))) gs inners h made b (by_name d inners b j))
+    (λ b g. of_name d inners b (goes_back (Match L r u) (λ c. c ≡ d) (NamedAt L r t x w) (λ c i. match-ascends i) (only_map d (one_name-ascends x (one_term (context_at t w)))) gs inners h maps taken b g)) k
   where
     d : Binding
     d = name_for t x w
@@ -143,8 +143,8 @@ named_after {L} {r} t u x w gs maps part inners bs h k = exactly_as
 pub named_before : {L : Language} {r : Pattern} (t u : Tree) (x w : List ℕ) (gs : List Binding) → AreMaps gs → u ≡ tree_at t w → (outers bs : List Binding) → HasExactly outers (Joins (name_for t x w) gs)
     → HasExactly bs (Goes (Match L r u) outers) → HasExactly bs (Goes (NamedAt L r t x w) gs)
 named_before {L} {r} t u x w gs maps part outers bs h k = exactly_as
-    (λ b g. goes_onward (λ c. c ≡ d) (Match L r u) (NamedAt L r t x w) (only_map d (tt, tt)) (λ c i. match-ascends i) gs outers bound made b g)
-    (λ b g. goes_back (λ c. c ≡ d) (Match L r u) (NamedAt L r t x w) (only_map d (tt, tt)) (λ c i. match-ascends i) gs outers bound maps taken b g) k
+    (λ b g. goes_onward (λ c. c ≡ d) (Match L r u) (NamedAt L r t x w) (only_map d (one_name-ascends x (one_term (context_at t w)))) (λ c i. match-ascends i) gs outers bound made b g)
+    (λ b g. goes_back (λ c. c ≡ d) (Match L r u) (NamedAt L r t x w) (only_map d (one_name-ascends x (one_term (context_at t w)))) (λ c i. match-ascends i) gs outers bound maps taken b g) k
   where
     d : Binding
     d = name_for t x w

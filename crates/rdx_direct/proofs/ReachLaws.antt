@@ -1,5 +1,6 @@
 -- Where patterns that bind nothing split a term, as far as another pattern may match the part.
 use Rattle.std.proofs.Common.{◌≡◌, ◌∙◌, ◌⊎◌, inl, inr, ℕ, zero, suc, ◌+◌, ◌≤◌, Bool as Truth, true, false, IsTrue, IsFalse, List, [], ◌∷◌, length, Option, Some, None, refl, sym, ap, subst, arith}
+use Rattle.std.proofs.lemmas.Bool.{and_parts}
 use Rattle.std.specs.Prelude.{◌↔◌, ◌&&◌, ◌||◌, not}
 use Rattle.rdx_term.specs.AtPaths.{tree_at}
 use Rattle.rdx_term.specs.Path.{path}
@@ -9,19 +10,17 @@ use Rattle.rdx_term.specs.Tree.{Tree, Trees, cons, list, trees}
 use Rattle.rdx_term.specs.Tree.{nil as no_trees}
 use Rattle.rdx_term.specs.Tree.{hole as the_hole}
 use Rattle.rdx_lang.proofs.Collecting.{In_along, no_member}
-use Rattle.rdx_lang.proofs.JoinLaws.{unit_left}
-use Rattle.rdx_lang.proofs.NameLaws.{match-names, items-ascends, items-names, run-ascends, run-names, split-names}
+use Rattle.rdx_lang.proofs.JoinLaws.{none_left}
+use Rattle.rdx_lang.proofs.NameLaws.{items-ascends}
 use Rattle.rdx_lang.proofs.RuleSteps.{hole_inside, seq_splits, nt_splits, hole_splits, list_inside, item_inside, many_inside, run_at_end, run_at_term, RunParts, ended, turned}
 use Rattle.rdx_lang.proofs.SplitLaws.{split-along, items-along}
 use Rattle.rdx_lang.specs.Bindings.{Binding, no_names}
-use Rattle.rdx_lang.specs.Collections.{IsRepetition, without_length}
 use Rattle.rdx_lang.specs.Collecting.{HasExactly}
 use Rattle.rdx_lang.specs.Join.{IsJoin}
 use Rattle.rdx_lang.specs.Laws.{IsAlongPath}
 use Rattle.rdx_lang.specs.Members.{In, here, there}
-use Rattle.rdx_lang.specs.Names.{names, item_names, add_names}
 use Rattle.rdx_lang.specs.Patterns.{Pattern, Items, nil, one, many, seq, nt, hole, Language}
-use Rattle.rdx_lang.specs.Rules.{AreAlternatives, Match, match_none, MatchItems, MatchRun, Split, match_hole, split_nt, split_hole, match_seq, SplitItems, SplitRun, match_one, match_many, run_end, run_more, split_here, split_behind, split_many, run_here, run_there, run_behind}
+use Rattle.rdx_lang.specs.Rules.{AreAlternatives, Match, match_none, MatchItems, MatchRun, Split, match_hole, split_nt, split_hole, match_seq, SplitItems, SplitRun, match_one, split_here, split_behind, split_many, run_here, run_there, run_behind}
 use Rattle.rdx_bind.proofs.SplitRules.{at_its_path, path_there}
 use Rattle.rdx_bind.proofs.SplitItems.{list_splits}
 use Rattle.rdx_lang.specs.Shown.{bindings_of}
@@ -32,18 +31,15 @@ use Rattle.rdx_bind.specs.Spots.{Spot, SplitsAt, PlacedAt, ItemsSplitAt, RunSpli
 use Rattle.rdx_direct.proofs.GoingLaws.{goes_first, some_found, none_found}
 use Rattle.rdx_direct.proofs.ItemLaws.{no_term}
 use Rattle.rdx_direct.proofs.SplitLaws.{both_true, first_true, second_true}
-use Rattle.rdx_direct.proofs.PlainLaws.{no_names_apart, no_names_together, binds_nothing}
+use Rattle.rdx_direct.proofs.PlainLaws.{AreEmpty, more_empty, match-empty, turns-empty, behind-empty, split-empty, nothing_repeated, nothing_bound, nothing_bound_by_items, run_matches, one_turn_more, no_turn_more}
 use Rattle.rdx_direct.specs.Inside.Going.{FitAll, Fits, Goes}
 use Rattle.rdx_direct.specs.Inside.Wanted.{Anything}
+use Rattle.rdx_direct.specs.Inside.Plain.{is_plain, are_plain}
 use Rattle.rdx_direct.specs.Inside.Paths.{AreBoth, AreKeptAnd, Leads, LeadsWithin, NoPaths}
 use Rattle.rdx_direct.specs.declared.paths.Paths.{Paths}
 use Rattle.rdx_direct.specs.Inside.Reaching.{IsApart, Reached, AnyReached, PlacedReach, ItemsReach, reach_here, reach_behind, reach_ended, reach_turn, reach_past, Between}
 
 -- ---- what binds nothing
-
--- a collection of no names, and a repetition of none, bind nothing
-pub nothing_collected : {xs : List (List ℕ)} {cs : List Binding} → xs ≡ [] → IsRepetition xs cs None no_names
-nothing_collected {xs} {cs} e = subst (λ ys. IsRepetition ys cs None no_names) (sym e) (without_length (record { names = refl; sequences = λ x v i. no_member i }))
 
 along_zero : (n : ℕ) (ks : List ℕ) → (n + zero) ∷ ks ≡ n ∷ ks
 along_zero n ks = let z : n + zero ≡ n = omega arith in ap (λ k. k ∷ ks) z
@@ -55,37 +51,17 @@ along_suc n k ks = let z : suc n + k ≡ n + suc k = omega arith in ap (λ j. j 
 abbrev pub spot_at : List ℕ → Spot
 spot_at w = record { path = w; binding = no_names }
 
-none_joined : IsJoin no_names no_names no_names
-none_joined = unit_left no_names tt
-
 -- what is joined to no names binds nothing
 only_second : {c : Binding} (d : Binding) → IsJoin c d no_names → IsJoin no_names d no_names
-only_second d j = record { map = tt; sound = λ p i. inl i; left = λ p i. i; right = λ p i. j.right p i }
+only_second d j = record {
+  pairs = record { map = tt; sound = λ p i. inl i; left = λ p i. i; right = λ p i. j.pairs.right p i };
+  differs = record { sets = (tt, tt); sound = λ u i. inl i; left = λ u i. i; right = λ u i. j.differs.right u i; apart = λ u i k. no_member i };
+}
 
 module _ {L : Language} where
-  -- what matches binds nothing
-  pub nothing_bound : {p : Pattern} {t : Tree} {b : Binding} → names p ≡ [] → Match L p t b → Match L p t no_names
-  nothing_bound {p} {t} {b} e m = subst (Match L p t) (binds_nothing b (match-names m ∙ e)) m
-
-  pub nothing_bound_by_items : {ps : Items} {ts : Trees} {b : Binding} → item_names ps ≡ [] → MatchItems L ps ts b → MatchItems L ps ts no_names
-  nothing_bound_by_items {ps} {ts} {b} e m = subst (MatchItems L ps ts) (binds_nothing b (items-names m ∙ e)) m
-
-  pub fits_nothing : {p : Pattern} {t : Tree} → names p ≡ [] → Fits L p t → Match L p t no_names
+  pub fits_nothing : {p : Pattern} {t : Tree} → is_plain p ≡ true → Fits L p t → Match L p t no_names
   fits_nothing e f = nothing_bound e f.matched
 
-  -- what a run and the items behind it match, a repetition matches
-  pub run_matches : {p : Pattern} {ps : Items} {ts : Trees} {cs : List Binding} {d : Binding} → names p ≡ [] → item_names ps ≡ [] → MatchRun L p ps ts cs d → MatchItems L (many p None ps) ts no_names
-  run_matches {p} {ps} {ts} {cs} {d} e f r = nothing_bound_by_items (no_names_together (names p) (item_names ps) e f) (match_many r (nothing_collected e) (unit_left d (run-ascends r)))
-
-  -- one turn more
-  pub one_turn_more : {p : Pattern} {ps : Items} {t : Tree} {ts : Trees} → names p ≡ [] → item_names ps ≡ [] → Fits L p t → MatchItems L (many p None ps) ts no_names → MatchItems L (many p None ps) (cons t ts) no_names
-  one_turn_more e f g m = let i = many_inside m in run_matches e f (run_more g.matched i.run)
-
-  -- no turn more
-  pub no_turn_more : {p : Pattern} {ps : Items} {ts : Trees} → names p ≡ [] → item_names ps ≡ [] → MatchItems L ps ts no_names → MatchItems L (many p None ps) ts no_names
-  no_turn_more e f m = run_matches e f (run_end m)
-
-  -- everything is matched by what matches all
   -- ---- from a split on
 
   -- a split with a part that is matched
@@ -93,7 +69,7 @@ module _ {L : Language} where
   reached_split {Q} {t = t} {C = C} {c = c} h f = let a : IsAlongPath t C _ = split-along h in record { binding = c; split = at_its_path h; wanted = subst Q a.part f }
 
   -- where a run splits a term, for what its items do
-  run_reaches : {Q : Tree → Type 0} {p : Pattern} {ps : Items} → names p ≡ [] → item_names ps ≡ []
+  run_reaches : {Q : Tree → Type 0} {p : Pattern} {ps : Items} → is_plain p ≡ true → are_plain ps ≡ true
       → ((n k : ℕ) (ts : Trees) (D s : Tree) (b : Binding) → SplitItems L ps ts k D s b → Q s → ItemsReach L Q n ps ts ((n + k) ∷ path D))
       → (n k : ℕ) (ts : Trees) (D s : Tree) (cs : List Binding) (d : Binding) → SplitRun L p ps ts k D s cs d → Q s → ItemsReach L Q n (many p None ps) ts ((n + k) ∷ path D)
   run_reaches e f items n zero (cons t ts) D s cs d (run_here h m) g = reach_turn (record { path = path D; along = along_zero n (path D); reached = reached_split h g }) (run_matches e f m)
@@ -102,56 +78,60 @@ module _ {L : Language} where
   run_reaches e f items n k ts D s cs d (run_behind h) g = reach_ended (items n k ts D s d h g)
 
   -- where items split a term
-  pub items_reach : {Q : Tree → Type 0} (ps : Items) → item_names ps ≡ [] → (n k : ℕ) (ts : Trees) (D s : Tree) (b : Binding) → SplitItems L ps ts k D s b → Q s → ItemsReach L Q n ps ts ((n + k) ∷ path D)
+  pub items_reach : {Q : Tree → Type 0} (ps : Items) → are_plain ps ≡ true → (n k : ℕ) (ts : Trees) (D s : Tree) (b : Binding) → SplitItems L ps ts k D s b → Q s → ItemsReach L Q n ps ts ((n + k) ∷ path D)
   items_reach nil e n k ts D s b h g = elim h [ ]
   items_reach (one p ps) e n zero (cons t ts) D s b (split_here h m j) g =
-      reach_here (record { path = path D; along = along_zero n (path D); reached = reached_split h g }) (nothing_bound_by_items (no_names_apart (names p) (item_names ps) e).1 m)
+      reach_here (record { path = path D; along = along_zero n (path D); reached = reached_split h g }) (nothing_bound_by_items (and_parts (is_plain p) (are_plain ps) e).1 m)
   items_reach {Q} (one p ps) e n (suc k) (cons t ts) D s b (split_behind {c = c} {d = d} m h j) g =
-      subst (ItemsReach L Q n (one p ps) (cons t ts)) (along_suc n k (path D)) (reach_behind (record { binding = c; matched = m }) (items_reach ps (no_names_apart (names p) (item_names ps) e).1 (suc n) k ts D s d h g))
+      subst (ItemsReach L Q n (one p ps) (cons t ts)) (along_suc n k (path D)) (reach_behind (record { binding = c; matched = m }) (items_reach ps (and_parts (is_plain p) (are_plain ps) e).1 (suc n) k ts D s d h g))
   items_reach (one p ps) e n zero no_trees D s b h g = elim h [ ]
   items_reach (one p ps) e n (suc k) no_trees D s b h g = elim h [ ]
   items_reach (many p None ps) e n k ts D s b (split_many {cs = cs} {d = d} h o j) g =
-      let a = no_names_apart (names p) (item_names ps) e in
+      let a = and_parts (is_plain p) (are_plain ps) e in
       run_reaches a.0 a.1 (λ i l us E u c q f. items_reach ps a.1 i l us E u c q f) n k ts D s cs d h g
-  items_reach (many p (Some x) ps) e n k ts D s b h g =
-      let length : x ∷ [] ≡ [] = (no_names_apart (names p) (x ∷ []) (no_names_apart (add_names (names p) (x ∷ [])) (item_names ps) e).0).1 in
-      absurd cc
+  items_reach (many p (Some x) ps) e n k ts D s b h g = absurd cc
 
   -- ---- back to a split
 
   -- a pattern that binds nothing splits there with no names
-  pub split_there : {Q : Tree → Type 0} {p : Pattern} {t : Tree} {w : List ℕ} → names p ≡ [] → Reached L Q p t w → SplitsAt L p t (spot_at w)
-  split_there {Q} {p} {t} {w} e h = subst (λ b. SplitsAt L p t (record { path = w; binding = b })) (binds_nothing h.binding (split-names h.split.split ∙ e)) h.split
+  pub split_there : {Q : Tree → Type 0} {p : Pattern} {t : Tree} {w : List ℕ} → is_plain p ≡ true → Reached L Q p t w → SplitsAt L p t (spot_at w)
+  split_there {Q} {p} {t} {w} e h = subst (λ b. SplitsAt L p t (record { path = w; binding = b })) (split-empty e h.split.split) h.split
 
-  placed_there : {Q : Tree → Type 0} {p : Pattern} {n : ℕ} {t : Tree} {w : List ℕ} → names p ≡ [] → PlacedReach L Q n p t w → PlacedAt L n p t (spot_at w)
+  placed_there : {Q : Tree → Type 0} {p : Pattern} {n : ℕ} {t : Tree} {w : List ℕ} → is_plain p ≡ true → PlacedReach L Q n p t w → PlacedAt L n p t (spot_at w)
   placed_there e h = record { spot = spot_at h.path; split = split_there e h.reached; placed = record { path = h.along; binding = refl } }
 
-  -- a repetition splits where a run of it does
-  many_splits_at : {n : ℕ} {p : Pattern} {ps : Items} {ts : Trees} {w : List ℕ} {cs : List Binding} {d : Binding} → names p ≡ [] → d ≡ no_names → RunSplitsAt L n p ps ts w cs d → ItemsSplitAt L n (many p None ps) ts (spot_at w)
-  many_splits_at {n} {p} {ps} {ts} {w} {cs} e f h = splits_many (subst (RunSplitsAt L n p ps ts w cs) f h) (nothing_collected e) none_joined
+  -- the turns of a run of which one is split bind nothing
+  run_turns-empty : {n : ℕ} {p : Pattern} {ps : Items} {ts : Trees} {w : List ℕ} {cs : List Binding} {d : Binding} → is_plain p ≡ true → RunSplitsAt L n p ps ts w cs d → AreEmpty cs
+  run_turns-empty e (run_splits_here h m q) = more_empty (h.placed.binding ∙ split-empty e h.split.split) (turns-empty e m)
+  run_turns-empty e (run_splits_there m h) = more_empty (match-empty e m) (run_turns-empty e h)
+  run_turns-empty e (run_splits_behind h q) = λ b i. no_member i
 
-  past : {n : ℕ} {p : Pattern} {ps : Items} {t : Tree} {ts : Trees} (w : List ℕ) → names p ≡ [] → Fits L p t → ItemsSplitAt L (suc n) (many p None ps) ts (spot_at w) → ItemsSplitAt L n (many p None ps) (cons t ts) (spot_at w)
-  past w e f (splits_many {d = d} h o j) = splits_many (run_splits_there (fits_nothing e f) h) (nothing_collected e) (only_second d j)
+  -- a repetition splits where a run of it does
+  many_splits_at : {n : ℕ} {p : Pattern} {ps : Items} {ts : Trees} {w : List ℕ} {cs : List Binding} {d : Binding} → is_plain p ≡ true → d ≡ no_names → RunSplitsAt L n p ps ts w cs d → ItemsSplitAt L n (many p None ps) ts (spot_at w)
+  many_splits_at {n} {p} {ps} {ts} {w} {cs} e f h = splits_many (subst (RunSplitsAt L n p ps ts w cs) f h) (nothing_repeated p e (run_turns-empty e h)) none_left
+
+  past : {n : ℕ} {p : Pattern} {ps : Items} {t : Tree} {ts : Trees} (w : List ℕ) → is_plain p ≡ true → Fits L p t → ItemsSplitAt L (suc n) (many p None ps) ts (spot_at w) → ItemsSplitAt L n (many p None ps) (cons t ts) (spot_at w)
+  past {p = p} w e f (splits_many {d = d} h o j) = splits_many (run_splits_there (fits_nothing e f) h) (nothing_repeated p e (more_empty refl (run_turns-empty e h))) (only_second d j)
 
   -- items split where they reach
-  pub reach_splits : {Q : Tree → Type 0} {n : ℕ} {ps : Items} {ts : Trees} {w : List ℕ} → item_names ps ≡ [] → ItemsReach L Q n ps ts w → ItemsSplitAt L n ps ts (spot_at w)
+  pub reach_splits : {Q : Tree → Type 0} {n : ℕ} {ps : Items} {ts : Trees} {w : List ℕ} → are_plain ps ≡ true → ItemsReach L Q n ps ts w → ItemsSplitAt L n ps ts (spot_at w)
   reach_splits {ps = nil} e h = elim h [ ]
   reach_splits {ps = many p (Some x) ps} e h = elim h [ ]
-  reach_splits {ps = one p ps} e (reach_here h m) = splits_here (placed_there (no_names_apart (names p) (item_names ps) e).0 h) m none_joined refl
-  reach_splits {ps = one p ps} e (reach_behind f h) = let a = no_names_apart (names p) (item_names ps) e in splits_behind (fits_nothing a.0 f) (reach_splits a.1 h) none_joined refl
-  reach_splits {ps = many p None ps} e (reach_ended h) = let a = no_names_apart (names p) (item_names ps) e in many_splits_at a.0 refl (run_splits_behind (reach_splits a.1 h) refl)
+  reach_splits {ps = one p ps} e (reach_here h m) = splits_here (placed_there (and_parts (is_plain p) (are_plain ps) e).0 h) m none_left refl
+  reach_splits {ps = one p ps} e (reach_behind f h) = let a = and_parts (is_plain p) (are_plain ps) e in splits_behind (fits_nothing a.0 f) (reach_splits a.1 h) none_left refl
+  reach_splits {ps = many p None ps} e (reach_ended h) = let a = and_parts (is_plain p) (are_plain ps) e in many_splits_at a.0 refl (run_splits_behind (reach_splits a.1 h) refl)
   reach_splits {ps = many p None ps} e (reach_turn h m) =
-      let a = no_names_apart (names p) (item_names ps) e in
+      let a = and_parts (is_plain p) (are_plain ps) e in
       let i = many_inside m in
-      many_splits_at a.0 (binds_nothing i.rest (run-names i.run ∙ a.1)) (run_splits_here (placed_there a.0 h) i.run refl)
-  reach_splits {ps = many p None ps} {w = w} e (reach_past f h) = past w (no_names_apart (names p) (item_names ps) e).0 f (reach_splits e h)
+      many_splits_at a.0 (behind-empty a.1 i.run) (run_splits_here (placed_there a.0 h) i.run refl)
+  reach_splits {ps = many p None ps} {w = w} e (reach_past f h) = past w (and_parts (is_plain p) (are_plain ps) e).0 f (reach_splits e h)
 
   -- a list pattern splits where its items reach
-  pub list_reached : {Q : Tree → Type 0} {ps : Items} {m : Option ℕ} {ts : Trees} {w : List ℕ} → item_names ps ≡ [] → ItemsReach L Q 0 ps ts w → Reached L Anything (seq ps) (list m ts) w
+  pub list_reached : {Q : Tree → Type 0} {ps : Items} {m : Option ℕ} {ts : Trees} {w : List ℕ} → are_plain ps ≡ true → ItemsReach L Q 0 ps ts w → Reached L Anything (seq ps) (list m ts) w
   list_reached {w = w} e h = record { binding = no_names; split = list_splits (spot_at w) (reach_splits e h); wanted = tt }
 
   -- and only there
-  pub reached_list : {Q : Tree → Type 0} {ps : Items} {m : Option ℕ} {ts : Trees} {w : List ℕ} → item_names ps ≡ [] → Reached L Q (seq ps) (list m ts) w → ItemsReach L Q 0 ps ts w
+  pub reached_list : {Q : Tree → Type 0} {ps : Items} {m : Option ℕ} {ts : Trees} {w : List ℕ} → are_plain ps ≡ true → Reached L Q (seq ps) (list m ts) w → ItemsReach L Q 0 ps ts w
   reached_list {Q} {ps} {m} {ts} {w} e h =
       let i = seq_splits h.split.split in
       let same : i.items ≡ ts = sym (ap tree_items i.same) in
@@ -179,7 +159,7 @@ RestReach L Q n ps ts ss all w = (IsTrue all × ItemsReach L Q n ps ts w) ⊎ (L
 
 -- whatever comes of the rest comes of all, and what comes of all comes of the rest
 pub record StillReach (L : Language) (Q : Tree → Type 0) (i : ℕ) (whole : Items) (all_terms : Trees) (n : ℕ) (ps : Items) (ts : Trees) (ss : Paths) (all : Truth) : Type 0 where
-  pub plain : item_names ps ≡ []
+  pub plain : are_plain ps ≡ true
   pub onward : (w : List ℕ) → RestReach L Anything n ps ts ss all w → ItemsReach L Anything i whole all_terms w
   pub back : (w : List ℕ) → ItemsReach L Q i whole all_terms w → RestReach L Q n ps ts ss all w
   pub some : IsTrue all → MatchItems L ps ts no_names → MatchItems L whole all_terms no_names
@@ -195,7 +175,7 @@ no_item_reached h = elim h [ ]
 
 module _ {L : Language} {Q : Tree → Type 0} where
   -- at the start
-  pub reach_start : (n : ℕ) (ps : Items) (ts : Trees) (ss : Paths) → item_names ps ≡ [] → NoPaths ss → StillReach L Q n ps ts n ps ts ss true
+  pub reach_start : (n : ℕ) (ps : Items) (ts : Trees) (ss : Paths) → are_plain ps ≡ true → NoPaths ss → StillReach L Q n ps ts n ps ts ss true
   reach_start n ps ts ss e f = record {
     plain = e;
     onward = λ w. elim [ inl h ↦ h.1 | inr h ↦ absurd (f w h.0) ];
@@ -212,13 +192,13 @@ module _ {L : Language} {Q : Tree → Type 0} where
     plain = apart.1;
     onward = λ w h. s.onward w (along w (before w h));
     back = λ w h. further w (against w (s.back w h));
-    some = λ a m. s.some (first_true all so a) (subst (λ x. MatchItems L x us no_names) (sym e) (subst (λ x. MatchItems L (one p ps) x no_names) (sym f) (match_one (fit_nothing (second_true all so a)) m (unit_left no_names tt))));
+    some = λ a m. s.some (first_true all so a) (subst (λ x. MatchItems L x us no_names) (sym e) (subst (λ x. MatchItems L (one p ps) x no_names) (sym f) (match_one (fit_nothing (second_true all so a)) m none_left)));
     every = λ m. let k = s.every m in let g = item_inside (subst (λ x. MatchItems L (one p ps) x no_names) f (subst (λ x. MatchItems L x us no_names) e k.1)) in
         (both_true all so k.0 (fit.1 (record { binding = g.first; matched = g.first_matched })), nothing_bound_by_items apart.1 g.rest_matched);
   }
     where
-      apart : (names p ≡ []) × (item_names ps ≡ [])
-      apart = no_names_apart (names p) (item_names ps) (ap item_names (sym e) ∙ s.plain)
+      apart : (is_plain p ≡ true) × (are_plain ps ≡ true)
+      apart = and_parts (is_plain p) (are_plain ps) (ap are_plain (sym e) ∙ s.plain)
 
       fit_nothing : IsTrue so → Match L p t no_names
       fit_nothing h = fits_nothing apart.0 (fit.0 h)
@@ -238,7 +218,7 @@ module _ {L : Language} {Q : Tree → Type 0} where
       before : (w : List ℕ) → RestReach L Anything (suc n) ps ts new (all && so) w → RestReach L Anything n (one p ps) (cons t ts) ss all w
       before w (inl (a, h)) = inl (first_true all so a, reach_behind (fit.0 (second_true all so a)) h)
       before w (inr (k, m)) = elim ((kept w).0 k) [
-        | inl g ↦ inr (g.1, match_one (fit_nothing g.0) m (unit_left no_names tt))
+        | inl g ↦ inr (g.1, match_one (fit_nothing g.0) m none_left)
         | inr g ↦ let q = reach.sound w g in inl (q.0, reach_here q.1 m)
       ]
 
@@ -330,7 +310,7 @@ true_second : (a b : Truth) → IsTrue b → IsTrue (a || b)
 true_second true b h = refl
 true_second false b h = h
 
-module _ {L : Language} {Q : Tree → Type 0} {p : Pattern} {ps : Items} (e : names p ≡ []) (f : item_names ps ≡ []) (i : ℕ) (all_terms : Trees) where
+module _ {L : Language} {Q : Tree → Type 0} {p : Pattern} {ps : Items} (e : is_plain p ≡ true) (f : are_plain ps ≡ true) (i : ℕ) (all_terms : Trees) where
   pub turns_start : (ss : Paths) → NoPaths ss → StillTurns L Q p ps i all_terms i all_terms ss false
   turns_start ss z = record {
     found = λ w q. absurd (z w q);
@@ -412,7 +392,7 @@ module _ {L : Language} {Q : Tree → Type 0} {p : Pattern} {ps : Items} (e : na
         onward = λ w h. s.onward w (subst (λ vs. ItemsReach L Anything n (many p None ps) vs w) (sym z) (reach_past (turn_fit.0 y) h));
         back = λ w h. elim (found_or_on w h) [ inl q ↦ inl q | inr q ↦ inr q.1 ];
         some_found = some_ends;
-        some = λ m. s.some (subst (λ vs. MatchItems L (many p None ps) vs no_names) (sym z) (one_turn_more e f (turn_fit.0 y) m));
+        some = λ m. s.some (subst (λ vs. MatchItems L (many p None ps) vs no_names) (sym z) (one_turn_more e f (turn_fit.0 y).matched m));
         every = λ m. elim (fit_or_on m) [ inl a ↦ inl a | inr k ↦ inr k.1 ];
       }
 
@@ -434,7 +414,7 @@ pub record Turned (L : Language) (Q : Tree → Type 0) (p : Pattern) (ps : Items
 
 -- the same for a walk that is at a place which is n, with terms which are ts, and with items which are the repetition and those behind it
 pub turned_at : {L : Language} {Q : Tree → Type 0} {p : Pattern} {ps from : Items} (i : ℕ) (all_terms : Trees) {n here : ℕ} {t : Tree} {us ts rest behind : Trees} (ss ends new turn kept final : Paths) (fits so more : Truth)
-    → item_names (many p None ps) ≡ [] → from ≡ many p None ps → here ≡ n → ts ≡ cons t us → rest ≡ ts → behind ≡ us
+    → are_plain (many p None ps) ≡ true → from ≡ many p None ps → here ≡ n → ts ≡ cons t us → rest ≡ ts → behind ≡ us
     → (IsTrue so ↔ MatchItems L ps rest no_names) → Between (ItemsReach L Q here ps rest) (ItemsReach L Anything here ps rest) ends → AreBoth ss ends new
     → (IsTrue more ↔ Fits L p t) → Between (λ w. IsTrue true × PlacedReach L Q here p t w) (λ w. IsTrue true × PlacedReach L Anything here p t w) turn
     → ((w : List ℕ) → Leads kept w ↔ (Leads turn w × MatchItems L from behind no_names)) → AreBoth new kept final
@@ -442,8 +422,8 @@ pub turned_at : {L : Language} {Q : Tree → Type 0} {p : Pattern} {ps from : It
 turned_at {L} {Q} {p} {ps} {from} i all_terms {n} {here} {t} {us} {ts} {rest} {behind} ss ends new turn kept final fits so more plain whole at here_terms same same_behind fit reach adds turn_fit turn_reach keeps adds_turn s =
     record { next = turns_next_here; last = turns_last_here; last_fit = turns_last_fit_here }
   where
-    apart : (names p ≡ []) × (item_names ps ≡ [])
-    apart = no_names_apart (names p) (item_names ps) plain
+    apart : (is_plain p ≡ true) × (are_plain ps ≡ true)
+    apart = and_parts (is_plain p) (are_plain ps) plain
 
     fit_here : IsTrue so ↔ MatchItems L ps ts no_names
     fit_here = subst (λ x. IsTrue so ↔ MatchItems L ps x no_names) same fit
@@ -473,11 +453,11 @@ pub record TurnsDone (L : Language) (Q : Tree → Type 0) (p : Pattern) (ps : It
   pub fit : IsTrue fits ↔ MatchItems L (many p None ps) all_terms no_names
 
 pub done_at : {L : Language} {Q : Tree → Type 0} {p : Pattern} {ps : Items} (i : ℕ) (all_terms : Trees) {n here : ℕ} {ts rest : Trees} (ss ends new : Paths) (fits so : Truth)
-    → item_names (many p None ps) ≡ [] → here ≡ n → ts ≡ no_trees → rest ≡ ts
+    → are_plain (many p None ps) ≡ true → here ≡ n → ts ≡ no_trees → rest ≡ ts
     → (IsTrue so ↔ MatchItems L ps rest no_names) → Between (ItemsReach L Q here ps rest) (ItemsReach L Anything here ps rest) ends → AreBoth ss ends new
     → StillTurns L Q p ps i all_terms n ts ss fits → TurnsDone L Q p ps i all_terms new (fits || so)
 done_at {L} {Q} {p} {ps} i all_terms {n} {here} {ts} {rest} ss ends new fits so plain at none same fit reach adds s =
-    let apart : (names p ≡ []) × (item_names ps ≡ []) = no_names_apart (names p) (item_names ps) plain in
+    let apart : (is_plain p ≡ true) × (are_plain ps ≡ true) = and_parts (is_plain p) (are_plain ps) plain in
     let fit_here : IsTrue so ↔ MatchItems L ps ts no_names = subst (λ x. IsTrue so ↔ MatchItems L ps x no_names) same fit in
     let reach_here : Between (ItemsReach L Q n ps ts) (ItemsReach L Anything n ps ts) ends = subst (λ x. Between (ItemsReach L Q n ps x) (ItemsReach L Anything n ps x) ends) same
     (subst (λ k. Between (ItemsReach L Q k ps rest) (ItemsReach L Anything k ps rest) ends) at reach) in
@@ -596,11 +576,11 @@ module _ {L : Language} where
   }
 
   -- a list pattern
-  pub list_between : {Q : Tree → Type 0} {ps : Items} {ts : Trees} {xs : Paths} (t : Tree) (m : Option ℕ) → t ≡ list m ts → item_names ps ≡ [] → Between (ItemsReach L Q 0 ps ts) (ItemsReach L Anything 0 ps ts) xs
+  pub list_between : {Q : Tree → Type 0} {ps : Items} {ts : Trees} {xs : Paths} (t : Tree) (m : Option ℕ) → t ≡ list m ts → are_plain ps ≡ true → Between (ItemsReach L Q 0 ps ts) (ItemsReach L Anything 0 ps ts) xs
       → Between (Reached L Q (seq ps) t) (Reached L Anything (seq ps) t) xs
   list_between {Q} {ps} {ts} {xs} t m e f b = subst (λ u. Between (Reached L Q (seq ps) u) (Reached L Anything (seq ps) u) xs) (sym e) (between_as (λ w h. reached_list f h) (λ w h. list_reached f h) b)
 
-  pub list_matched : {ps : Items} {ts : Trees} (t : Tree) (m : Option ℕ) (so : Truth) → t ≡ list m ts → item_names ps ≡ [] → (IsTrue so ↔ MatchItems L ps ts no_names) → (IsTrue so ↔ Fits L (seq ps) t)
+  pub list_matched : {ps : Items} {ts : Trees} (t : Tree) (m : Option ℕ) (so : Truth) → t ≡ list m ts → are_plain ps ≡ true → (IsTrue so ↔ MatchItems L ps ts no_names) → (IsTrue so ↔ Fits L (seq ps) t)
   list_matched {ps} {ts} t m so e f g = (
     λ h. record { binding = no_names; matched = subst (λ u. Match L (seq ps) u no_names) (sym e) (match_seq (g.0 h)) },
     λ k. g.1 (nothing_bound_by_items f (list_inside (subst (λ u. Match L (seq ps) u k.binding) e k.matched))),
@@ -612,7 +592,7 @@ module _ {L : Language} where
 
 -- ---- whether items match, by what comes of the binding of no name
 
-pub items_found : {L : Language} {ps : Items} {ts : Trees} (gs : List Binding) (bs : List code.Binding) (empty : Truth) → item_names ps ≡ [] → gs ≡ no_names ∷ [] → (IsTrue empty ↔ (length bs ≡ 0))
+pub items_found : {L : Language} {ps : Items} {ts : Trees} (gs : List Binding) (bs : List code.Binding) (empty : Truth) → are_plain ps ≡ true → gs ≡ no_names ∷ [] → (IsTrue empty ↔ (length bs ≡ 0))
     → HasExactly (bindings_of bs) (Goes (MatchItems L ps ts) gs) → (IsTrue (not empty) ↔ MatchItems L ps ts no_names)
 items_found {L} {ps} {ts} gs bs empty n e f h = (onward empty f, back empty f)
   where
@@ -635,13 +615,6 @@ fit_found {L} {ps} {ts} gs bs empty e f h = record { some = λ g n. (items_found
     back : (a : Truth) → (IsTrue a ↔ (length bs ≡ 0)) → IsFalse (not a) → (b : Binding) → ¬ MatchItems L ps ts b
     back true g n b m = none_found bs (g.0 refl) (goes_first gs (bindings_of bs) (λ c r. items-ascends r) e h) b m
     back false g n b m = absurd cc
-
--- a repetition among items that bind nothing has no name for its length
-pub no_length : (p : Pattern) (n : Option (List ℕ)) (ps : Items) → item_names (many p n ps) ≡ [] → n ≡ None
-no_length p None ps e = refl
-no_length p (Some x) ps e =
-    let length : x ∷ [] ≡ [] = (no_names_apart (names p) (x ∷ []) (no_names_apart (add_names (names p) (x ∷ [])) (item_names ps) e).0).1 in
-    absurd cc
 
 -- where the items are done, only what was found before is reached, and no terms may be left
 no_more_reached : {L : Language} {Q : Tree → Type 0} {n : ℕ} {qs : Items} {ts : Trees} {ss : Paths} {all : Truth} {w : List ℕ} → qs ≡ nil → RestReach L Q n qs ts ss all w → Leads ss w × MatchItems L nil ts no_names

@@ -5,11 +5,11 @@ use Rattle.rdx_term.specs.Items.{trees_count}
 use Rattle.rdx_term.specs.Tree.{Tree, Trees, cons, trees}
 use Rattle.rdx_lang.specs.Singles.{are_single}
 use Rattle.rdx_lang.specs.PatternView.{Slot, items_of}
-use Rattle.rdx_direct.proofs.PlainLaws.{binds_nothing}
+use Rattle.rdx_direct.proofs.PlainLaws.{match-empty}
 use Rattle.rdx_term.specs.Tree.{nil as no_trees}
 use Rattle.rdx_lang.proofs.Collecting.{In_along, no_member, only}
 use Rattle.rdx_lang.proofs.CollectionLaws.{collection-ascends, repetition-ascends, one_collection}
-use Rattle.rdx_lang.proofs.JoinLaws.{turned_join}
+use Rattle.rdx_lang.proofs.JoinLaws.{one_name-ascends, turned_join}
 use Rattle.rdx_lang.proofs.MemberLaws.{in-append}
 use Rattle.rdx_lang.proofs.NameLaws.{match-names, names-ascend, items-ascends}
 use Rattle.rdx_lang.proofs.RuleSteps.{same_length, many_inside, run_at_end, run_at_term, RunParts, ended, turned}
@@ -24,13 +24,14 @@ use Rattle.rdx_lang.specs.Patterns.{Pattern, Items, many, Language}
 use Rattle.rdx_lang.specs.Rules.{Match, MatchItems, MatchRun, match_many, run_end, run_more}
 use Rattle.rdx_bind.proofs.AcrossRows.{AreMaps}
 use Rattle.rdx_bind.proofs.Gathering.{exactly_as}
-use Rattle.rdx_bind.proofs.Repeating.{names_maps}
-use Rattle.rdx_direct.proofs.GoingLaws.{Both, goes_onward, goes_back}
+use Rattle.rdx_bind.proofs.Repeating.{never_repeated}
+use Rattle.rdx_direct.proofs.GoingLaws.{Both, goes_none, goes_onward, goes_back}
 use Rattle.rdx_direct.specs.Inside.Going.{Goes, Joins, Fits, Sole, EndsAt}
+use Rattle.rdx_direct.specs.Inside.Plain.{is_plain}
 
 -- ---- what a repetition binds
 
-module _ (xs : List (List ℕ)) (cs : List Binding) (c : Binding) (a : IsAscending name_cmp xs) (f : (b : Binding) → In b cs → bound_names b ≡ xs) (h : IsCollection xs cs c)
+module _ (xs : List (List ℕ)) (cs : List Binding) (c : Binding) (a : IsAscending name_cmp xs) (f : AreMaps cs) (h : IsCollection xs cs c)
     (gs found : List Binding) (m : AreMaps gs) (k : HasExactly found (Joins c gs)) where
   abbrev S : Binding → Type 0
   S b = b ≡ c
@@ -40,7 +41,7 @@ module _ (xs : List (List ℕ)) (cs : List Binding) (c : Binding) (a : IsAscendi
       (λ b g. record { from = g.from; among = g.among; by = subst (λ d. IsJoin g.from d b) g.by.holds g.by.joined }) k
 
   sole : (d : Binding) → IsCollection xs cs d → d ≡ c
-  sole d g = one_collection xs cs d c a (names_maps xs cs a f) g h
+  sole d g = one_collection xs cs d c a f g h
 
   map_of : (b : Binding) → S b → HasAscendingNames b
   map_of b e = subst HasAscendingNames (sym e) (collection-ascends xs cs c a h)
@@ -65,7 +66,7 @@ module _ (xs : List (List ℕ)) (cs : List Binding) (c : Binding) (a : IsAscendi
       R b = b ≡ d
 
       map_d : (b : Binding) → R b → HasAscendingNames b
-      map_d b r = subst HasAscendingNames (sym (r ∙ g)) (tt, tt)
+      map_d b r = subst HasAscendingNames (sym (r ∙ g)) (one_name-ascends x (len (length cs)))
 
       by_name : (b : Binding) → Joins d found b → Goes R found b
       by_name b j = record { from = j.from; among = j.among; by = record { bound = d; holds = refl; joined = j.by } }
@@ -84,6 +85,10 @@ module _ (xs : List (List ℕ)) (cs : List Binding) (c : Binding) (a : IsAscendi
 
       back : (b : Binding) → Goes (IsRepetition xs cs (Some x)) gs b → Goes R found b
       back = goes_back S R (IsRepetition xs cs (Some x)) map_of map_d gs found of_one m apart
+
+-- where there is no collection nothing comes
+pub goes_uncollected : {xs : List (List ℕ)} {cs : List Binding} {n : Option (List ℕ)} (gs bs : List Binding) → bs ≡ [] → ((c : Binding) → ¬ IsCollection xs cs c) → HasExactly bs (Goes (IsRepetition xs cs n) gs)
+goes_uncollected gs bs e n = goes_none gs bs e (never_repeated n)
 
 -- ---- runs
 
@@ -229,10 +234,10 @@ ends_equal {L} {n} {ps} {ts} {us} {xs} {ys} {cs} {ds} {gs} {hs} {bs} e u f g h =
 -- ---- one turn
 
 -- what binds nothing and matches binds the binding of no name alone
-pub sole_nothing : {L : Language} {p : Pattern} {t : Tree} {c : Binding} → names p ≡ [] → c ≡ no_names → Fits L p t → Sole (Match L p t) c
+pub sole_nothing : {L : Language} {p : Pattern} {t : Tree} {c : Binding} → is_plain p ≡ true → c ≡ no_names → Fits L p t → Sole (Match L p t) c
 sole_nothing {L} {p} {t} {c} e f g = record {
-  holds = subst (Match L p t) (binds_nothing g.binding (match-names g.matched ∙ e) ∙ sym f) g.matched;
-  alone = λ b m. binds_nothing b (match-names m ∙ e) ∙ sym f;
+  holds = subst (Match L p t) (match-empty e g.matched ∙ sym f) g.matched;
+  alone = λ b m. match-empty e m ∙ sym f;
 }
 
 -- the only one that was found

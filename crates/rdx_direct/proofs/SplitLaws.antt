@@ -1,18 +1,18 @@
--- A walk over the items of a list pattern without names, of which one is split.
+-- A walk over the items of a list pattern that binds nothing, of which one is split.
 use Rattle.std.proofs.Common.{◌≡◌, ◌∙◌, ◌⊎◌, inl, inr, ℕ, suc, Bool as Truth, true, false, IsTrue, IsFalse, if◌then◌else◌, List, [], ◌++◌, refl, sym, ap, subst}
+use Rattle.std.proofs.lemmas.Bool.{and_parts}
 use Rattle.std.specs.Prelude.{◌↔◌, ◌&&◌}
 use Rattle.rdx_term.specs.Tree.{Tree, Trees, cons, trees, list}
 use Rattle.rdx_term.specs.Tree.{nil as no_trees}
 use Rattle.rdx_lang.proofs.Collecting.{In_along, no_member}
-use Rattle.rdx_lang.proofs.JoinLaws.{unit_left, unit_left-only, unit_right, unit_right-only}
-use Rattle.rdx_lang.proofs.NameLaws.{match-names, items-names, split-ascends}
+use Rattle.rdx_lang.proofs.JoinLaws.{none_left, unit_left, unit_left-only, unit_right, unit_right-only}
+use Rattle.rdx_lang.proofs.NameLaws.{split-ascends}
 use Rattle.rdx_lang.proofs.MemberLaws.{in-append, append-left, append-right}
 use Rattle.rdx_lang.proofs.RuleSteps.{item_inside}
 use Rattle.rdx_lang.specs.Bindings.{Binding, no_names, HasAscendingNames}
 use Rattle.rdx_lang.specs.Collecting.{HasExactly}
 use Rattle.rdx_lang.specs.Join.{IsJoin}
 use Rattle.rdx_lang.specs.Members.{In}
-use Rattle.rdx_lang.specs.Names.{names, item_names}
 use Rattle.rdx_lang.specs.Patterns.{Pattern, Items, nil, one, seq, Language}
 use Rattle.rdx_lang.specs.Rules.{Match, MatchItems, match_one}
 use Rattle.rdx_bind.proofs.Extended.{one_spot}
@@ -21,8 +21,9 @@ use Rattle.rdx_bind.proofs.PartedSplits.{items_split_map}
 use Rattle.rdx_bind.proofs.SplitItems.{list_splits, items_split}
 use Rattle.rdx_bind.specs.Spots.{Spot, PlacedAt, SplitsAt, ItemsSplitAt, splits_here, splits_behind}
 use Rattle.rdx_direct.proofs.ItemLaws.{alone_end, no_term}
-use Rattle.rdx_direct.proofs.PlainLaws.{no_names_apart, binds_nothing}
+use Rattle.rdx_direct.proofs.PlainLaws.{match-empty, items-empty, nothing_bound, nothing_bound_by_items}
 use Rattle.rdx_direct.specs.Inside.Going.{Alone, Fits}
+use Rattle.rdx_direct.specs.Inside.Plain.{is_plain, are_plain}
 
 -- the items split the terms at r, where all before match; or one before is split there, and the items match the terms
 abbrev pub RestSplits : Language → ℕ → Items → Trees → List Spot → Truth → Spot → Type 0
@@ -30,12 +31,12 @@ RestSplits L n ps ts spots all r = (IsTrue all × ItemsSplitAt L n ps ts r) ⊎ 
 
 -- whatever comes of the rest comes of all
 pub record StillSplits (L : Language) (whole : Items) (all_terms : Trees) (n : ℕ) (ps : Items) (ts : Trees) (spots : List Spot) (all : Truth) : Type 0 where
-  pub plain : item_names ps ≡ []
+  pub plain : are_plain ps ≡ true
   pub onward : (r : Spot) → RestSplits L n ps ts spots all r → ItemsSplitAt L 0 whole all_terms r
   pub back : (r : Spot) → ItemsSplitAt L 0 whole all_terms r → RestSplits L n ps ts spots all r
 
 -- at the start
-pub splits_start : {L : Language} (ps : Items) (ts : Trees) (spots : List Spot) → item_names ps ≡ [] → spots ≡ [] → StillSplits L ps ts 0 ps ts spots true
+pub splits_start : {L : Language} (ps : Items) (ts : Trees) (spots : List Spot) → are_plain ps ≡ true → spots ≡ [] → StillSplits L ps ts 0 ps ts spots true
 splits_start ps ts spots e f = record {
   plain = e;
   onward = λ r. elim [ inl h ↦ h.1 | inr h ↦ no_member (In_along spots [] f h.0) ];
@@ -67,37 +68,30 @@ same_spot_behind : (s r : Spot) (c : Binding) → HasAscendingNames s.binding �
 same_spot_behind s r c a e j f = one_spot s r (sym f) (sym (unit_left-only a (subst (λ d. IsJoin d s.binding r.binding) e j)))
 
 module _ {L : Language} where
-  -- items without names bind nothing
-  items_bind_nothing : {ps : Items} {ts : Trees} {d : Binding} → item_names ps ≡ [] → MatchItems L ps ts d → d ≡ no_names
-  items_bind_nothing {d = d} e m = binds_nothing d (items-names m ∙ e)
-
-  pattern_binds_nothing : {p : Pattern} {t : Tree} {d : Binding} → names p ≡ [] → Match L p t d → d ≡ no_names
-  pattern_binds_nothing {d = d} e m = binds_nothing d (match-names m ∙ e)
-
-  module _ (n : ℕ) (p : Pattern) (ps : Items) (t : Tree) (ts : Trees) (spots more new : List Spot) (all so : Truth) (e : names p ≡ []) (f : item_names ps ≡ [])
+  module _ (n : ℕ) (p : Pattern) (ps : Items) (t : Tree) (ts : Trees) (spots more new : List Spot) (all so : Truth) (e : is_plain p ≡ true) (f : are_plain ps ≡ true)
       (fit : IsTrue so ↔ Fits L p t) (split : HasExactly more (λ r. IsTrue all × PlacedAt L n p t r)) (kept : HasExactly new (λ r. (IsTrue so × In r spots) ⊎ In r more)) where
     -- where it is so, the item matches, and binds nothing
     fit_nothing : IsTrue so → Match L p t no_names
-    fit_nothing h = let k = fit.0 h in subst (Match L p t) (pattern_binds_nothing e k.matched) k.matched
+    fit_nothing h = nothing_bound e (fit.0 h).matched
 
     -- one step on
     further : (r : Spot) → RestSplits L n (one p ps) (cons t ts) spots all r → RestSplits L (suc n) ps ts new (all && so) r
     further r (inl (a, splits_here {s = s} {d = d} h m j q)) =
-        let z : d ≡ no_names = items_bind_nothing f m in
+        let z : d ≡ no_names = items-empty f m in
         let g : s ≡ r = same_spot s r d (placed_ascends h) z j q in
         inr (kept.complete r (inr (split.complete r (a, subst (PlacedAt L n p t) g h))), subst (MatchItems L ps ts) z m)
     further r (inl (a, splits_behind {s = s} {c = c} m h j q)) =
-        let g : s ≡ r = same_spot_behind s r c (items_split_map h) (pattern_binds_nothing e m) j q in
+        let g : s ≡ r = same_spot_behind s r c (items_split_map h) (match-empty e m) j q in
         inl (both_true all so a (fit.1 (record { binding = c; matched = m })), subst (ItemsSplitAt L (suc n) ps ts) g h)
     further r (inr (i, m)) =
         let k = item_inside m in
-        inr (kept.complete r (inl (fit.1 (record { binding = k.first; matched = k.first_matched }), i)), subst (MatchItems L ps ts) (items_bind_nothing f k.rest_matched) k.rest_matched)
+        inr (kept.complete r (inl (fit.1 (record { binding = k.first; matched = k.first_matched }), i)), nothing_bound_by_items f k.rest_matched)
 
     -- and back
     before : (r : Spot) → RestSplits L (suc n) ps ts new (all && so) r → RestSplits L n (one p ps) (cons t ts) spots all r
     before r (inl (a, h)) = inl (first_true all so a, splits_behind (fit_nothing (second_true all so a)) h (unit_left r.binding (items_split_map h)) refl)
     before r (inr (i, m)) = elim (kept.sound r i) [
-      | inl k ↦ inr (k.1, match_one (fit_nothing k.0) m (unit_left no_names tt))
+      | inl k ↦ inr (k.1, match_one (fit_nothing k.0) m none_left)
       | inr k ↦ let h = split.sound r k in inl (h.0, splits_here h.1 m (unit_right r.binding (placed_ascends h.1)) refl)
     ]
 
@@ -113,8 +107,8 @@ splits_next {L} whole all_terms n n' {p} {ps} {qs} {t} {ts} {us} spots more new 
       back = λ r h. further n p ps t ts spots more new all so apart.0 apart.1 fit split kept r (against r (s.back r h));
     }))
   where
-    apart : (names p ≡ []) × (item_names ps ≡ [])
-    apart = no_names_apart (names p) (item_names ps) (ap item_names (sym e) ∙ s.plain)
+    apart : (is_plain p ≡ true) × (are_plain ps ≡ true)
+    apart = and_parts (is_plain p) (are_plain ps) (ap are_plain (sym e) ∙ s.plain)
 
     along : (r : Spot) → RestSplits L n (one p ps) (cons t ts) spots all r → RestSplits L n qs us spots all r
     along r h = subst (λ x. RestSplits L n x us spots all r) (sym e) (subst (λ x. RestSplits L n (one p ps) x spots all r) (sym f) h)

@@ -3,7 +3,7 @@ use Rattle.std.proofs.Common.{◌≡◌, ◌∙◌, true, List, [], ◌∷◌, �
 use Rattle.std.proofs.lemmas.List.{append-nil}
 use Rattle.rdx_term.specs.Tree.{Tree, trees}
 use Rattle.rdx_lang.proofs.Collecting.{In_along, no_member}
-use Rattle.rdx_lang.proofs.JoinLaws.{turned_join}
+use Rattle.rdx_lang.proofs.JoinLaws.{join_ascends, no_names-ascends, turned_join}
 use Rattle.rdx_lang.proofs.Joins.{joined_first, joined_last}
 use Rattle.rdx_lang.proofs.NameLaws.{match-ascends}
 use Rattle.rdx_lang.specs.Bindings.{Binding, no_names, HasAscendingNames}
@@ -27,8 +27,8 @@ pairs (s ∷ slots) (t ∷ ts) = (item_pattern s, t) ∷ pairs slots ts
 
 module _ {L : Language} where
   pub together_ascends : {xs : List (Pattern × Tree)} {b : Binding} → Together L xs b → HasAscendingNames b
-  together_ascends together_none = tt
-  together_ascends (together_more h m j) = j.map
+  together_ascends together_none = no_names-ascends
+  together_ascends (together_more h m j) = join_ascends j
 
   -- one in the middle is as well in front
   pub in_front : {p : Pattern} {t : Tree} (ys xs : List (Pattern × Tree)) (b : Binding) → Together L (xs ++ (p, t) ∷ ys) b → Together L ((p, t) ∷ (xs ++ ys)) b

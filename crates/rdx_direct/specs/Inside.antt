@@ -1,3 +1,4 @@
+pub mod Plain
 pub mod Going
 pub mod Together
 pub mod Reaching

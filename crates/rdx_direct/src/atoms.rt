@@ -74,6 +74,7 @@ pub(crate) fn decided(language: &CheckedLang, pat: &Pat, t: &Term) -> Option<boo
         Pat::Lit(literal) => Some(t.same_bare(literal)),
         Pat::Nt(_)
         | Pat::Named(_, _)
+        | Pat::Differ(_, _)
         | Pat::InHole(_, _)
         | Pat::HideHole(_)
         | Pat::Closed(_)

@@ -37,7 +37,7 @@ pub(crate) fn with_binding(
     ensures { IfOk result (λ found. HasExactly (bindings_of found.items)
         (Joins (binding_of other.now) (bindings_of given.items))) }
 {
-    if other.pairs().is_empty() {
+    if other.pairs().is_empty() && other.differs().is_empty() {
         return Ok(given);
     }
     let mut rest = given;

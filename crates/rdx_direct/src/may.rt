@@ -44,7 +44,9 @@ pub(crate) fn may(language: &CheckedLang, pat: &Pat, t: &Term) -> bool
         Pat::Prefix(prefix) => has_prefix(prefix, t),
         Pat::Hole => is_hole(t),
         Pat::Lit(literal) => t.same_bare(literal),
-        Pat::Named(_, part) | Pat::HideHole(part) | Pat::Closed(part) => may(language, part, t),
+        Pat::Named(_, part) | Pat::Differ(_, part) | Pat::HideHole(part) | Pat::Closed(part) => may(
+            language, part, t,
+        ),
         Pat::Seq(items) => match t {
             Term::Hole | Term::Int(_) | Term::Bool(_) | Term::Str(_) | Term::Sym(_) => false,
             Term::List(node) => may_all(language, items, node.items()),
@@ -87,6 +89,7 @@ fn is_other_literal(pat: &Pat, t: &Term) -> bool
         | Pat::Hole
         | Pat::Nt(_)
         | Pat::Named(_, _)
+        | Pat::Differ(_, _)
         | Pat::InHole(_, _)
         | Pat::HideHole(_)
         | Pat::Closed(_)
@@ -127,6 +130,7 @@ pub(crate) fn is_apart(pat: &Pat, t: &Term) -> bool
         | Pat::Lit(_)
         | Pat::Nt(_)
         | Pat::Named(_, _)
+        | Pat::Differ(_, _)
         | Pat::InHole(_, _)
         | Pat::HideHole(_)
         | Pat::Closed(_) => false,
@@ -147,6 +151,7 @@ pub(crate) fn splits_nothing(pat: &Pat) -> bool
         Pat::Hole
         | Pat::Nt(_)
         | Pat::Named(_, _)
+        | Pat::Differ(_, _)
         | Pat::InHole(_, _)
         | Pat::Closed(_)
         | Pat::Seq(_) => false,

@@ -1,5 +1,5 @@
 // Bindings with one name more.
-ghost use Rattle.std.specs.Prelude.{◌≡◌, ◌∷◌, [], ℕ, List, OnOk, IfOk, IfSome};
+ghost use Rattle.std.specs.Prelude.{◌≡◌, ℕ, List, OnOk, IfOk, IfSome};
 ghost use Rattle.rdx_lang.specs.BindingView.{value_of};
 ghost use Rattle.rdx_lang.specs.Bindings.{one, one_name};
 ghost use Rattle.rdx_lang.specs.Collecting.{HasExactly, Arises};
@@ -10,9 +10,12 @@ ghost use Rattle.rdx_term.specs.Tree.{tree_nodes};
 ghost use Rattle.rdx_lang.specs.Members.{In};
 ghost use Rattle.rdx_term.specs.View.{tree_of};
 ghost use Rattle.rdx_bind.specs.Combining.{AddsBindings};
+ghost use Rattle.rdx_bind.specs.Namings.{alone, naming_of};
 ghost use Rattle.rdx_direct.specs.Inside.Going.{Joins, OnlyOf};
 
 use crate::halt::Halt;
+use crate::joined::with_binding;
+use rdx_bind::naming::Naming;
 use rdx_fill::context_around;
 use rdx_lang::{Binding, Item, Pat, Value};
 use rdx_term::{Name, NoMemory, Term};
@@ -64,15 +67,22 @@ pub(crate) fn with_value(
 pub(crate) fn with(
     alloc: Global,
     given: Vec<Binding>,
-    name: &Name,
+    name: Naming<'_>,
     t: &Term,
 ) -> Result<Vec<Binding>, Halt>
     ensures { IfOk result (λ found. HasExactly (bindings_of found.items)
-        (Joins (one_name name.now (one (tree_of t.now))) (bindings_of given.items))) }
+        (Joins (alone (naming_of name.entry) (tree_of t.now)) (bindings_of given.items))) }
 {
-    let value = Value::One(t.share()?);
-    let found = with_value(alloc, given, name, &value)?;
-    Ok(found)
+    match name {
+        Naming::Binds(bound) => {
+            let value = Value::One(t.share()?);
+            Ok(with_value(alloc, given, bound, &value)?)
+        }
+        Naming::Differs(_) => {
+            let other = name.alone(alloc, t)?;
+            Ok(with_binding(alloc, given, &other)?)
+        }
+    }
 }
 
 /// Those of the bindings that may have the name for the context around the part at this path, with it.
@@ -92,7 +102,7 @@ pub(crate) fn with_context(
         return Ok(given);
     }
     let context = context_around(alloc, t, path)?;
-    with(alloc, given, name, &context)
+    with(alloc, given, Naming::Binds(name), &context)
 }
 
 /// How many nodes the part has around which a context stands that the name is bound to, where one
@@ -125,7 +135,7 @@ pub(crate) fn has_name(pat: &Pat, name: &Name) -> bool {
         | Pat::Closed(_) => false,
         Pat::Named(other, inner) => other.text() == name.text() || has_name(inner, name),
         Pat::InHole(left, right) => has_name(left, name) || has_name(right, name),
-        Pat::HideHole(inner) => has_name(inner, name),
+        Pat::Differ(_, inner) | Pat::HideHole(inner) => has_name(inner, name),
         Pat::Seq(items) => have_name(items, name),
     }
 }

@@ -1,15 +1,15 @@
-// Whether a pattern binds names.
-ghost use Rattle.std.specs.Prelude.{◌≡◌, [], IsTrue, map};
-ghost use Rattle.rdx_lang.specs.Names.{names, item_names};
+// Whether a pattern binds nothing: neither names nor mismatch names.
+ghost use Rattle.std.specs.Prelude.{IsTrue, map};
 ghost use Rattle.rdx_lang.specs.PatternView.{pattern_of, slot_of, items_of};
 ghost use Rattle.rdx_direct.specs.Inside.Going.{BindsNone};
+ghost use Rattle.rdx_direct.specs.Inside.Plain as model;
 
 use rdx_lang::{Item, Pat};
 
 /// Whether the pattern binds nothing.
 #[cycle(plain)]
 pub(crate) fn is_plain(pat: &Pat) -> bool
-    ensures { IsTrue result → names (pattern_of pat.now) ≡ [] }
+    ensures { IsTrue result → IsTrue (model.is_plain (pattern_of pat.now)) }
 {
     match pat {
         Pat::Wild
@@ -20,7 +20,7 @@ pub(crate) fn is_plain(pat: &Pat) -> bool
         | Pat::Lit(_)
         | Pat::Nt(_)
         | Pat::Closed(_) => true,
-        Pat::Named(_, _) => false,
+        Pat::Named(_, _) | Pat::Differ(_, _) => false,
         Pat::InHole(left, right) => is_plain(left) && is_plain(right),
         Pat::HideHole(inner) => is_plain(inner),
         Pat::Seq(items) => are_plain(items),
@@ -41,7 +41,7 @@ fn is_plain_item(item: &Item) -> bool
 /// Whether the items bind nothing.
 #[cycle(plain)]
 pub(crate) fn are_plain(items: &[Item]) -> bool
-    ensures { IsTrue result → item_names (items_of (map slot_of items.now)) ≡ [] }
+    ensures { IsTrue result → IsTrue (model.are_plain (items_of (map slot_of items.now))) }
 {
     for item in items {
         if !is_plain_item(item) {

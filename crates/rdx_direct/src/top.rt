@@ -12,6 +12,7 @@ use crate::splitting::listed;
 use crate::walk::Walk;
 use rdx_bind::combining::empty_where;
 use rdx_bind::listing;
+use rdx_bind::seen::all_visible;
 use rdx_lang::{Binding, CheckedLang, CheckedPat, Split};
 use rdx_term::{NoMemory, Term};
 use std::alloc::Global;
@@ -36,7 +37,7 @@ pub fn try_matches(
     let given = empty_where(alloc, true)?;
     let walk = Walk::new(alloc, language, places);
     match walk.go(pat.pat(), t, given, Room::whole(), &mut fuel) {
-        Ok(found) => Ok(Some(listing(alloc, found)?)),
+        Ok(found) => Ok(Some(listing(alloc, all_visible(alloc, found)?)?)),
         Err(Halt::Spent) => Ok(None),
         Err(Halt::NoMemory) => Err(NoMemory),
     }

@@ -58,7 +58,7 @@ pub(crate) fn is_hard(pat: &Pat) -> bool {
     match pat {
         Pat::InHole(_, _) => true,
         Pat::Seq(items) => have_repetitions(items),
-        Pat::Named(_, part) => is_hard(part),
+        Pat::Named(_, part) | Pat::Differ(_, part) => is_hard(part),
         Pat::Wild
         | Pat::Kind(_)
         | Pat::Except(_)
@@ -71,7 +71,8 @@ pub(crate) fn is_hard(pat: &Pat) -> bool {
     }
 }
 
-/// The joins of each of the bindings with what a repetition binds whose turns bind these.
+/// The joins of each of the bindings with what a repetition binds whose turns bind these; none where
+/// a mismatch name has a term in two of the turns.
 pub(crate) fn with_turns(
     alloc: Global,
     given: Vec<Binding>,
@@ -85,7 +86,9 @@ pub(crate) fn with_turns(
         (Goes (IsRepetition names.now (bindings_of turns.now) length.now) (bindings_of
         given.items))) }
 {
-    let collected = collect(alloc, names, turns)?;
+    let Some(collected) = collect(alloc, names, turns)? else {
+        return Ok(Vec::new(alloc));
+    };
     let found = with_binding(alloc, given, &collected)?;
     match length {
         None => Ok(found),

@@ -1,19 +1,20 @@
 // The walk: one recursion over the term and the pattern.
-ghost use Rattle.std.specs.Prelude.{◌≡◌, ◌↔◌, [], IfOk, IfSome, IfNone, IsTrue, None, map, true};
+ghost use Rattle.std.specs.Prelude.{◌≡◌, ◌↔◌, IfOk, IfSome, IfNone, IsTrue, None, map, true};
 ghost use Rattle.rdx_term.specs.View.{tree_of, trees_of};
 ghost use Rattle.rdx_lang.specs.Checked.{language_in};
 ghost use Rattle.rdx_lang.specs.Ascending.{IsAscending};
 ghost use Rattle.rdx_lang.specs.Bindings.{bound_names, name_cmp};
 ghost use Rattle.rdx_lang.specs.Collecting.{HasExactly};
 ghost use Rattle.rdx_lang.specs.Members.{In};
-ghost use Rattle.rdx_lang.specs.Names.{names, item_names};
-ghost use Rattle.rdx_lang.specs.Patterns.{named, in_hole, nt, seq, many, nil};
+ghost use Rattle.rdx_lang.specs.Patterns.{in_hole, nt, seq, many, nil};
 ghost use Rattle.rdx_lang.specs.PatternView.{pattern_of, patterns_of, slot_of, items_of};
 ghost use Rattle.rdx_lang.specs.Facts.{IsAtMost};
 ghost use Rattle.rdx_lang.specs.Rules.{Match, MatchItems};
 ghost use Rattle.rdx_lang.specs.Shown.{binding_of, bindings_of};
+ghost use Rattle.rdx_bind.specs.Namings.{naming_of, under};
 ghost use Rattle.rdx_direct.specs.Inside.Going.{EndsAt, Fits, FitAll, Goes, GoesOn, Sole};
 ghost use Rattle.rdx_direct.specs.Inside.Known.{AreChoices};
+ghost use Rattle.rdx_direct.specs.Inside.Plain as model;
 ghost use Rattle.rdx_direct.specs.Inside.Together.{Together, pairs_of};
 ghost use Rattle.rdx_lang.specs.Singles as singles;
 
@@ -28,6 +29,7 @@ use crate::plainness::{are_plain, is_plain};
 use crate::room::{Fuel, Room, spend};
 use crate::turns::{are_single, is_hard, with_turns};
 use rdx_bind::combining::empty_where;
+use rdx_bind::naming::Naming;
 use rdx_bind::parts::pattern_in;
 use rdx_bind::rows::shared_bindings;
 use rdx_fill::part_at;
@@ -131,7 +133,7 @@ impl<'a> Walk<'a> {
                 if hint.may.bind {
                     return self.fits_list(items, t, room, fuel);
                 }
-                self.fits_plain(items, t, room, fuel)
+                self.fits_nameless(items, t, room, fuel)
             }
             Pat::Wild
             | Pat::Kind(_)
@@ -140,6 +142,7 @@ impl<'a> Walk<'a> {
             | Pat::Hole
             | Pat::Lit(_)
             | Pat::Named(_, _)
+            | Pat::Differ(_, _)
             | Pat::InHole(_, _)
             | Pat::HideHole(_)
             | Pat::Closed(_) => self.fits(pat, t, room, fuel),
@@ -240,13 +243,41 @@ impl<'a> Walk<'a> {
         room: Room,
         fuel: &mut Fuel,
     ) -> Result<bool, Halt>
-        requires { item_names (items_of (map slot_of items.now)) ≡ [] }
+        requires { IsTrue (model.are_plain (items_of (map slot_of items.now))) }
         ensures { IfOk result (λ any. IsTrue any ↔ Fits (language_in self.now.language.now)
             (seq (items_of (map slot_of items.now))) (tree_of t.now)) }
     {
         match t {
             Term::Hole | Term::Int(_) | Term::Bool(_) | Term::Str(_) | Term::Sym(_) => Ok(false),
             Term::List(node) => self.fit_all(items, node.items(), room, fuel),
+        }
+    }
+
+    // Whether a list pattern matches of which it is known that it has no names. What is known says
+    // nothing of mismatch names; they are looked for where all items match.
+    #[cycle(walk)]
+    #[inline(always)]
+    fn fits_nameless(
+        &self,
+        items: &[Item],
+        t: &Term,
+        room: Room,
+        fuel: &mut Fuel,
+    ) -> Result<bool, Halt>
+        ensures { IfOk result (λ any. IsTrue any ↔ Fits (language_in self.now.language.now)
+            (seq (items_of (map slot_of items.now))) (tree_of t.now)) }
+    {
+        match t {
+            Term::Hole | Term::Int(_) | Term::Bool(_) | Term::Str(_) | Term::Sym(_) => Ok(false),
+            Term::List(node) => {
+                if !self.fit_all(items, node.items(), room, fuel)? {
+                    return Ok(false);
+                }
+                if are_plain(items) {
+                    return Ok(true);
+                }
+                self.some_list(items, t, room, fuel)
+            }
         }
     }
 
@@ -303,19 +334,21 @@ impl<'a> Walk<'a> {
             Pat::Wild | Pat::Kind(_) | Pat::Except(_) | Pat::Prefix(_) | Pat::Hole | Pat::Lit(_) =>
                 Err(Halt::Spent),
             Pat::Nt(name) => self.fits_nt(name, self.choices(name), t, inside, fuel),
-            Pat::Named(_, _) | Pat::InHole(_, _) => self.some(pat, t, inside, fuel),
+            Pat::Named(_, _) | Pat::Differ(_, _) | Pat::InHole(_, _) => {
+                self.some(pat, t, inside, fuel)
+            }
             Pat::HideHole(part) => self.fits(part, t, inside, fuel),
             Pat::Closed(part) => self.fits(part, t, inside, fuel),
             Pat::Seq(items) => self.fits_list(items, t, inside, fuel),
         }
     }
 
-    // A pattern with a name: what its part binds, and the name for the term.
+    // A pattern with a name or a mismatch name: what its part binds, and the name for the term.
     #[cycle(walk)]
     #[inline(never)]
     fn go_named(
         &self,
-        name: &Name,
+        name: Naming<'_>,
         part: &Pat,
         t: &Term,
         given: Vec<Binding>,
@@ -323,7 +356,7 @@ impl<'a> Walk<'a> {
         fuel: &mut Fuel,
     ) -> Result<Vec<Binding>, Halt>
         ensures { GoesOn result given (Match (language_in self.now.language.now)
-            (named name.now (pattern_of part.now)) (tree_of t.now)) }
+            (under (naming_of name.entry) (pattern_of part.now)) (tree_of t.now)) }
     {
         let found = self.go(part, t, given, room, fuel)?;
         with(self.alloc, found, name, t)
@@ -594,7 +627,12 @@ impl<'a> Walk<'a> {
                 let any = self.fits(part, t, inside, fuel)?;
                 Ok(where_so(self.alloc, given, any))
             }
-            Pat::Named(name, part) => self.go_named(name, part, t, given, inside, fuel),
+            Pat::Named(name, part) => {
+                self.go_named(Naming::Binds(name), part, t, given, inside, fuel)
+            }
+            Pat::Differ(name, part) => {
+                self.go_named(Naming::Differs(name), part, t, given, inside, fuel)
+            }
             Pat::InHole(left, right) => self.go_in_hole(left, right, t, given, inside, fuel),
             Pat::HideHole(part) => self.go(part, t, given, inside, fuel),
             Pat::Seq(items) => self.go_list(items, t, given, inside, fuel),

@@ -6,7 +6,7 @@ use Rattle.std.specs.Prelude.{◌||◌, bytes_eq}
 use Rattle.std.specs.Cmp.Lexicographic.{bytes_decides}
 use Rattle.rdx_term.specs.Tree.{Tree, hole, integer, truth, text, symbol, list}
 use Rattle.rdx_lang.specs.Literals.{is_symbol, mentions, items_mention, any_mentions, definitions_mention, is_mentioned}
-use Rattle.rdx_lang.specs.Patterns.{Pattern, wild, of_kind, except, prefix, lit, nt, named, in_hole, hide_hole, closed, seq, Items, nil, one, many, Definition, Language}
+use Rattle.rdx_lang.specs.Patterns.{Pattern, wild, of_kind, except, prefix, lit, nt, named, differ, in_hole, hide_hole, closed, seq, Items, nil, one, many, Definition, Language}
 use Rattle.rdx_lang.specs.Patterns.{hole as the_hole}
 use Rattle.rdx_lang.specs.Rules.{is_one_of}
 use Rattle.rdx_facts.specs.Inside.Literals.{symbol_in, literals, items_literals, all_literals, definitions_literals}
@@ -51,6 +51,7 @@ module _ (s : List ℕ) where
     pattern-listed (lit u) = symbol-listed u
     pattern-listed (nt x) = refl
     pattern-listed (named x q) = pattern-listed q
+    pattern-listed (differ x q) = pattern-listed q
     pattern-listed (in_hole q r) = one-append (literals q) (literals r) s ∙ (λ i. pattern-listed q i || pattern-listed r i)
     pattern-listed (hide_hole q) = pattern-listed q
     pattern-listed (closed q) = pattern-listed q

@@ -4,7 +4,7 @@ use Rattle.rdx_term.specs.Tree.{Tree, Trees, tree_holes, trees_holes}
 use Rattle.rdx_lang.specs.Bindings.{Binding}
 use Rattle.rdx_lang.specs.Facts.{is_list}
 use Rattle.rdx_lang.specs.Patterns.{Pattern, Items, Language}
-use Rattle.rdx_lang.specs.Rules.{Split, SplitItems, SplitRun, split_hole, split_nt, split_named, split_in_hole, split_closed, split_seq, split_here, split_behind, split_many, run_here, run_there, run_behind}
+use Rattle.rdx_lang.specs.Rules.{Split, SplitItems, SplitRun, split_hole, split_nt, split_named, split_differ, split_in_hole, split_closed, split_seq, split_here, split_behind, split_many, run_here, run_there, run_behind}
 
 module _ {L : Language} where
   mutual
@@ -13,6 +13,7 @@ module _ {L : Language} where
     part-solid split_hole z = z
     part-solid (split_nt a h) z = part-solid h z
     part-solid (split_named h j) z = part-solid h z
+    part-solid (split_differ h j) z = part-solid h z
     part-solid (split_in_hole h g e j) z = part-solid g (part-solid h z)
     part-solid (split_closed h) z = part-solid h z
     part-solid (split_seq h e) z = item-solid h z
@@ -34,6 +35,7 @@ module _ {L : Language} where
   part-same split_hole f = refl
   part-same (split_nt a h) f = part-same h f
   part-same (split_named h j) f = part-same h f
+  part-same (split_differ h j) f = part-same h f
   part-same (split_in_hole h g e j) f =
       let u = part-same h f in part-same g (ap is_list u ∙ f) ∙ u
   part-same (split_closed h) f = part-same h f

@@ -12,9 +12,9 @@ use Rattle.rdx_lang.specs.Bindings.{Binding}
 use Rattle.rdx_lang.specs.Facts.{is_list, item_count, greatest, IsAtMost, AreEach, AreKnown}
 use Rattle.rdx_lang.specs.Members.{In, here, there}
 use Rattle.rdx_lang.specs.Names.{names, item_names, add_names, with_length_name}
-use Rattle.rdx_lang.specs.Patterns.{Pattern, wild, of_kind, except, prefix, hole, lit, nt, named, in_hole, hide_hole, closed, seq, Items, nil, one, many, Definition, Language}
-use Rattle.rdx_lang.specs.Rules.{Match, MatchItems, MatchRun, match_wild, match_kind, match_except, match_prefix, match_hole, match_lit, match_nt, match_named, match_in_hole, match_hide_hole, match_closed, match_seq, match_none, match_one, match_many, run_end, run_more, is_of_kind, IsAlternative}
-use Rattle.rdx_lang.specs.Rules.{Split, SplitItems, SplitRun, split_hole, split_nt, split_named, split_in_hole, split_closed, split_seq, split_here, split_behind, split_many, run_here, run_there, run_behind}
+use Rattle.rdx_lang.specs.Patterns.{Pattern, wild, of_kind, except, prefix, hole, lit, nt, named, differ, in_hole, hide_hole, closed, seq, Items, nil, one, many, Definition, Language}
+use Rattle.rdx_lang.specs.Rules.{Match, MatchItems, MatchRun, match_wild, match_kind, match_except, match_prefix, match_hole, match_lit, match_nt, match_named, match_differ, match_in_hole, match_hide_hole, match_closed, match_seq, match_none, match_one, match_many, run_end, run_more, is_of_kind, IsAlternative}
+use Rattle.rdx_lang.specs.Rules.{Split, SplitItems, SplitRun, split_hole, split_nt, split_named, split_differ, split_in_hole, split_closed, split_seq, split_here, split_behind, split_many, run_here, run_there, run_behind}
 use Rattle.rdx_lang.specs.declared.facts.Each.{Each}
 use Rattle.rdx_lang.specs.declared.facts.Known.{Known}
 use Rattle.rdx_lang.specs.declared.facts.May.{May}
@@ -210,6 +210,7 @@ module _ (E : Ref → May) where
     bind-sound (lit u) h = refl
     bind-sound (nt x) h = refl
     bind-sound (named x q) h = absurd cc
+    bind-sound (differ x q) h = absurd cc
     bind-sound (in_hole q r) h =
         let k = neither (may_of E q).bind (may_of E r).bind h in (λ i. add_names (bind-sound q k.0 i) (bind-sound r k.1 i))
     bind-sound (hide_hole q) h = bind-sound q h
@@ -313,6 +314,7 @@ module _ (L : Language) (E : Ref → May) (all : (x : Ref) (p : Pattern) → IsA
     split-sound split_hole = refl
     split-sound (split_nt {x = x} {p = p} a h) = (within-tests (may_of E p) (E x) (all x p a)).split (split-sound h)
     split-sound (split_named h j) = split-sound h
+    split-sound (split_differ h j) = split-sound h
     split-sound (split_in_hole {q = q} {r = r} h g e j) =
         and_from (may_of E q).split (may_of E r).split (split-sound h) (split-sound g)
     split-sound (split_closed h) = split-sound h
@@ -338,6 +340,7 @@ module _ (L : Language) (E : Ref → May) (all : (x : Ref) (p : Pattern) → IsA
   split-long (split_nt {x = x} {p = p} {t = t} a h) =
       between-within (may_of E p) (E x) t (within-tests (may_of E p) (E x) (all x p a)) (split-long h)
   split-long (split_named h j) = split-long h
+  split-long (split_differ h j) = split-long h
   split-long (split_in_hole {q = q} {r = r} {t = t} h g e j) =
       filled-between (may_of E q) (may_of E r) t (split-sound h) (split-long h)
   split-long (split_closed h) = split-long h
@@ -356,6 +359,8 @@ module _ (L : Language) (E : Ref → May) (all : (x : Ref) (p : Pattern) → IsA
     match-sound (match_nt {x = x} {p = p} {t = t} a h) =
         fits-within (may_of E p) (E x) t (within-tests (may_of E p) (E x) (all x p a)) (match-sound h)
     match-sound (match_named h j) =
+        let f = match-sound h in record { atoms = f.atoms; long = f.long; solid = f.solid }
+    match-sound (match_differ h j) =
         let f = match-sound h in record { atoms = f.atoms; long = f.long; solid = f.solid }
     match-sound (match_in_hole {q = q} {r = r} {t = t} {u = u} h g j) =
         filled-fits (may_of E q) (may_of E r) t u (split-sound h) (split-long h) (part-solid h) (part-same h) (match-sound g)

@@ -116,7 +116,7 @@ pub(crate) fn literal(t: &Term) -> May
     }
 }
 
-// What a pattern with a name may do, by its part.
+// What a pattern with a name or a mismatch name may do, by its part.
 pub(crate) fn named(inner: May) -> May
     ensures { result ≡ model.with_name inner }
 {

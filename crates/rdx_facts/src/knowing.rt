@@ -35,6 +35,7 @@ fn leads_to(language: &Language, pat: &Pat) -> Option<usize> {
         | Pat::Hole
         | Pat::Lit(_)
         | Pat::Named(_, _)
+        | Pat::Differ(_, _)
         | Pat::InHole(_, _)
         | Pat::HideHole(_)
         | Pat::Closed(_)

@@ -22,7 +22,8 @@ fn asks(pat: &Pat) -> bool {
         | Pat::Hole
         | Pat::Lit(_)
         | Pat::Nt(_) => false,
-        Pat::Named(_, inner) | Pat::HideHole(inner) | Pat::Closed(inner) => asks(inner),
+        Pat::Named(_, inner) | Pat::Differ(_, inner) | Pat::HideHole(inner) | Pat::Closed(inner) =>
+            asks(inner),
         Pat::InHole(left, right) => asks(left) || asks(right),
         Pat::Seq(items) => items_ask(items),
     }
@@ -76,9 +77,8 @@ fn add_literals(pat: &Pat, found: &mut Vec<Name>) -> Result<(), NoMemory>
             (),
         ),
         Pat::Lit(term) => add_symbol(term, found),
-        Pat::Named(_, inner) | Pat::HideHole(inner) | Pat::Closed(inner) => add_literals(
-            inner, found,
-        ),
+        Pat::Named(_, inner) | Pat::Differ(_, inner) | Pat::HideHole(inner) | Pat::Closed(inner) =>
+            add_literals(inner, found),
         Pat::InHole(left, right) => {
             add_literals(left, found)?;
             add_literals(right, found)

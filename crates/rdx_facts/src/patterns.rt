@@ -42,6 +42,7 @@ pub(crate) fn pattern_may(language: &Language, marks: &[May], pat: &Pat) -> May
         Pat::Lit(term) => flags::literal(term),
         Pat::Nt(name) => nonterminal_may(language, marks, name),
         Pat::Named(_, inner) => flags::named(pattern_may(language, marks, inner)),
+        Pat::Differ(_, inner) => flags::named(pattern_may(language, marks, inner)),
         Pat::InHole(left, right) => {
             let left = pattern_may(language, marks, left);
             let right = pattern_may(language, marks, right);

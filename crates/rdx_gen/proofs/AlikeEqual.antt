@@ -7,7 +7,7 @@ use Rattle.std.specs.Prelude.{bytes_eq, nat_eq}
 use Rattle.std.specs.declared.cmp.Ordering.{Ordering}
 use Rattle.std.specs.declared.cmp.Ordering.TheVariants.{Less, Equal, Greater}
 use Rattle.rdx_lang.proofs.LookupLaws.{is_same-equal}
-use Rattle.rdx_lang.specs.Patterns.{Pattern, wild, of_kind, except, prefix, hole, lit, nt, named, in_hole, hide_hole, closed, seq, Items, nil, one, many}
+use Rattle.rdx_lang.specs.Patterns.{Pattern, wild, of_kind, except, prefix, hole, lit, nt, named, differ, in_hole, hide_hole, closed, seq, Items, nil, one, many}
 use Rattle.rdx_lang.specs.declared.pattern.Kind.{Kind}
 use Rattle.rdx_lang.specs.declared.pattern.Kind.TheVariants.{Any, Number, Natural, Integer, Real, Text, Boolean, Variable, Unmentioned}
 use Rattle.rdx_term.proofs.OrderLaws.{tree_cmp-equal}
@@ -59,6 +59,8 @@ mutual
   alike_equal (nt x) (nt y) e = ap nt (is_same-equal x y e)
   alike_equal (named x p) (named y q) e =
       let k = and_parts (bytes_eq x y) (is_alike p q) e in ap₂ (λ z r. named z r) ((bytes_decides x y).0 k.0) (alike_equal p q k.1)
+  alike_equal (differ x p) (differ y q) e =
+      let k = and_parts (bytes_eq x y) (is_alike p q) e in ap₂ (λ z r. differ z r) ((bytes_decides x y).0 k.0) (alike_equal p q k.1)
   alike_equal (in_hole p q) (in_hole r s) e =
       let k = and_parts (is_alike p r) (is_alike q s) e in ap₂ (λ a b. in_hole a b) (alike_equal p r k.0) (alike_equal q s k.1)
   alike_equal (hide_hole p) (hide_hole q) e = ap hide_hole (alike_equal p q e)

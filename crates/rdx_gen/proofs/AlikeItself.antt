@@ -4,7 +4,7 @@ use Rattle.std.specs.Cmp.Lexicographic.{bytes_decides}
 use Rattle.std.specs.Ordering.{is_eq}
 use Rattle.std.specs.Prelude.{bytes_eq, nat_eq}
 use Rattle.rdx_lang.proofs.LookupLaws.{equal-is_same, both_so}
-use Rattle.rdx_lang.specs.Patterns.{Pattern, wild, of_kind, except, prefix, hole, lit, nt, named, in_hole, hide_hole, closed, seq, Items, nil, one, many}
+use Rattle.rdx_lang.specs.Patterns.{Pattern, wild, of_kind, except, prefix, hole, lit, nt, named, differ, in_hole, hide_hole, closed, seq, Items, nil, one, many}
 use Rattle.rdx_lang.specs.declared.pattern.Kind.{Kind}
 use Rattle.rdx_lang.specs.declared.pattern.Kind.TheVariants.{Any, Number, Natural, Integer, Real, Text, Boolean, Variable, Unmentioned}
 use Rattle.rdx_term.proofs.OrderLaws.{tree_cmp-itself}
@@ -42,6 +42,7 @@ mutual
   alike-itself (lit t) = ap is_eq (tree_cmp-itself t t refl)
   alike-itself (nt x) = equal-is_same x x refl
   alike-itself (named x p) = both_so (bytes_eq x x) (is_alike p p) (same_bytes x) (alike-itself p)
+  alike-itself (differ x p) = both_so (bytes_eq x x) (is_alike p p) (same_bytes x) (alike-itself p)
   alike-itself (in_hole p q) = both_so (is_alike p p) (is_alike q q) (alike-itself p) (alike-itself q)
   alike-itself (hide_hole p) = alike-itself p
   alike-itself (closed p) = alike-itself p

@@ -7,7 +7,7 @@ use Rattle.rdx_lang.specs.Lookup.{alternatives_of}
 use Rattle.rdx_lang.specs.Members.{In, here, there}
 use Rattle.rdx_lang.specs.Patterns.{Pattern, Items, Language}
 use Rattle.rdx_lang.specs.References.{are_distinct}
-use Rattle.rdx_lang.specs.Rules.{IsAlternative, Match, MatchItems, MatchRun, match_wild, match_kind, match_except, match_prefix, match_hole, match_lit, match_nt, match_named, match_in_hole, match_hide_hole, match_closed, match_seq, match_none, match_one, match_many, run_end, run_more, Split, SplitItems, SplitRun, split_hole, split_nt, split_named, split_in_hole, split_closed, split_seq, split_here, split_behind, split_many, run_here, run_there, run_behind}
+use Rattle.rdx_lang.specs.Rules.{IsAlternative, Match, MatchItems, MatchRun, match_wild, match_kind, match_except, match_prefix, match_hole, match_lit, match_nt, match_named, match_differ, match_in_hole, match_hide_hole, match_closed, match_seq, match_none, match_one, match_many, run_end, run_more, Split, SplitItems, SplitRun, split_hole, split_nt, split_named, split_differ, split_in_hole, split_closed, split_seq, split_here, split_behind, split_many, run_here, run_there, run_behind}
 use Rattle.rdx_lang.specs.WellFormed.{defined}
 use Rattle.rdx_lang.specs.declared.pattern.Ref.{Ref}
 use Rattle.rdx_lang.proofs.LookupLaws.{alternatives_of-all}
@@ -76,6 +76,7 @@ module _ (L : Language) (distinct : IsTrue (are_distinct (defined L))) (open_one
     matched-has p t b n (match_lit e) = tt
     matched-has p t b n (match_nt {x = x} {p = q} {c = c} a m) = term-of_one x q a (matched-has q t c (open_ones x q a) m)
     matched-has p t b n (match_named {q = q} {c = c} m j) = matched-has q t c n m
+    matched-has p t b n (match_differ {q = q} {c = c} m j) = matched-has q t c n m
     matched-has p t b n (match_in_hole {q = q} {r = r} {C = C} {u = u} {c = c} {d = d} s m j) =
         has-greater (context_height K q) (term_height K r) (split-has q t C u c n.0 s) (matched-has r u d n.1 m)
     matched-has p t b n (match_hide_hole {q = q} m) = matched-has q t b n m
@@ -97,6 +98,7 @@ module _ (L : Language) (distinct : IsTrue (are_distinct (defined L))) (open_one
     split-has p t C s b n split_hole = tt
     split-has p t C s b n (split_nt {x = x} {p = q} {c = c} a m) = context-of_one x q a (split-has q t C s c (open_ones x q a) m)
     split-has p t C s b n (split_named {q = q} {c = c} m j) = split-has q t C s c n m
+    split-has p t C s b n (split_differ {q = q} {c = c} m j) = split-has q t C s c n m
     split-has p t C s b n (split_in_hole {q = q} {r = r} {D = D} {E = E} {u = u} {c = c} {d = d} m k e j) =
         has-greater (context_height K q) (context_height K r) (split-has q t D u c n.0 m) (split-has r u E s d n.1 k)
     split-has p t C s b n (split_closed m) = absurd n

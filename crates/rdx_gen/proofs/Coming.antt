@@ -6,7 +6,7 @@ use Rattle.rdx_term.specs.Context.{is_context, is_context_at}
 use Rattle.rdx_term.specs.Fill.{fill_of}
 use Rattle.rdx_term.specs.Tree.{Tree, trees, list, tree_depth, tree_nodes}
 use Rattle.rdx_term.proofs.Contexts.{is_context-fill_of}
-use Rattle.rdx_lang.specs.Patterns.{Pattern, wild, of_kind, except, prefix, hole, lit, nt, named, in_hole, hide_hole, closed, seq, Items, nil, one, many}
+use Rattle.rdx_lang.specs.Patterns.{Pattern, wild, of_kind, except, prefix, hole, lit, nt, named, differ, in_hole, hide_hole, closed, seq, Items, nil, one, many}
 use Rattle.rdx_lang.specs.Rules.{is_one_of}
 use Rattle.rdx_lang.specs.declared.pattern.Kind.{Kind}
 use Rattle.rdx_lang.specs.declared.pattern.Kind.TheVariants.{Any, Number, Natural, Integer, Real, Text, Boolean, Variable, Unmentioned}
@@ -218,6 +218,7 @@ module _ (S : Setting) (N : Inner) (o : Notes) (size g : â„•) (P : List (List â„
         kept (stopped w v) c = tt
         kept nothing c = absurd c
     terms-come (named x q) s h n l = name-comes (is_one_of o.again x) x (term S N o size q s) s (terms-come q s h n l) l
+    terms-come (differ x q) s h n l = terms-come q s h n l
     terms-come (in_hole q r) s h n l =
         let both = low-greater size g (context_height S.known q) (term_height S.known r) h in
         comes-after KeptContext Kept (context S N o size q s) _ (contexts-come q s both.0 n.0 l)
@@ -259,6 +260,7 @@ module _ (S : Setting) (N : Inner) (o : Notes) (size g : â„•) (P : List (List â„
         kept (stopped w v) c = tt
         kept nothing c = absurd c
     contexts-come (named x q) s h n l = contexts-come q s h n l
+    contexts-come (differ x q) s h n l = contexts-come q s h n l
     contexts-come (in_hole q r) s h n l =
         let both = low-greater size g (context_height S.known q) (context_height S.known r) h in
         comes-after KeptContext KeptContext (context S N o size q s) _ (contexts-come q s both.0 n.0 l)

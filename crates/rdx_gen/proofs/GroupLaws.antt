@@ -9,8 +9,8 @@ use Rattle.std.proofs.lemmas.List.{length-map, length-replicate, get_or-set_same
 use Rattle.rdx_lang.proofs.Rest.{rest_at}
 use Rattle.rdx_lang.specs.Patterns.{Pattern}
 use Rattle.rdx_gen.specs.Alike.{is_alike}
-use Rattle.rdx_gen.specs.NameRules.{Place, is_inside, times, any_inside, any_other, first_broken, first_repeated, names_again}
-use Rattle.rdx_gen.specs.Inside.Groups.{group_of, breaks_by, no_group, with_place, gathered, first_place, first_part, name_where}
+use Rattle.rdx_gen.specs.NameRules.{Place, is_inside, times, any_inside, any_other, first_broken, first_in_alternative, names_again}
+use Rattle.rdx_gen.specs.Inside.Groups.{group_of, breaks_by, breaks_alternative_by, no_group, with_place, gathered, first_place, first_part, name_where}
 use Rattle.rdx_gen.specs.declared.group.Group.{Group}
 use Rattle.rdx_gen.proofs.AlikeEqual.{alike_equal}
 use Rattle.rdx_gen.proofs.AlikeItself.{alike-itself}
@@ -313,17 +313,17 @@ module _ {A : Type 0} (f : A → Place) where
       ap (first_broken us) (rest_at f xs i x l e)
       ∙ ap (λ (c : Bool). if c then Some (f x).name else first_broken us (map f (drop (i + 1) xs))) (ap (breaks_by (f x)) (sym h) ∙ b)
 
-  pub repeated-here : (us : List Place) (xs : List A) (i : ℕ) (x : A) (g : Group) → i < length xs → x ≡ get_or xs i x → g ≡ group_of us (f x) → g.several ≡ true
-      → first_repeated us (map f (drop i xs)) ≡ Some (f x).name
-  repeated-here us xs i x g l e h b =
-      ap (first_repeated us) (rest_at f xs i x l e)
-      ∙ ap (λ (c : Bool). if c then Some (f x).name else first_repeated us (map f (drop (i + 1) xs))) (ap (λ (k : Group). k.several) (sym h) ∙ b)
+  pub alternative-here : (us : List Place) (xs : List A) (i : ℕ) (x : A) (g : Group) → i < length xs → x ≡ get_or xs i x → g ≡ group_of us (f x) → breaks_alternative_by (f x) g ≡ true
+      → first_in_alternative us (map f (drop i xs)) ≡ Some (f x).name
+  alternative-here us xs i x g l e h b =
+      ap (first_in_alternative us) (rest_at f xs i x l e)
+      ∙ ap (λ (c : Bool). if c then Some (f x).name else first_in_alternative us (map f (drop (i + 1) xs))) (ap (breaks_alternative_by (f x)) (sym h) ∙ b)
 
-  pub repeated-further : (us : List Place) (xs : List A) (i : ℕ) (x : A) (g : Group) → i < length xs → x ≡ get_or xs i x → g ≡ group_of us (f x) → g.several ≡ false
-      → first_repeated us (map f (drop i xs)) ≡ first_repeated us (map f (drop (i + 1) xs))
-  repeated-further us xs i x g l e h b =
-      ap (first_repeated us) (rest_at f xs i x l e)
-      ∙ ap (λ (c : Bool). if c then Some (f x).name else first_repeated us (map f (drop (i + 1) xs))) (ap (λ (k : Group). k.several) (sym h) ∙ b)
+  pub alternative-further : (us : List Place) (xs : List A) (i : ℕ) (x : A) (g : Group) → i < length xs → x ≡ get_or xs i x → g ≡ group_of us (f x) → breaks_alternative_by (f x) g ≡ false
+      → first_in_alternative us (map f (drop i xs)) ≡ first_in_alternative us (map f (drop (i + 1) xs))
+  alternative-further us xs i x g l e h b =
+      ap (first_in_alternative us) (rest_at f xs i x l e)
+      ∙ ap (λ (c : Bool). if c then Some (f x).name else first_in_alternative us (map f (drop (i + 1) xs))) (ap (breaks_alternative_by (f x)) (sym h) ∙ b)
 
   pub again-next : (us : List Place) (xs : List A) (i : ℕ) (x : A) (g : Group) → i < length xs → x ≡ get_or xs i x → g ≡ group_of us (f x)
       → names_again us (map f (drop i xs)) ≡ (if g.several then (f x).name ∷ names_again us (map f (drop (i + 1) xs)) else names_again us (map f (drop (i + 1) xs)))
@@ -396,11 +396,6 @@ module _ {A : Type 0} (f : A → Place) where
           ∙ ap (λ j. get_or gs j no_group) (first-read xs fs i x.0 h l x.1)
           ∙ gathered-group (map f xs) gs i (f x.0) g (subst (λ k. i < k) (sym (length-map xs f)) l) (place-read xs i x.0 l x.1)
           ∙ sym (read-map (λ a. group_of (map f xs) (f a)) xs i x.0 no_group l x.1)
-
-  -- the same, whatever stands at the place
-  pub repeated-on : (us : List Place) (xs : List A) (gs : List Group) (i : ℕ) (g : Group) → gs ≡ map (λ a. group_of us (f a)) xs → i < length xs → g ≡ get_or gs i g → g.several ≡ false
-      → first_repeated us (map f (drop i xs)) ≡ first_repeated us (map f (drop (i + 1) xs))
-  repeated-on us xs gs i g h l d b = let x = some-at xs i l in repeated-further us xs i x.0 g l x.1 (group-read us xs gs i x.0 g h l x.1 d) b
 
   pub again-step : (us : List Place) (xs : List A) (gs : List Group) (i : ℕ) (x : A) (g : Group) (old new : List (List ℕ)) → gs ≡ map (λ a. group_of us (f a)) xs → i < length xs
       → x ≡ get_or xs i x → g ≡ get_or gs i g → new ≡ old ++ name_where g.several (f x).name

@@ -2,7 +2,7 @@
 use Rattle.std.proofs.Common.{◌≡◌, ◌⊎◌, inl, inr, ℕ, zero, suc, ◌+◌, ◌*◌, ◌<◌, ◌≤◌, Bool, true, false, List, [], ◌∷◌, map, length, replicate, Option, Some, None, if◌then◌else◌, refl, sym, ap, ◌∙◌, subst, arith}
 use Rattle.std.specs.Fn.{iterate}
 use Rattle.rdx_lang.specs.Lookup.{alternatives_among, alternatives_of}
-use Rattle.rdx_lang.specs.Patterns.{Pattern, wild, of_kind, except, prefix, hole, lit, nt, named, in_hole, hide_hole, closed, seq, Items, nil, one, many, Definition, Language}
+use Rattle.rdx_lang.specs.Patterns.{Pattern, wild, of_kind, except, prefix, hole, lit, nt, named, differ, in_hole, hide_hole, closed, seq, Items, nil, one, many, Definition, Language}
 use Rattle.rdx_lang.specs.References.{is_same}
 use Rattle.rdx_lang.specs.declared.pattern.Ref.{Ref}
 use Rattle.rdx_gen.specs.declared.height.Height.{Height}
@@ -68,6 +68,7 @@ module _ (k : ℕ) (K M : Known) (same : SameUpto k K M) where
     terms-upto (lit u) = upto-zero
     terms-upto (nt x) = same.terms x
     terms-upto (named x q) = terms-upto q
+    terms-upto (differ x q) = terms-upto q
     terms-upto (in_hole q r) =
         upto-greater k (context_height K q) (term_height K r) (context_height M q) (term_height M r) (contexts-upto q) (terms-upto r)
     terms-upto (hide_hole q) = terms-upto q
@@ -89,6 +90,7 @@ module _ (k : ℕ) (K M : Known) (same : SameUpto k K M) where
     contexts-upto (lit u) = tt
     contexts-upto (nt x) = same.contexts x
     contexts-upto (named x q) = contexts-upto q
+    contexts-upto (differ x q) = contexts-upto q
     contexts-upto (in_hole q r) =
         upto-greater k (context_height K q) (context_height K r) (context_height M q) (context_height M r) (contexts-upto q) (contexts-upto r)
     contexts-upto (hide_hole q) = tt

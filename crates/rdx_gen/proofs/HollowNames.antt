@@ -3,7 +3,7 @@ use Rattle.std.proofs.Common.{◌≡◌, ℕ, Bool, true, false, List, [], ◌�
 use Rattle.std.specs.Cmp.Lexicographic.{bytes_decides}
 use Rattle.std.specs.Prelude.{◌&&◌, ◌||◌, bytes_eq, IsTrue}
 use Rattle.rdx_lang.specs.Members.{In, here, there}
-use Rattle.rdx_lang.specs.Patterns.{Pattern, wild, of_kind, except, prefix, hole, lit, nt, named, in_hole, hide_hole, closed, seq, Items, nil, one, many}
+use Rattle.rdx_lang.specs.Patterns.{Pattern, wild, of_kind, except, prefix, hole, lit, nt, named, differ, in_hole, hide_hole, closed, seq, Items, nil, one, many}
 use Rattle.rdx_lang.specs.Rules.{is_one_of}
 use Rattle.rdx_lang.proofs.MemberLaws.{append-left, append-right}
 use Rattle.rdx_gen.specs.Generation.{Notes, no_notes, lacks}
@@ -26,6 +26,7 @@ abbrev mutual
   AllNoted K o (lit u) = Unit {0}
   AllNoted K o (nt x) = Unit {0}
   AllNoted K o (named x q) = AllNoted K o q
+  AllNoted K o (differ x q) = AllNoted K o q
   AllNoted K o (in_hole q r) = AllNoted K o q × AllNoted K o r
   AllNoted K o (hide_hole q) = AllNoted K o q
   AllNoted K o (closed q) = Unit {0}
@@ -45,7 +46,7 @@ module _ (K : Known) (o : Notes) where
   length-noted : (x : Option (List ℕ)) (p : Pattern) (r l : Bool) → ((u : Place) → In u (length_place x p r l) → PlaceNoted u)
       → IsNoted o (term_height K p) x
   length-noted None p r l f = tt
-  length-noted (Some x) p r l f = f (record { name = x; part = p; is_length = true; repeated = r; left = l }) (here refl) refl
+  length-noted (Some x) p r l f = f (record { name = x; part = p; is_length = true; is_mismatch = false; repeated = r; left = l }) (here refl) refl
 
   mutual
     all-noted : (r l : Bool) (p : Pattern) → ((u : Place) → In u (places r l p) → PlaceNoted u) → AllNoted K o p
@@ -57,6 +58,7 @@ module _ (K : Known) (o : Notes) where
     all-noted r l (lit u) f = tt
     all-noted r l (nt x) f = tt
     all-noted r l (named x q) f = all-noted r l q (λ u i. f u (there i))
+    all-noted r l (differ x q) f = all-noted r l q (λ u i. f u (there i))
     all-noted r l (in_hole p q) f = (
       all-noted r true p (λ u i. f u (append-left (places r true p) (places r l q) u i)),
       all-noted r l q (λ u i. f u (append-right (places r true p) (places r l q) u i)),

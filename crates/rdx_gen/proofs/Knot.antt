@@ -6,11 +6,12 @@ use Rattle.std.specs.List.{list_all}
 use Rattle.std.specs.Prelude.{◌==◌, if◌then◌else◌, slice_index, slice_index_or, codes}
 use Rattle.rand_pcg.specs.Lcg.{Lcg}
 use Rattle.rand_pcg.specs.Pcg.{pcg32}
+use Rattle.rdx_lang.specs.Bindings.{no_names}
 use Rattle.rdx_lang.specs.Depths.{uses, all_agree, is_shallow, has_one_depth_each, closed_parts_fit, has_fitting_names}
 use Rattle.rdx_lang.specs.Literals.{is_mentioned}
 use Rattle.rdx_lang.specs.Lookup.{alternatives_of}
 use Rattle.rdx_lang.specs.Members.{In, here, there}
-use Rattle.rdx_lang.specs.Patterns.{Pattern, wild, of_kind, except, prefix, hole, lit, nt, named, in_hole, hide_hole, closed, seq, Items, nil, one, many, Language}
+use Rattle.rdx_lang.specs.Patterns.{Pattern, wild, of_kind, except, prefix, hole, lit, nt, named, differ, in_hole, hide_hole, closed, seq, Items, nil, one, many, Language}
 use Rattle.rdx_lang.specs.Rules.{match_nt, split_nt, IsAlternative}
 use Rattle.rdx_lang.specs.WellFormed.{has_known_nonterminals, defined, is_well_formed_in}
 use Rattle.rdx_lang.specs.declared.pattern.Ref.{Ref}
@@ -22,7 +23,7 @@ use Rattle.rdx_gen.specs.Heights.{least, term_height, context_height, known_in}
 use Rattle.rdx_gen.specs.Laws.{Reaches, at_once, behind}
 use Rattle.rdx_gen.specs.Literals.{language_literals}
 use Rattle.rdx_gen.specs.Matching.{HasSymbols, HaveSymbols, IsCounted, TermsMatch, ContextsSplit, GeneratedMatches}
-use Rattle.rdx_gen.specs.NameRules.{or_else, first_repeated, Place, places_of, mentioned, items_mentioned, reached, first_broken, first_in_definitions, notes_of}
+use Rattle.rdx_gen.specs.NameRules.{or_else, first_in_alternative, Place, places_of, mentioned, items_mentioned, reached, first_broken, first_in_definitions, notes_of}
 use Rattle.rdx_gen.specs.Outcomes.{State, made, one_of, found_for}
 use Rattle.rdx_gen.specs.Variables.{first_five, behind_prefix}
 use Rattle.rdx_gen.specs.Words.{pick}
@@ -30,7 +31,7 @@ use Rattle.rdx_gen.proofs.AtomsFit.{Steady, free_chosen, free_not}
 use Rattle.rdx_gen.proofs.FiveSymbols.{five}
 use Rattle.rdx_gen.proofs.Mentions.{in_language}
 use Rattle.rdx_gen.proofs.NamesKept.{Later, Kept}
-use Rattle.rdx_gen.proofs.Reaching.{none_repeated}
+use Rattle.rdx_gen.proofs.Reaching.{none_breaks}
 use Rattle.rdx_gen.proofs.RulesHold.{is_length_name, rules_hold, part_whole, part_alone, rules_alone}
 use Rattle.rdx_gen.proofs.SequenceNames.{no_prefix}
 use Rattle.rdx_gen.proofs.TermsFit.{IsMakeable, AreMakeable, Unchanged, GivesFitting, one_steady, terms_fit, contexts_fit}
@@ -110,6 +111,7 @@ mutual
   makeable R (lit u) h f = tt
   makeable R (nt x) h f = f x (here refl)
   makeable R (named x q) h f = makeable R q h f
+  makeable R (differ x q) h f = makeable R q h f
   makeable R (in_hole p q) h f = (makeable R p h.0 (λ y i. f y (append-left (mentioned p) (mentioned q) y i)), makeable R q h.1 (λ y i. f y (append-right (mentioned p) (mentioned q) y i)))
   makeable R (hide_hole q) h f = makeable R q h f
   makeable R (closed q) h f = tt
@@ -139,7 +141,7 @@ unchanged us r s z h l = record {
 }
 
 module _ (L : Language) (S : Setting) (q : S.unmentioned ≡ first_five [] (language_literals L)) (c : IsCounted L) (p : Pattern)
-    (once : (x : Ref) (a : Pattern) → Reaches L p x → IsAlternative L x a → first_repeated (places_of a) (places_of a) ≡ None) where
+    (once : (x : Ref) (a : Pattern) → Reaches L p x → IsAlternative L x a → first_in_alternative (places_of a) (places_of a) ≡ None) where
   -- alternatives of nonterminals that are reached
   alternative_makeable : (x : Ref) (a : Pattern) → Reaches L p x → IsAlternative L x a → IsMakeable (Reaches L p) a
   alternative_makeable x a h i = makeable (Reaches L p) a (c.alternatives x a i) (λ y j. behind h i j)
@@ -154,7 +156,7 @@ module _ (L : Language) (S : Setting) (q : S.unmentioned ≡ first_five [] (lang
         let w = came (one_of ks s) (λ k y. term S (inner_at L S n) no_notes (size - 1) (slice_index_or (alternatives_of L x) k wild) y) t z e in
         let a = slice_index_or (alternatives_of L x) w.value wild in
         let i = chosen_alternative L x (term_height S.known) size s w.state w.value w.first in
-        let m = terms_fit L no_lengths no_notes (places_of a) (rules_alone no_lengths (places_of a)) S (inner_at L S n) (size - 1) (Reaches L p) (gives_fitting n)
+        let m = terms_fit L no_lengths no_notes (places_of a) (rules_alone no_lengths a (once x a h i)) S (inner_at L S n) (size - 1) (Reaches L p) (gives_fitting n)
         a false false w.state z t (alternative_makeable x a h i) (part_alone a (once x a h i))
         (nothing_kept L (places_of a) w.state) w.second in
         (match_nt {c = m.binding} i m.fit, unchanged (places_of a) s w.state z (one_steady ks w.value s w.state w.first) m.later);
@@ -163,10 +165,11 @@ module _ (L : Language) (S : Setting) (q : S.unmentioned ≡ first_five [] (lang
         let w = came (one_of ks s) (λ k y. context S (inner_at L S n) no_notes (size - 1) (slice_index_or (alternatives_of L x) k wild) y) C z e in
         let a = slice_index_or (alternatives_of L x) w.value wild in
         let i = chosen_alternative L x (context_height S.known) size s w.state w.value w.first in
-        let m = contexts_fit L no_lengths no_notes (places_of a) (rules_alone no_lengths (places_of a)) S (inner_at L S n) (size - 1) (Reaches L p) (gives_fitting n)
+        let m = contexts_fit L no_lengths no_notes (places_of a) (rules_alone no_lengths a (once x a h i)) S (inner_at L S n) (size - 1) (Reaches L p) (gives_fitting n)
         a false false w.state z C (alternative_makeable x a h i) (part_alone a (once x a h i))
         (λ y j. refl) (nothing_kept L (places_of a) w.state) w.second in (
-          record { context = m.fit.context; binding = []; splits = λ u. split_nt {c = m.fit.binding} i (m.fit.splits u) },
+          record { context = m.fit.context; binding = no_names; splits = λ u. split_nt {c = m.fit.binding} i (m.fit.splits u) },
+          refl,
           unchanged (places_of a) s w.state z (one_steady ks w.value s w.state w.first) m.later,
         );
   }
@@ -175,14 +178,14 @@ module _ (L : Language) (S : Setting) (q : S.unmentioned ≡ first_five [] (lang
 
 pub terms_match : TermsMatch
 terms_match L n size p s z t c h o e =
-    let m = terms_fit L no_lengths no_notes (places_of p) (rules_alone no_lengths (places_of p)) (setting_of L) (inner_at L (setting_of L) n) size (Reaches L p)
+    let m = terms_fit L no_lengths no_notes (places_of p) (rules_alone no_lengths p o.pattern) (setting_of L) (inner_at L (setting_of L) n) size (Reaches L p)
     (gives_fitting L (setting_of L) refl c p o.alternatives n) p false false s z t (makeable (Reaches L p) p h (λ y i. at_once i))
     (part_alone p o.pattern) (nothing_kept L (places_of p) s) e in
     record { binding = m.binding; match = m.fit }
 
 pub contexts_split : ContextsSplit
 contexts_split L n size p s z C c h o e =
-    (contexts_fit L no_lengths no_notes (places_of p) (rules_alone no_lengths (places_of p)) (setting_of L) (inner_at L (setting_of L) n) size (Reaches L p)
+    (contexts_fit L no_lengths no_notes (places_of p) (rules_alone no_lengths p o.pattern) (setting_of L) (inner_at L (setting_of L) n) size (Reaches L p)
     (gives_fitting L (setting_of L) refl c p o.alternatives n) p false false s z C (makeable (Reaches L p) p h (λ y i. at_once i))
     (part_alone p o.pattern) (λ y i. refl) (nothing_kept L (places_of p) s) e).fit
 
@@ -201,6 +204,6 @@ pub generated_matches : GeneratedMatches
 generated_matches L p size w v t c h f (makes n s b g e) =
     let good = none_first (first_broken (places_of p) (places_of p)) (first_in_definitions (reached L p) L.nonterminals) b in
     let m = terms_fit L (is_length_name (places_of p)) (notes_of (known_in L) p) (places_of p) (rules_hold (known_in L) p (names_agree L p f) good)
-    (setting_of L) (inner_at L (setting_of L) n) size (Reaches L p) (gives_fitting L (setting_of L) refl c p (λ x a i j. none_repeated L p a x b i j) n) p false false _ s t
+    (setting_of L) (inner_at L (setting_of L) n) size (Reaches L p) (gives_fitting L (setting_of L) refl c p (λ x a i j. none_breaks L p a x b i j) n) p false false _ s t
     (makeable (Reaches L p) p h (λ y i. at_once i)) (part_whole (known_in L) p) (λ x u a d u' i k. none_is_some u _ d) e in
     record { binding = m.binding; match = m.fit }

@@ -3,20 +3,21 @@ use Rattle.std.proofs.lemmas.Bool.{false_from_ne_true}
 use Rattle.std.proofs.lemmas.Option.{same_Some}
 use Rattle.std.proofs.Common.{arith, inl, inr, ◌⊎◌, ◌≡◌, ℕ, ◌+◌, ◌<◌, ◌++◌, Bool, true, false, List, [], ◌∷◌, refl, sym, ap, ◌∙◌, subst, Option, Some, None, true≢false}
 use Rattle.std.specs.Prelude.{bytes_eq, if◌then◌else◌}
-use Rattle.rdx_lang.specs.Bindings.{Value, one, many, len, Binding, bound_names, HasAscendingNames}
-use Rattle.rdx_lang.specs.Join.{IsJoin}
+use Rattle.rdx_lang.specs.Bindings.{Value, one, many, len, Mismatch, Binding, no_names, bound_names, HasAscendingNames}
+use Rattle.rdx_lang.specs.Join.{JoinsSets, IsJoin}
 use Rattle.rdx_lang.specs.Members.{In}
 use Rattle.rdx_lang.specs.Patterns.{Pattern, Language}
 use Rattle.rdx_lang.specs.Rules.{Match, is_one_of}
 use Rattle.rdx_lang.proofs.JoinLaws.{bound_names-member}
-use Rattle.rdx_lang.proofs.Joins.{join_exists}
+use Rattle.rdx_lang.proofs.Joins.{pairs_join}
 use Rattle.rdx_lang.proofs.MemberLaws.{append-left, append-right}
+use Rattle.rdx_lang.proofs.SetJoins.{no_sets_left}
 use Rattle.rdx_term.specs.Tree.{Tree}
 use Rattle.rdx_gen.specs.Generation.{Notes, with_term, with_length, had_or_new, new_length, length_of, is_hollow}
 use Rattle.rdx_gen.specs.NameRules.{Place, places, times}
 use Rattle.rdx_gen.specs.Outcomes.{State, made, found_for}
 use Rattle.rdx_gen.proofs.AtomsFit.{Steady, steady}
-use Rattle.rdx_gen.proofs.NamesStand.{same_name, name_same, times-append, some_place, counted_left, counted_right, twice, under}
+use Rattle.rdx_gen.proofs.NamesStand.{same_name, name_same, times-append, some_place, HaveNoMismatch, counted_left, counted_right, twice, under}
 use Rattle.rdx_gen.proofs.WhatCame.{came, moved, none_is_some}
 
 -- ---- what stands beside a name
@@ -70,9 +71,14 @@ one_stated K s x (len m) (one u) h k = absurd (true≢false (sym h.0 ∙ k.0))
 one_stated K s x (len m) (many vs) h k = absurd k
 one_stated K s x (len m) (len n) h k = ap len (same_Some m n (sym h.1 ∙ k.1))
 
--- the names of b that come again have there what b binds them to
-abbrev pub Stated : (List ℕ → Bool) → Notes → State → Binding → Type 0
-Stated K o s b = (x : List ℕ) (v : Value) → In (x, v) b → is_one_of o.again x ≡ true → IsStated K s x v
+-- b has no mismatch names, and its names that come again have there what b binds them to
+pub record Stated (K : List ℕ → Bool) (o : Notes) (s : State) (b : Binding) : Type 0 where
+  pub plain : b.differs ≡ []
+  pub names : (x : List ℕ) (v : Value) → In (x, v) b.pairs → is_one_of o.again x ≡ true → IsStated K s x v
+
+-- so is what binds nothing
+pub nothing_stated : (K : List ℕ → Bool) (o : Notes) (s : State) → Stated K o s no_names
+nothing_stated K o s = record { plain = refl; names = λ x v i a. elim i [ ] }
 
 -- a later state: what was found is found, and only names that come again and have a place among these have something new
 pub record Later (o : Notes) (us : List Place) (s z : State) : Type 0 where
@@ -107,11 +113,11 @@ value_on K o us s z x (many vs) l h = h
 value_on K o us s z x (len k) l h = (h.0, l.lengths x k h.1)
 
 pub stated_on : (K : List ℕ → Bool) (o : Notes) (us : List Place) (s z : State) (b : Binding) → Later o us s z → Stated K o s b → Stated K o z b
-stated_on K o us s z b l h = λ x v i a. value_on K o us s z x v l (h x v i a)
+stated_on K o us s z b l h = record { plain = h.plain; names = λ x v i a. value_on K o us s z x v l (h.names x v i a) }
 
 -- names that don't come again have nothing to say
-pub alone_stated : (K : List ℕ → Bool) (o : Notes) (s : State) (b : Binding) → ((x : List ℕ) → In x (bound_names b) → is_one_of o.again x ≡ false) → Stated K o s b
-alone_stated K o s b f = λ x v i a. absurd (true≢false (sym a ∙ f x (bound_names-member (x, v) b i)))
+pub alone_stated : (K : List ℕ → Bool) (o : Notes) (s : State) (b : Binding) → b.differs ≡ [] → ((x : List ℕ) → In x (bound_names b) → is_one_of o.again x ≡ false) → Stated K o s b
+alone_stated K o s b e f = record { plain = e; names = λ x v i a. absurd (true≢false (sym a ∙ f x (bound_names-member (x, v) b i))) }
 
 -- ---- joins
 
@@ -121,19 +127,28 @@ pub record Joined (K : List ℕ → Bool) (o : Notes) (s : State) (c d : Binding
   pub is_join : IsJoin c d binding
   pub stated : Stated K o s binding
 
+-- no sets, joined with none, are none
+no_sets : (ms ns : List Mismatch) → ms ≡ [] → ns ≡ [] → JoinsSets ms ns []
+no_sets ms ns e f = subst (λ (ls : List Mismatch). JoinsSets ls ns []) (sym e) (subst (λ (ls : List Mismatch). JoinsSets [] ls []) (sym f) (no_sets_left [] (tt, tt)))
+
 -- two bindings that do have one, where the names of both come again
 pub join_stated : (K : List ℕ → Bool) (o : Notes) (s : State) (c d : Binding) → HasAscendingNames c → HasAscendingNames d
     → ((x : List ℕ) → In x (bound_names c) → In x (bound_names d) → is_one_of o.again x ≡ true) → Stated K o s c → Stated K o s d → Joined K o s c d
 join_stated K o s c d a b f h k =
-    let j = join_exists c d a b (λ x v w i l.
-    let g = f x (bound_names-member (x, v) c i) (bound_names-member (x, w) d l) in one_stated K s x v w (h x v i g) (k x w l g)) in
-    record { binding = j.0; is_join = j.1; stated = λ x v i g. elim (j.1.sound (x, v) i) [ inl l ↦ h x v l g | inr r ↦ k x v r g ] }
+    let j = pairs_join c.pairs d.pairs a.0 b.0 (λ x v w i l.
+    let g = f x (bound_names-member (x, v) c i) (bound_names-member (x, w) d l) in one_stated K s x v w (h.names x v i g) (k.names x w l g)) in
+    record {
+      binding = record { pairs = j.0; differs = [] };
+      is_join = record { pairs = j.1; differs = no_sets c.differs d.differs h.plain k.plain };
+      stated = record { plain = refl; names = λ x v i g. elim (j.1.sound (x, v) i) [ inl l ↦ h.names x v l g | inr r ↦ k.names x v r g ] };
+    }
 
 -- ---- parts of a pattern
 
--- what holds of the places of names that come again among all: no two have different patterns, none is under an ellipsis or on the left of an
--- `in-hole`, and K tells their kind
+-- None of all is a place of a mismatch name. What holds of the places of names that come again among all: no two have different patterns, none is
+-- under an ellipsis or on the left of an `in-hole`, and K tells their kind
 pub record Rules (K : List ℕ → Bool) (o : Notes) (all : List Place) : Type 0 where
+  pub no_mismatch : HaveNoMismatch all
   pub same : (u v : Place) → In u all → In v all → u.name ≡ v.name → is_one_of o.again u.name ≡ true → u.is_length ≡ false → u.part ≡ v.part
   pub outside : (u : Place) → In u all → is_one_of o.again u.name ≡ true → (u.repeated ≡ false) × (u.left ≡ false)
   pub kind : (u : Place) → In u all → is_one_of o.again u.name ≡ true → K u.name ≡ u.is_length

@@ -11,8 +11,8 @@ use Rattle.rdx_lang.specs.Bindings.{name_cmp}
 use Rattle.rdx_lang.specs.Depths.{Use, uses, item_uses, length_use, agree, all_agree}
 use Rattle.rdx_lang.specs.Members.{In, here, there}
 use Rattle.rdx_lang.specs.Names.{placed, with_name, add_names, with_length_name, names, item_names}
-use Rattle.rdx_lang.specs.Patterns.{Pattern, wild, of_kind, except, prefix, hole, lit, nt, named, in_hole, hide_hole, closed, seq, Items, nil, one, many}
-use Rattle.rdx_lang.proofs.MemberLaws.{in-append, in-map, map-in}
+use Rattle.rdx_lang.specs.Patterns.{Pattern, wild, of_kind, except, prefix, hole, lit, nt, named, differ, in_hole, hide_hole, closed, seq, Items, nil, one, many}
+use Rattle.rdx_lang.proofs.MemberLaws.{in-append, append-left, append-right, in-map, map-in}
 use Rattle.rdx_gen.specs.NameRules.{Place, places, item_places, length_place, times}
 
 -- ---- tests of members
@@ -37,6 +37,16 @@ all_member : {A : Type 0} (f : A → Bool) (xs : List A) (x : A) → list_all f 
 all_member f [] x e i = elim i [ ]
 all_member f (y ∷ ys) x e (here d) = ap f d ∙ (and_parts (f y) (list_all f ys) e).0
 all_member f (y ∷ ys) x e (there i) = all_member f ys x (and_parts (f y) (list_all f ys) e).1 i
+
+-- ---- places
+
+-- that of a name
+abbrev pub name_place : List ℕ → Pattern → Bool → Bool → Place
+name_place x q r l = record { name = x; part = q; is_length = false; is_mismatch = false; repeated = r; left = l }
+
+-- that of a mismatch name
+abbrev pub mismatch_place : List ℕ → Pattern → Bool → Bool → Place
+mismatch_place x q r l = record { name = x; part = q; is_length = false; is_mismatch = true; repeated = r; left = l }
 
 -- ---- how often
 
@@ -121,7 +131,7 @@ length_counts : (n : Option (List ℕ)) (xs : List (List ℕ)) (p : Pattern) (r 
 length_counts None xs p r l x i = inl i
 length_counts (Some y) xs p r l x i = elim (add_names-sound xs (y ∷ []) x i) [
   | inl j ↦ inl j
-  | inr j ↦ inr (elim j [ here e ↦ place_counts x (length_place (Some y) p r l) (record { name = y; part = p; is_length = true; repeated = r; left = l }) (here refl) (sym e) | there k ↦ elim k [ ] ])
+  | inr j ↦ inr (elim j [ here e ↦ place_counts x (length_place (Some y) p r l) (record { name = y; part = p; is_length = true; is_mismatch = false; repeated = r; left = l }) (here refl) (sym e) | there k ↦ elim k [ ] ])
 ]
 
 -- a name that a repetition binds has a place in its pattern, or is its length name, which has one
@@ -143,6 +153,7 @@ mutual
     | inl j ↦ let h = name_counts r l q x j in let k = counted_more (bytes_eq y x) (times x (places r l q)) in omega (arith, h, k)
     | inr j ↦ elim j [ here e ↦ counted_here (bytes_eq y x) (times x (places r l q)) (name_same y x (sym e)) | there k ↦ elim k [ ] ]
   ]
+  name_counts r l (differ y q) x i = let h = name_counts r l q x i in let k = counted_more (bytes_eq y x) (times x (places r l q)) in omega (arith, h, k)
   name_counts r l (in_hole p q) x i = counted_either x (places r true p) (places r l q) (elim (add_names-sound (names p) (names q) x i) [
     | inl j ↦ inl (name_counts r true p x j)
     | inr j ↦ inr (name_counts r l q x j)
@@ -190,6 +201,8 @@ mutual
   under r l (nt y) u i = elim i [ ]
   under r l (named y q) u (here e) = (λ h. ap (λ (v : Place). v.repeated) e ∙ h, λ h. ap (λ (v : Place). v.left) e ∙ h)
   under r l (named y q) u (there i) = under r l q u i
+  under r l (differ y q) u (here e) = (λ h. ap (λ (v : Place). v.repeated) e ∙ h, λ h. ap (λ (v : Place). v.left) e ∙ h)
+  under r l (differ y q) u (there i) = under r l q u i
   under r l (in_hole p q) u i = elim (in-append (places r true p) (places r l q) u i) [
     | inl j ↦ let k = under r true p u j in (k.0, λ h. k.1 refl)
     | inr j ↦ under r l q u j
@@ -225,6 +238,7 @@ mutual
   weight (lit u) = 0
   weight (nt x) = 0
   weight (named x q) = weight q + 1
+  weight (differ x q) = weight q + 1
   weight (in_hole q r) = weight q + weight r
   weight (hide_hole q) = weight q
   weight (closed q) = 0
@@ -254,6 +268,8 @@ mutual
   lighter r l (nt y) u i = elim i [ ]
   lighter r l (named y q) u (here e) = let k : weight u.part ≡ weight q = ap (λ (v : Place). weight v.part) e in omega (arith, k)
   lighter r l (named y q) u (there i) = let k = lighter r l q u i in omega (arith, k)
+  lighter r l (differ y q) u (here e) = let k : weight u.part ≡ weight q = ap (λ (v : Place). weight v.part) e in omega (arith, k)
+  lighter r l (differ y q) u (there i) = let k = lighter r l q u i in omega (arith, k)
   lighter r l (in_hole p q) u i = elim (in-append (places r true p) (places r l q) u i) [
     | inl j ↦ let k = lighter r true p u j in omega (arith, k)
     | inr j ↦ let k = lighter r l q u j in omega (arith, k)
@@ -303,28 +319,42 @@ lengths_same : (n : ℕ) (x : Option (List ℕ)) (p : Pattern) (r l : Bool) → 
 lengths_same n None p r l = refl
 lengths_same n (Some x) p r l = refl
 
-mutual
-  -- places of names are where they are used
-  places_same : (n : ℕ) (r l : Bool) (p : Pattern) → map of_use (uses n p) ≡ map of_place (places r l p)
-  places_same n r l wild = refl
-  places_same n r l (of_kind k) = refl
-  places_same n r l (except rs) = refl
-  places_same n r l (prefix y) = refl
-  places_same n r l hole = refl
-  places_same n r l (lit t) = refl
-  places_same n r l (nt y) = refl
-  places_same n r l (named y q) = ap (λ z. (y, false) ∷ z) (places_same n r l q)
-  places_same n r l (in_hole p q) = both_parts (uses n p) (uses n q) (places r true p) (places r l q) (places_same n r true p) (places_same n r l q)
-  places_same n r l (hide_hole q) = places_same n r l q
-  places_same n r l (closed q) = refl
-  places_same n r l (seq ps) = item_places_same n r l ps
+-- none of the places is one of a mismatch name
+abbrev pub HaveNoMismatch : List Place → Type 0
+HaveNoMismatch us = (u : Place) → In u us → u.is_mismatch ≡ false
 
-  item_places_same : (n : ℕ) (r l : Bool) (ps : Items) → map of_use (item_uses n ps) ≡ map of_place (item_places r l ps)
-  item_places_same n r l nil = refl
-  item_places_same n r l (one p ps) = both_parts (uses n p) (item_uses n ps) (places r l p) (item_places r l ps) (places_same n r l p) (item_places_same n r l ps)
-  item_places_same n r l (many p x ps) = both_parts (uses (suc n) p ++ length_use n x) (item_uses n ps) (places true l p ++ length_place x p r l) (item_places r l ps)
-      (both_parts (uses (suc n) p) (length_use n x) (places true l p) (length_place x p r l) (places_same (suc n) true l p) (lengths_same n x p r l))
-      (item_places_same n r l ps)
+mutual
+  -- places of names are where they are used, where there is no mismatch name, which is not used
+  places_same : (n : ℕ) (r l : Bool) (p : Pattern) → HaveNoMismatch (places r l p) → map of_use (uses n p) ≡ map of_place (places r l p)
+  places_same n r l wild f = refl
+  places_same n r l (of_kind k) f = refl
+  places_same n r l (except rs) f = refl
+  places_same n r l (prefix y) f = refl
+  places_same n r l hole f = refl
+  places_same n r l (lit t) f = refl
+  places_same n r l (nt y) f = refl
+  places_same n r l (named y q) f = ap (λ z. (y, false) ∷ z) (places_same n r l q (λ u i. f u (there i)))
+  places_same n r l (differ y q) f = absurd (true≢false (f (mismatch_place y q r l) (here refl)))
+  places_same n r l (in_hole p q) f = both_parts (uses n p) (uses n q) (places r true p) (places r l q)
+      (places_same n r true p (λ u i. f u (append-left (places r true p) (places r l q) u i)))
+      (places_same n r l q (λ u i. f u (append-right (places r true p) (places r l q) u i)))
+  places_same n r l (hide_hole q) f = places_same n r l q f
+  places_same n r l (closed q) f = refl
+  places_same n r l (seq ps) f = item_places_same n r l ps f
+
+  item_places_same : (n : ℕ) (r l : Bool) (ps : Items) → HaveNoMismatch (item_places r l ps) → map of_use (item_uses n ps) ≡ map of_place (item_places r l ps)
+  item_places_same n r l nil f = refl
+  item_places_same n r l (one p ps) f = both_parts (uses n p) (item_uses n ps) (places r l p) (item_places r l ps)
+      (places_same n r l p (λ u i. f u (append-left (places r l p) (item_places r l ps) u i)))
+      (item_places_same n r l ps (λ u i. f u (append-right (places r l p) (item_places r l ps) u i)))
+  item_places_same n r l (many p x ps) f =
+      let turns : List Place = places true l p in
+      let first : List Place = turns ++ length_place x p r l in
+      both_parts (uses (suc n) p ++ length_use n x) (item_uses n ps) first (item_places r l ps)
+      (both_parts (uses (suc n) p) (length_use n x) turns (length_place x p r l)
+      (places_same (suc n) true l p (λ u i. f u (append-left first (item_places r l ps) u (append-left turns (length_place x p r l) u i))))
+      (lengths_same n x p r l))
+      (item_places_same n r l ps (λ u i. f u (append-right first (item_places r l ps) u i)))
 
 kind_of : (a b : Bool) → beq a b ≡ true → a ≡ b
 kind_of true true e = refl
@@ -352,9 +382,9 @@ kinds_agree (w ∷ us) u v e (there i) (here f) n =
 kinds_agree (w ∷ us) u v e (there i) (there j) n = kinds_agree us u v (and_parts (list_all (agree w) us) (all_agree us) e).1 i j n
 
 -- so it is at its places
-pub one_kind : (p : Pattern) (r l : Bool) (u v : Place) → all_agree (uses 0 p) ≡ true → In u (places r l p) → In v (places r l p) → u.name ≡ v.name → u.is_length ≡ v.is_length
-one_kind p r l u v e i j n =
-    let s = places_same 0 r l p in
+pub one_kind : (p : Pattern) (r l : Bool) (u v : Place) → HaveNoMismatch (places r l p) → all_agree (uses 0 p) ≡ true → In u (places r l p) → In v (places r l p) → u.name ≡ v.name → u.is_length ≡ v.is_length
+one_kind p r l u v f e i j n =
+    let s = places_same 0 r l p f in
     let a = in-map of_use (uses 0 p) (of_place u) (subst (λ (xs : List Named). In (of_place u) xs) (sym s) (map-in of_place (places r l p) u i)) in
     let b = in-map of_use (uses 0 p) (of_place v) (subst (λ (xs : List Named). In (of_place v) xs) (sym s) (map-in of_place (places r l p) v j)) in
     ap (λ (x : Named). x.1) a.2 ∙ kinds_agree (uses 0 p) a.0 b.0 e a.1 b.1 (ap (λ (x : Named). x.0) (sym a.2) ∙ n ∙ ap (λ (x : Named). x.0) b.2)

@@ -7,9 +7,9 @@ use Rattle.rdx_lang.specs.References.{is_same, is_among}
 use Rattle.rdx_lang.specs.declared.pattern.Ref.{Ref}
 use Rattle.rdx_lang.proofs.LookupLaws.{is_same-equal, equal-is_same}
 use Rattle.rdx_lang.proofs.MemberLaws.{in-append, append-left, append-right}
-use Rattle.rdx_gen.specs.Laws.{Reaches, at_once, MarkExactly, ReachedExactly, NoneRepeated}
+use Rattle.rdx_gen.specs.Laws.{Reaches, at_once, MarkExactly, ReachedExactly, NoneBreaks}
 use Rattle.rdx_gen.specs.Laws.{behind as further}
-use Rattle.rdx_gen.specs.NameRules.{mentioned, all_mentioned, behind, marked_with, next_marks, reached, or_else, places_of, first_repeated, first_broken, first_in_alternatives, first_in_definitions}
+use Rattle.rdx_gen.specs.NameRules.{mentioned, all_mentioned, behind, marked_with, next_marks, reached, or_else, places_of, first_in_alternative, first_broken, first_in_alternatives, first_in_definitions}
 use Rattle.rdx_gen.proofs.RoundsEnd.{rounds_end}
 
 -- ---- members
@@ -256,13 +256,13 @@ or_else-none None b e = (refl, e)
 or_else-none (Some x) b e = absurd cc
 
 none-in_alternatives : (q : Pattern) (ps : List Pattern) → In q ps → first_in_alternatives ps ≡ None
-    → first_repeated (places_of q) (places_of q) ≡ None
+    → first_in_alternative (places_of q) (places_of q) ≡ None
 none-in_alternatives q [] i e = elim i [ ]
 none-in_alternatives q (p ∷ ps) (here f) e =
-    subst (λ z. first_repeated (places_of z) (places_of z) ≡ None) (sym f)
-    (or_else-none (first_repeated (places_of p) (places_of p)) (first_in_alternatives ps) e).0
+    subst (λ z. first_in_alternative (places_of z) (places_of z) ≡ None) (sym f)
+    (or_else-none (first_in_alternative (places_of p) (places_of p)) (first_in_alternatives ps) e).0
 none-in_alternatives q (p ∷ ps) (there i) e =
-    none-in_alternatives q ps i (or_else-none (first_repeated (places_of p) (places_of p)) (first_in_alternatives ps) e).1
+    none-in_alternatives q ps i (or_else-none (first_in_alternative (places_of p) (places_of p)) (first_in_alternatives ps) e).1
 
 none-in_definitions : (x : Ref) (ps : List Pattern) (bs : List Bool) (ds : List Definition) → Marked x bs ds → In (x, ps) ds
     → first_in_definitions bs ds ≡ None
@@ -278,7 +278,7 @@ none-in_definitions x ps (true ∷ bs) (d ∷ ds) m (there i) e =
     none-in_definitions x ps bs ds m.1 i (or_else-none (first_in_alternatives d.1) (first_in_definitions bs ds) e).1
 none-in_definitions x ps (false ∷ bs) (d ∷ ds) m (there i) e = none-in_definitions x ps bs ds m.1 i e
 
-pub none_repeated : NoneRepeated
-none_repeated L p q x e r a =
+pub none_breaks : NoneBreaks
+none_breaks L p q x e r a =
     let f = (or_else-none (first_broken (places_of p) (places_of p)) (first_in_definitions (reached L p) L.nonterminals) e).1 in
     none-in_alternatives q a.all a.among (none-in_definitions x a.all (reached L p) L.nonterminals (reaches-marked L p x r) a.defined f)

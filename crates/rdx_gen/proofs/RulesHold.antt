@@ -12,10 +12,10 @@ use Rattle.rdx_lang.specs.Rules.{is_one_of}
 use Rattle.rdx_gen.specs.Alike.{is_alike}
 use Rattle.rdx_gen.specs.Generation.{no_notes}
 use Rattle.rdx_gen.specs.Heights.{Known}
-use Rattle.rdx_gen.specs.NameRules.{Place, places_of, is_inside, any_inside, any_other, times, stands_again, breaks, first_broken, first_repeated, names_again, notes_of}
+use Rattle.rdx_gen.specs.NameRules.{Place, places_of, is_inside, any_inside, any_other, times, stands_again, breaks, breaks_alternative, first_broken, first_in_alternative, names_again, notes_of}
 use Rattle.rdx_gen.proofs.AlikeEqual.{alike_equal}
 use Rattle.rdx_gen.proofs.NamesKept.{Rules, Part}
-use Rattle.rdx_gen.proofs.NamesStand.{member_any, any_member, same_name, name_same, some_place, one_kind}
+use Rattle.rdx_gen.proofs.NamesStand.{member_any, any_member, same_name, name_same, some_place, HaveNoMismatch, one_kind}
 
 none_where : {A : Type 0} (f : A → Bool) (xs : List A) (x : A) → list_any f xs ≡ false → In x xs → f x ≡ false
 none_where f xs x e i = false_from_ne_true (f x) (λ h. true≢false (sym (member_any f xs x i h) ∙ e))
@@ -78,10 +78,10 @@ unbroken all [] u e i = elim i [ ]
 unbroken all (v ∷ us) u e (here d) = ap (λ (w : Place). breaks w all) d ∙ (first_none (breaks v all) v.name (first_broken all us) e).0
 unbroken all (v ∷ us) u e (there i) = unbroken all us u (first_none (breaks v all) v.name (first_broken all us) e).1 i
 
-unrepeated : (all us : List Place) (u : Place) → first_repeated all us ≡ None → In u us → stands_again u.name all ≡ false
-unrepeated all [] u e i = elim i [ ]
-unrepeated all (v ∷ us) u e (here d) = ap (λ (w : Place). stands_again w.name all) d ∙ (first_none (stands_again v.name all) v.name (first_repeated all us) e).0
-unrepeated all (v ∷ us) u e (there i) = unrepeated all us u (first_none (stands_again v.name all) v.name (first_repeated all us) e).1 i
+unbroken_there : (all us : List Place) (u : Place) → first_in_alternative all us ≡ None → In u us → breaks_alternative u all ≡ false
+unbroken_there all [] u e i = elim i [ ]
+unbroken_there all (v ∷ us) u e (here d) = ap (λ (w : Place). breaks_alternative w all) d ∙ (first_none (breaks_alternative v all) v.name (first_in_alternative all us) e).0
+unbroken_there all (v ∷ us) u e (there i) = unbroken_there all us u (first_none (breaks_alternative v all) v.name (first_in_alternative all us) e).1 i
 
 -- a place of a name that comes again is outside
 inside_or : (b a c d : Bool) → (if b then c else (a || (d && c))) ≡ false → d ≡ true → c ≡ false
@@ -108,20 +108,35 @@ kind_same us f u i false e = false_from_ne_true (is_length_name us u.name) (λ h
 -- so the rules hold of a pattern whose names fit, and break none
 pub rules_hold : (K : Known) (p : Pattern) → all_agree (uses 0 p) ≡ true → first_broken (places_of p) (places_of p) ≡ None
     → Rules (is_length_name (places_of p)) (notes_of K p) (places_of p)
-rules_hold K p f e = record { same = same; outside = outside; kind = λ u i a. kind_same us (λ v w j k. one_kind p false false v w f j k) u i u.is_length refl }
+rules_hold K p f e = record {
+  no_mismatch = no_mismatch;
+  same = same;
+  outside = outside;
+  kind = λ u i a. kind_same us (λ v w j k. one_kind p false false v w no_mismatch f j k) u i u.is_length refl;
+}
   where
     us : List Place
     us = places_of p
 
+    -- by the rules of the names that are none
+    other_rules : Place → Bool
+    other_rules u = if u.is_length then any_inside u.name us else (any_other u.name u.part us || (stands_again u.name us && any_inside u.name us))
+
+    parts : (u : Place) → In u us → (u.is_mismatch ≡ false) × (other_rules u ≡ false)
+    parts u i = or_parts u.is_mismatch (other_rules u) (unbroken us us u e i)
+
+    no_mismatch : HaveNoMismatch us
+    no_mismatch u i = (parts u i).0
+
     outside : (u : Place) → In u us → is_one_of (notes_of K p).again u.name ≡ true → (u.repeated ≡ false) × (u.left ≡ false)
     outside u i a =
-        let none = inside_or u.is_length (any_other u.name u.part us) (any_inside u.name us) (stands_again u.name us) (unbroken us us u e i) (noted_stands us us u.name a) in
+        let none = inside_or u.is_length (any_other u.name u.part us) (any_inside u.name us) (stands_again u.name us) (parts u i).1 (noted_stands us us u.name a) in
         let part = none_where (λ v. bytes_eq v.name u.name && is_inside v) us u none i in
         or_parts u.repeated u.left (second_fails (bytes_eq u.name u.name) (is_inside u) part (name_same u.name u.name refl))
 
     same : (u v : Place) → In u us → In v us → u.name ≡ v.name → is_one_of (notes_of K p).again u.name ≡ true → u.is_length ≡ false → u.part ≡ v.part
     same u v i j n a t =
-        let none = or_parts (any_other u.name u.part us) (stands_again u.name us && any_inside u.name us) (other_or u.is_length _ (any_inside u.name us) (unbroken us us u e i) t) in
+        let none = or_parts (any_other u.name u.part us) (stands_again u.name us && any_inside u.name us) (other_or u.is_length _ (any_inside u.name us) (parts u i).1 t) in
         let part = none_where (λ w. bytes_eq w.name u.name && not (is_alike u.part w.part)) us v none.0 j in
         alike_equal u.part v.part (not_false (is_alike u.part v.part) (second_fails (bytes_eq v.name u.name) (not (is_alike u.part v.part)) part (name_same v.name u.name (sym n))))
 
@@ -138,7 +153,7 @@ part_whole K p = record { within = λ u i. i; apart = apart }
         ap (is_one_of (names_again us us)) (sym u.2) ∙ is_noted us us u.0 u.1 (ap (λ (y : List ℕ). stands_again y us) u.2 ∙ twice_again x us h)
 
 -- in an alternative none does
-pub part_alone : (p : Pattern) → first_repeated (places_of p) (places_of p) ≡ None → Part no_notes (places_of p) (places_of p)
+pub part_alone : (p : Pattern) → first_in_alternative (places_of p) (places_of p) ≡ None → Part no_notes (places_of p) (places_of p)
 part_alone p e = record { within = λ u i. i; apart = apart }
   where
     us : List Place
@@ -147,11 +162,12 @@ part_alone p e = record { within = λ u i. i; apart = apart }
     apart : (x : List ℕ) → 1 < times x us → is_one_of no_notes.again x ≡ true
     apart x h =
         let u = some_place x us (omega (arith, h)) in
-        absurd (true≢false (sym (twice_again x us h) ∙ ap (λ (y : List ℕ). stands_again y us) (sym u.2) ∙ unrepeated us us u.0 e u.1))
+        absurd (true≢false (sym (twice_again x us h) ∙ ap (λ (y : List ℕ). stands_again y us) (sym u.2) ∙ (or_parts u.0.is_mismatch (stands_again u.0.name us) (unbroken_there us us u.0 e u.1)).1))
 
--- so there the rules ask nothing
-pub rules_alone : (K : List ℕ → Bool) (all : List Place) → Rules K no_notes all
-rules_alone K all = record {
+-- so there the rules ask nothing but that there is no mismatch name
+pub rules_alone : (K : List ℕ → Bool) (p : Pattern) → first_in_alternative (places_of p) (places_of p) ≡ None → Rules K no_notes (places_of p)
+rules_alone K p e = record {
+  no_mismatch = λ u i. (or_parts u.is_mismatch (stands_again u.name (places_of p)) (unbroken_there (places_of p) (places_of p) u e i)).0;
   same = λ u v i j n a t. absurd (true≢false (sym a));
   outside = λ u i a. absurd (true≢false (sym a));
   kind = λ u i a. absurd (true≢false (sym a));

@@ -4,7 +4,7 @@ use Rattle.std.proofs.lemmas.List.{get_or-map, length-map}
 use Rattle.std.proofs.lemmas.Bool.{cases_lt}
 use Rattle.rdx_lang.proofs.MemberLaws.{append-left, append-right}
 use Rattle.rdx_lang.specs.Members.{In, here}
-use Rattle.rdx_lang.specs.Patterns.{Pattern, wild, of_kind, except, prefix, hole, lit, nt, named, in_hole, hide_hole, closed, seq, Items, nil, one, many, Definition, Language}
+use Rattle.rdx_lang.specs.Patterns.{Pattern, wild, of_kind, except, prefix, hole, lit, nt, named, differ, in_hole, hide_hole, closed, seq, Items, nil, one, many, Definition, Language}
 use Rattle.rdx_lang.specs.References.{is_same}
 use Rattle.rdx_lang.specs.WellFormed.{defined}
 use Rattle.rdx_lang.specs.declared.pattern.Ref.{Ref}
@@ -37,6 +37,7 @@ mutual
   same-term K J (lit u) h = refl
   same-term K J (nt x) h = ap (λ (y : Height). y.as_term) (h x (here refl))
   same-term K J (named x q) h = same-term K J q h
+  same-term K J (differ x q) h = same-term K J q h
   same-term K J (in_hole q r) h =
       ap (λ y. greater y (term_height K r)) (same-context K J q (left_same K J (mentioned q) (mentioned r) h))
       ∙ ap (λ y. greater (context_height J q) y) (same-term K J r (right_same K J (mentioned q) (mentioned r) h))
@@ -60,6 +61,7 @@ mutual
   same-context K J (lit u) h = refl
   same-context K J (nt x) h = ap (λ (y : Height). y.as_context) (h x (here refl))
   same-context K J (named x q) h = same-context K J q h
+  same-context K J (differ x q) h = same-context K J q h
   same-context K J (in_hole q r) h =
       ap (λ y. greater y (context_height K r)) (same-context K J q (left_same K J (mentioned q) (mentioned r) h))
       ∙ ap (λ y. greater (context_height J q) y) (same-context K J r (right_same K J (mentioned q) (mentioned r) h))

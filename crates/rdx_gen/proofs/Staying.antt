@@ -3,7 +3,7 @@ use Rattle.std.proofs.Common.{◌≡◌, ℕ, zero, suc, ◌+◌, ◌-◌, Bool,
 use Rattle.std.specs.Prelude.{slice_index_or}
 use Rattle.rdx_term.specs.Tree.{Tree}
 use Rattle.rdx_lang.specs.Lookup.{alternatives_of}
-use Rattle.rdx_lang.specs.Patterns.{Pattern, wild, of_kind, except, prefix, hole, lit, nt, named, in_hole, hide_hole, closed, seq, Items, nil, one, many, Language}
+use Rattle.rdx_lang.specs.Patterns.{Pattern, wild, of_kind, except, prefix, hole, lit, nt, named, differ, in_hole, hide_hole, closed, seq, Items, nil, one, many, Language}
 use Rattle.rdx_lang.specs.Rules.{is_one_of}
 use Rattle.rdx_lang.specs.declared.pattern.Ref.{Ref}
 use Rattle.rdx_gen.specs.Generation.{Setting, Inner, Notes, no_notes, term, items, context, around, turns, length_of, new_length, is_hollow, for_name, had_or_made, choices, by_alternative, inner_at}
@@ -65,6 +65,7 @@ module _ (S : Setting) (N M : Inner) (h : InnerStays N M) (o : Notes) (size : �
     terms-stay (lit u) s = refl
     terms-stay (nt x) s = h.terms x size s
     terms-stay (named x q) s = stays-name (is_one_of o.again x) x (term S N o size q s) (term S M o size q s) s (terms-stay q s)
+    terms-stay (differ x q) s = terms-stay q s
     terms-stay (in_hole q r) s =
         stays-after (context S N o size q s) (context S M o size q s) _ _ (contexts-stay q s)
         (λ C y. stays-after (term S N o size r y) (term S M o size r y) _ _ (terms-stay r y) (λ t z. stays-same (filled C t z)))
@@ -91,6 +92,7 @@ module _ (S : Setting) (N M : Inner) (h : InnerStays N M) (o : Notes) (size : �
     contexts-stay (lit u) s = tt
     contexts-stay (nt x) s = h.contexts x size s
     contexts-stay (named x q) s = contexts-stay q s
+    contexts-stay (differ x q) s = contexts-stay q s
     contexts-stay (in_hole q r) s =
         stays-after (context S N o size q s) (context S M o size q s) _ _ (contexts-stay q s)
         (λ C y. stays-after (context S N o size r y) (context S M o size r y) _ _ (contexts-stay r y) (λ D z. stays-same (filled C D z)))

@@ -13,18 +13,22 @@ use Rattle.rdx_term.specs.Tree.{Tree, Trees, cons, trees, list}
 use Rattle.rdx_term.specs.Tree.{hole as the_hole}
 use Rattle.rdx_term.proofs.Associates.{fill_of-fill_of}
 use Rattle.rdx_term.proofs.Contexts.{is_context-fill_of}
-use Rattle.rdx_lang.specs.Bindings.{Value, Binding, Pair, no_names, one_name, bound_names}
+use Rattle.rdx_lang.specs.Bindings.{Value, Binding, Pair, Mismatch, no_names, one_name, bound_names}
 use Rattle.rdx_lang.specs.Bindings.{one as one_term, len}
-use Rattle.rdx_lang.specs.Collections.{IsRepetition, without_length, with_length}
+use Rattle.rdx_lang.specs.Collections.{AreSetsOf, sets_of_none, sets_of_more, IsCollection, IsRepetition, without_length, with_length}
+use Rattle.rdx_lang.specs.Join.{JoinsSets}
 use Rattle.rdx_lang.specs.Literals.{is_mentioned}
 use Rattle.rdx_lang.specs.Members.{In, here, there}
 use Rattle.rdx_lang.specs.Names.{names, item_names}
-use Rattle.rdx_lang.specs.Patterns.{Pattern, wild, of_kind, except, prefix, hole, lit, nt, named, in_hole, hide_hole, closed, seq, Items, nil, one, many, Language}
+use Rattle.rdx_lang.specs.Patterns.{Pattern, wild, of_kind, except, prefix, hole, lit, nt, named, differ, in_hole, hide_hole, closed, seq, Items, nil, one, many, Language}
 use Rattle.rdx_lang.specs.Rules.{Match, MatchItems, MatchRun, match_wild, match_kind, match_hole, match_lit, match_named, match_hide_hole, match_in_hole, match_except, match_prefix, is_one_of, match_seq, match_none, match_one, match_many, run_end, run_more, Split, SplitItems, SplitRun, split_hole, split_named, split_in_hole, split_seq, split_here, split_behind, split_many, run_here, run_there, run_behind}
 use Rattle.rdx_lang.specs.declared.pattern.Ref.{Ref}
-use Rattle.rdx_lang.proofs.CollectionLaws.{BindNames, some_collection, collection-ascends, repetition-ascends, repetition-names}
+use Rattle.rdx_lang.proofs.CollectionLaws.{BindNames, one_sets_of, some_collection, collection-ascends, repetition-ascends, repetition-names}
+use Rattle.rdx_lang.proofs.JoinLaws.{one_name-ascends}
 use Rattle.rdx_lang.proofs.MemberLaws.{in-append}
 use Rattle.rdx_lang.proofs.NameLaws.{names-ascend, match-ascends, items-ascends, match-names, items-names, split-ascends, split-names, split_items-ascends, split_items-names}
+use Rattle.rdx_lang.proofs.SeenListings.{ArePlain}
+use Rattle.rdx_lang.proofs.SetJoins.{no_sets_left}
 use Rattle.rdx_gen.specs.Generation.{Setting, Inner, Notes, term, items, turns, length_of, context, around, choices, is_hollow, new_length, with_term, for_name, had_or_made}
 use Rattle.rdx_gen.specs.Heights.{term_height, place_heights}
 use Rattle.rdx_gen.specs.Matching.{IsContextOf}
@@ -34,8 +38,8 @@ use Rattle.rdx_gen.specs.Variables.{first_five, behind_prefix, in_sequence}
 use Rattle.rdx_gen.specs.Words.{pick}
 use Rattle.rdx_gen.proofs.AtomsFit.{Steady, steady, atoms, of_kinds, symbols, free_chosen, begins, free_not}
 use Rattle.rdx_gen.proofs.FiveSymbols.{five}
-use Rattle.rdx_gen.proofs.NamesKept.{IsStated, Stated, Later, later_steady, later_wider, later_both, later_parts, stated_on, alone_stated, join_stated, Rules, Part, part_left, part_right, common, Alone, alone_left, alone_right, alone_repeated, alone_before, Kept, kept_on, kept_steady, later_named, stated_named, kept_named, Measured, measured, new_steady}
-use Rattle.rdx_gen.proofs.NamesStand.{name_counts, item_name_counts, repeated_counts, counted_left, counted_right, some_place, not_inside_itself}
+use Rattle.rdx_gen.proofs.NamesKept.{IsStated, Stated, nothing_stated, Later, later_steady, later_wider, later_both, later_parts, stated_on, alone_stated, join_stated, Rules, Part, part_left, part_right, common, Alone, alone_left, alone_right, alone_repeated, alone_before, Kept, kept_on, kept_steady, later_named, stated_named, kept_named, Measured, measured, new_steady}
+use Rattle.rdx_gen.proofs.NamesStand.{name_place, mismatch_place, name_counts, item_name_counts, repeated_counts, counted_left, counted_right, some_place, not_inside_itself}
 use Rattle.rdx_gen.proofs.SequenceNames.{no_prefix, a_name}
 use Rattle.rdx_gen.proofs.WhatCame.{came, moved, limited_moved, filled_moved}
 
@@ -52,6 +56,7 @@ abbrev mutual
   IsMakeable R (lit u) = Unit {0}
   IsMakeable R (nt x) = R x
   IsMakeable R (named x q) = IsMakeable R q
+  IsMakeable R (differ x q) = IsMakeable R q
   IsMakeable R (in_hole q r) = IsMakeable R q × IsMakeable R r
   IsMakeable R (hide_hole q) = IsMakeable R q
   IsMakeable R (closed q) = Unit {0}
@@ -68,11 +73,12 @@ pub record Unchanged (s z : State) : Type 0 where
   pub lengths : (x : List ℕ) (k : ℕ) → found_for x s.lengths ≡ Some k → found_for x z.lengths ≡ Some k
 
 -- The symbols are none of the language's literals; what nonterminals give of which R holds matches them, and contexts split what they are filled
--- with
+-- with, and bind no mismatch names
 pub record GivesFitting (L : Language) (us : List (List ℕ)) (N : Inner) (R : Ref → Type 0) : Type 0 where
   pub symbols : (s : State) → is_mentioned L (slice_index_or us (pick 5 s.words).0 (codes "a")) ≡ false
   pub terms : (x : Ref) → R x → (size : ℕ) (s z : State) (t : Tree) → N.as_term x size s ≡ made t z → Match L (nt x) t no_names × Unchanged s z
-  pub contexts : (x : Ref) → R x → (size : ℕ) (s z : State) (C : Tree) → N.as_context x size s ≡ made C z → IsContextOf L (nt x) C × Unchanged s z
+  pub contexts : (x : Ref) → R x → (size : ℕ) (s z : State) (C : Tree) → N.as_context x size s ≡ made C z
+      → (c : IsContextOf L (nt x) C) × (c.binding.differs ≡ []) × Unchanged s z
 
 -- one of some numbers
 pub one_steady : (ks : List ℕ) (k : ℕ) (s z : State) → one_of ks s ≡ made k z → Steady s z
@@ -109,10 +115,6 @@ marked_or : (b : Bool) (k : ℕ) (ts : Trees) → list (if b then Some k else ma
 marked_or true k ts = refl
 marked_or false k ts = refl
 
--- the place of a name
-abbrev name_place : List ℕ → Pattern → Bool → Bool → Place
-name_place x q r l = record { name = x; part = q; is_length = false; repeated = r; left = l }
-
 -- ---- bindings
 
 -- all bind these names, where the first does and the others do
@@ -123,11 +125,33 @@ first_binds xs c cs h f b (there i) = f b i
 all_bind : (xs : List (List ℕ)) (cs ds : List Binding) → BindNames xs cs → BindNames xs ds → BindNames xs (cs ++ ds)
 all_bind xs cs ds f g b i = elim (in-append cs ds b i) [ inl j ↦ f b j | inr j ↦ g b j ]
 
+-- all have no mismatch names, where the first have none and the others have none
+all_plain : (cs ds : List Binding) → ArePlain cs → ArePlain ds → ArePlain (cs ++ ds)
+all_plain [] ds h k = k
+all_plain (c ∷ cs) ds h k = (h.0, all_plain cs ds h.1 k)
+
+-- so they have no sets together
+no_sets_of : (cs : List Binding) → ArePlain cs → AreSetsOf cs []
+no_sets_of [] h = sets_of_none
+no_sets_of (c ∷ cs) h = sets_of_more (no_sets_of cs h.1) (subst (λ (ms : List Mismatch). JoinsSets ms [] []) (sym h.0) (no_sets_left [] (tt, tt)))
+
+-- and a collection of them has no mismatch names
+record PlainCollection (xs : List (List ℕ)) (cs : List Binding) : Type 0 where
+  binding : Binding
+  is : IsCollection xs cs binding
+  plain : binding.differs ≡ []
+
+plain_collection : (xs : List (List ℕ)) (cs : List Binding) → BindNames xs cs → ArePlain cs → PlainCollection xs cs
+plain_collection xs cs b h =
+    let c = some_collection xs cs b [] (no_sets_of cs h) in record { binding = c.0; is = c.1; plain = one_sets_of c.1.differs (no_sets_of cs h) }
+
 -- a name alone
 one_stated : (K : List ℕ → Bool) (o : Notes) (s : State) (x : List ℕ) (v : Value) → (is_one_of o.again x ≡ true → IsStated K s x v) → Stated K o s (one_name x v)
-one_stated K o s x v f y w (here e) a =
-    subst (λ (p : Pair). IsStated K s p.0 p.1) (sym e) (f (ap (λ (p : Pair). is_one_of o.again p.0) (sym e) ∙ a))
-one_stated K o s x v f y w (there i) a = elim i [ ]
+one_stated K o s x v f = record { plain = refl; names = names }
+  where
+    names : (y : List ℕ) (w : Value) → In (y, w) (one_name x v).pairs → is_one_of o.again y ≡ true → IsStated K s y w
+    names y w (here e) a = subst (λ (p : Pair). IsStated K s p.0 p.1) (sym e) (f (ap (λ (p : Pair). is_one_of o.again p.0) (sym e) ∙ a))
+    names y w (there i) a = elim i [ ]
 
 one_only : (x y : List ℕ) (v : Value) → In y (bound_names (one_name x v)) → y ≡ x
 one_only x y v (here e) = e
@@ -161,6 +185,7 @@ module _ (L : Language) (K : List ℕ → Bool) (o : Notes) (all : List Place) (
     bindings : List Binding
     count : length bindings ≡ n
     binds : BindNames (names p) bindings
+    plain : ArePlain bindings
     fit : (ps : Items) (more : List Tree) (d : Binding) → MatchItems L ps (trees more) d → MatchRun L p ps (trees (runs ++ more)) bindings d
     ahead : (ps : Items) (more : List Tree) (j : ℕ) (D u : Tree) (cs : List Binding) (d : Binding) → SplitRun L p ps (fill_at (trees more) j u) j D u cs d
         → SplitRun L p ps (fill_at (trees (runs ++ more)) (further runs j) u) (further runs j) D u (bindings ++ cs) d
@@ -170,6 +195,7 @@ module _ (L : Language) (K : List ℕ → Bool) (o : Notes) (all : List Place) (
   -- a context came of p
   pub record MadeContext (us : List Place) (p : Pattern) (C : Tree) (s z : State) : Type 0 where
     pub fit : IsContextOf L p C
+    pub plain : fit.binding.differs ≡ []
     pub kept : Kept L K o all z
     pub later : Later o us s z
 
@@ -183,13 +209,14 @@ module _ (L : Language) (K : List ℕ → Bool) (o : Notes) (all : List Place) (
     put : (u : Tree) → put_at (fill_at (trees more) spot u) spot inner ≡ trees more
     binding : Binding
     fit : (u : Tree) → SplitItems L ps (fill_at (trees more) spot u) spot inner u binding
+    plain : binding.differs ≡ []
     kept : Kept L K o all z
     later : Later o us s z
 
   -- ---- atoms and names
 
   plain : (us : List Place) (p : Pattern) (t : Tree) (s z : State) → Kept L K o all s → Match L p t no_names → Steady s z → Made us p t s z
-  plain us p t s z k m h = record { binding = no_names; fit = m; stated = λ x v i a. elim i [ ]; kept = kept_steady L K o all s z h k; later = later_steady o us s z h }
+  plain us p t s z k m h = record { binding = no_names; fit = m; stated = nothing_stated K o z; kept = kept_steady L K o all s z h k; later = later_steady o us s z h }
 
   later_unchanged : (us : List Place) (s z : State) → Unchanged s z → Later o us s z
   later_unchanged us s z h = record { terms = λ x t e. h.terms x ∙ e; lengths = h.lengths; changed = λ x. inl (h.terms x) }
@@ -211,7 +238,7 @@ module _ (L : Language) (K : List ℕ → Bool) (o : Notes) (all : List Place) (
     with_name : (t : Tree) (s z : State) (m : Made (name_place x q r l ∷ places r l q) q t s z) → (is_one_of o.again x ≡ true → IsStated K z x (one_term t))
         → Made (name_place x q r l ∷ places r l q) (named x q) t s z
     with_name t s z m f =
-        let j = join_stated K o z m.binding (one_name x (one_term t)) (match-ascends m.fit) (tt, tt) (both_again m.binding (one_term t) (match-names m.fit)) m.stated
+        let j = join_stated K o z m.binding (one_name x (one_term t)) (match-ascends m.fit) (one_name-ascends x (one_term t)) (both_again m.binding (one_term t) (match-names m.fit)) m.stated
         (one_stated K o z x (one_term t) f) in
         record { binding = j.binding; fit = match_named {b = j.binding} m.fit j.is_join; stated = j.stated; kept = m.kept; later = m.later }
 
@@ -277,6 +304,7 @@ module _ (L : Language) (K : List ℕ → Bool) (o : Notes) (all : List Place) (
         bindings = [];
         count = refl;
         binds = λ b i. elim i [ ];
+        plain = tt;
         fit = λ ps more d h. run_end h;
         ahead = λ ps more j D u cs d h. h;
         kept = k;
@@ -292,6 +320,7 @@ module _ (L : Language) (K : List ℕ → Bool) (o : Notes) (all : List Place) (
         bindings = m.binding ∷ r.bindings;
         count = ap suc r.count;
         binds = first_binds (names p) m.binding r.bindings (match-names m.fit) r.binds;
+        plain = (m.stated.plain, r.plain);
         fit = λ ps more d h. run_more m.fit (r.fit ps more d h);
         ahead = λ ps more j D u cs d h. run_there m.fit (r.ahead ps more j D u cs d h);
         kept = r.kept;
@@ -304,26 +333,27 @@ module _ (L : Language) (K : List ℕ → Bool) (o : Notes) (all : List Place) (
     is : IsRepetition (names p) cs x binding
     stated : Stated K o z binding
 
-  repeated : (r l : Bool) (p : Pattern) (x : Option (List ℕ)) (cs : List Binding) (z : State) → BindNames (names p) cs
+  repeated : (r l : Bool) (p : Pattern) (x : Option (List ℕ)) (cs : List Binding) (z : State) → BindNames (names p) cs → ArePlain cs
       → Part o all (places true l p ++ length_place x p r l) → Alone o (places true l p)
       → ((n : List ℕ) → x ≡ Some n → is_one_of o.again n ≡ true → found_for n z.lengths ≡ Some (length cs)) → Repeated p x cs z
-  repeated r l p None cs z b P A f =
-      let c = some_collection (names p) cs b in
+  repeated r l p None cs z b h P A f =
+      let c = plain_collection (names p) cs b h in
       record {
-        binding = c.0;
-        is = without_length c.1;
-        stated = alone_stated K o z c.0 (λ y i. A y (name_counts true l p y (subst (λ (xs : List (List ℕ)). In y xs) c.1.names i)));
+        binding = c.binding;
+        is = without_length c.is;
+        stated = alone_stated K o z c.binding c.plain (λ y i. A y (name_counts true l p y (subst (λ (xs : List (List ℕ)). In y xs) c.is.names i)));
       }
-  repeated r l p (Some n) cs z b P A f =
-      let c = some_collection (names p) cs b in
-      let u : Place = record { name = n; part = p; is_length = true; repeated = r; left = l } in
+  repeated r l p (Some n) cs z b h P A f =
+      let c = plain_collection (names p) cs b h in
+      let u : Place = record { name = n; part = p; is_length = true; is_mismatch = false; repeated = r; left = l } in
       let here_in : In u all = (part_right o all (places true l p) (u ∷ []) P).within u (here refl) in
-      let j = join_stated K o z c.0 (one_name n (len (length cs))) (collection-ascends (names p) cs c.0 (names-ascend p) c.1) (tt, tt)
-      (λ y i k. common o all (places true l p) (u ∷ []) P y (name_counts true l p y (subst (λ (xs : List (List ℕ)). In y xs) c.1.names i))
+      let j = join_stated K o z c.binding (one_name n (len (length cs))) (collection-ascends (names p) cs c.binding (names-ascend p) c.is)
+      (one_name-ascends n (len (length cs)))
+      (λ y i k. common o all (places true l p) (u ∷ []) P y (name_counts true l p y (subst (λ (xs : List (List ℕ)). In y xs) c.is.names i))
       (name_counts r l (named n wild) y (here (one_only n y (len (length cs)) k))))
-      (alone_stated K o z c.0 (λ y i. A y (name_counts true l p y (subst (λ (xs : List (List ℕ)). In y xs) c.1.names i))))
+      (alone_stated K o z c.binding c.plain (λ y i. A y (name_counts true l p y (subst (λ (xs : List (List ℕ)). In y xs) c.is.names i))))
       (one_stated K o z n (len (length cs)) (λ a. (rules.kind u here_in a, f n refl a))) in
-      record { binding = j.binding; is = with_length {b = j.binding} c.1 j.is_join; stated = j.stated }
+      record { binding = j.binding; is = with_length {b = j.binding} c.is j.is_join; stated = j.stated }
 
   -- ---- contexts in lists
 
@@ -331,22 +361,24 @@ module _ (L : Language) (K : List ℕ → Bool) (o : Notes) (all : List Place) (
   around_whole : (us : List Place) (ps : Items) (C : Tree) (s z : State) → Around us ps [] C s z → MadeContext us (seq ps) C s z
   around_whole us ps C s z r =
       let q : list (Some r.spot) (trees r.more) ≡ C = ap (λ (k : ℕ). list (Some k) (trees r.more)) (omega arith) ∙ r.same in
-      record {
+      subst (λ (D : Tree). MadeContext us (seq ps) D s z) q (record {
         kept = r.kept;
         later = r.later;
-        fit = subst (λ (D : Tree). IsContextOf L (seq ps) D) q (record {
+        plain = r.plain;
+        fit = record {
           context = r.there;
           binding = r.binding;
           splits = λ u. subst (λ (t : Tree). Split L (seq ps) t (list (Some r.spot) (trees r.more)) u r.binding)
               (marked_or (is_context_at (fill_at (trees r.more) r.spot u) r.spot) r.spot (fill_at (trees r.more) r.spot u))
               (split_seq (r.fit u) (ap (λ (ts : Trees). list (Some r.spot) ts) (sym (r.put u))));
-        });
-      }
+        };
+      })
 
   -- the names of a context come once
-  context_stated : (r l : Bool) (p : Pattern) (C : Tree) (z : State) (c : IsContextOf L p C) → Alone o (places r l p) → Stated K o z c.binding
-  context_stated r l p C z c A =
-      alone_stated K o z c.binding (λ y i. A y (name_counts r l p y (subst (λ (xs : List (List ℕ)). In y xs) (split-names (c.splits the_hole)) i)))
+  context_stated : (r l : Bool) (p : Pattern) (C : Tree) (z : State) (c : IsContextOf L p C) → c.binding.differs ≡ [] → Alone o (places r l p)
+      → Stated K o z c.binding
+  context_stated r l p C z c e A =
+      alone_stated K o z c.binding e (λ y i. A y (name_counts r l p y (subst (λ (xs : List (List ℕ)). In y xs) (split-names (c.splits the_hole)) i)))
 
   module _ (r l : Bool) (p : Pattern) (ps : Items) (x : Option (List ℕ)) (P : Part o all ((places true l p ++ length_place x p r l) ++ item_places r l ps)) where
     first_part : Part o all (places true l p ++ length_place x p r l)
@@ -374,7 +406,7 @@ module _ (L : Language) (K : List ℕ → Bool) (o : Notes) (all : List Place) (
         → Turned (places true l p) p n found before y v → Found (item_places r l ps) ps before ts v z
         → Found ((places true l p ++ length_place x p r l) ++ item_places r l ps) (many p x ps) found ts s z
     found_behind found before ts n s y v z m a d =
-        let c = repeated r l p x a.bindings z a.binds first_part turns_alone
+        let c = repeated r l p x a.bindings z a.binds a.plain first_part turns_alone
         (λ w e g. d.later.lengths w (length a.bindings) (a.later.lengths w (length a.bindings) (m.value w e g ∙ ap (λ (k : ℕ). Some k) (sym a.count)))) in
         let j = join_stated K o z c.binding d.binding (repetition-ascends (names-ascend p) c.is) (items-ascends d.fit)
         (repeated_again a.bindings c.binding d.binding c.is (items-names d.fit)) c.stated d.stated in
@@ -400,7 +432,7 @@ module _ (L : Language) (K : List ℕ → Bool) (o : Notes) (all : List Place) (
         let names_alone : Alone o (places true l p ++ length_place x p r l) = alone_left o (places true l p ++ length_place x p r l) (item_places r l ps) A in
         let e = repeated r l p x cs z
         (all_bind (names p) a.bindings (c.fit.binding ∷ d.bindings) a.binds (first_binds (names p) c.fit.binding d.bindings (split-names (c.fit.splits the_hole)) d.binds))
-        first_part turns_alone
+        (all_plain a.bindings (c.fit.binding ∷ d.bindings) a.plain (c.plain, d.plain)) first_part turns_alone
         (λ w g b. absurd (true≢false (sym b ∙ alone_right o (places true l p) (length_place x p r l) names_alone w
         (subst (λ (i : Option (List ℕ)). 0 < times w (length_place i p r l)) (sym g) (name_counts r l (named w wild) w (here refl)))))) in
         let j = join_stated K o z e.binding f.binding (repetition-ascends (names-ascend p) e.is) (items-ascends f.fit)
@@ -421,6 +453,7 @@ module _ (L : Language) (K : List ℕ → Bool) (o : Notes) (all : List Place) (
           put = λ u. put_further a.runs (D ∷ rest) 0 D u refl;
           binding = j.binding;
           fit = λ u. split_many {b = j.binding} (a.ahead ps (D ∷ rest) 0 D u (c.fit.binding ∷ d.bindings) f.binding (run_here (c.fit.splits u) (d.fit ps f.more f.binding f.fit))) e.is j.is_join;
+          plain = j.stated.plain;
           kept = f.kept;
           later = later_parts o (places true l p ++ length_place x p r l) (item_places r l ps) s s5 z (of_turns s s5 to5) f.later;
         }
@@ -430,10 +463,11 @@ module _ (L : Language) (K : List ℕ → Bool) (o : Notes) (all : List Place) (
         → Turned (places true l p) p n found before y v → Alone o (item_places r l ps) → Around (item_places r l ps) ps before C v z
         → Around ((places true l p ++ length_place x p r l) ++ item_places r l ps) (many p x ps) found C s z
     around_behind found before C n s y v z m a A d =
-        let e = repeated r l p x (a.bindings ++ []) z (all_bind (names p) a.bindings [] a.binds (λ b i. elim i [ ])) first_part turns_alone
+        let e = repeated r l p x (a.bindings ++ []) z (all_bind (names p) a.bindings [] a.binds (λ b i. elim i [ ])) (all_plain a.bindings [] a.plain tt)
+        first_part turns_alone
         (λ w e g. d.later.lengths w (length (a.bindings ++ [])) (a.later.lengths w (length (a.bindings ++ []))
         (m.value w e g ∙ ap (λ (k : ℕ). Some k) (sym (ap length (append-nil a.bindings) ∙ a.count))))) in
-        let f = alone_stated K o z d.binding (λ w i. A w (item_name_counts r l ps w (subst (λ (xs : List (List ℕ)). In w xs) (split_items-names (d.fit the_hole)) i))) in
+        let f = alone_stated K o z d.binding d.plain (λ w i. A w (item_name_counts r l ps w (subst (λ (xs : List (List ℕ)). In w xs) (split_items-names (d.fit the_hole)) i))) in
         let j = join_stated K o z e.binding d.binding (repetition-ascends (names-ascend p) e.is) (split_items-ascends (d.fit the_hole))
         (repeated_again (a.bindings ++ []) e.binding d.binding e.is (split_items-names (d.fit the_hole))) e.stated f in
         record {
@@ -446,6 +480,7 @@ module _ (L : Language) (K : List ℕ → Bool) (o : Notes) (all : List Place) (
           put = λ u. put_further a.runs d.more d.spot d.inner u (d.put u);
           binding = j.binding;
           fit = λ u. split_many {b = j.binding} (a.ahead ps d.more d.spot d.inner u [] d.binding (run_behind (d.fit u))) e.is j.is_join;
+          plain = j.stated.plain;
           kept = d.kept;
           later = later_parts o (places true l p ++ length_place x p r l) (item_places r l ps) s v z
               (later_both o (places true l p ++ length_place x p r l) s y v (of_length s y m.later) (of_turns y v a.later)) d.later;
@@ -466,7 +501,7 @@ module _ (L : Language) (K : List ℕ → Bool) (o : Notes) (all : List Place) (
     around_here found ts D s y z c d =
         let j = join_stated K o z c.fit.binding d.binding (split-ascends (c.fit.splits the_hole)) (items-ascends d.fit)
         (items_again c.fit.binding d.binding (split-names (c.fit.splits the_hole)) (items-names d.fit))
-        (context_stated r l p D z c.fit (alone_left o (places r l p) (item_places r l ps) A)) d.stated in
+        (context_stated r l p D z c.fit c.plain (alone_left o (places r l p) (item_places r l ps) A)) d.stated in
         record {
           spot = 0;
           inner = D;
@@ -477,6 +512,7 @@ module _ (L : Language) (K : List ℕ → Bool) (o : Notes) (all : List Place) (
           put = λ u. refl;
           binding = j.binding;
           fit = λ u. split_here {b = j.binding} (c.fit.splits u) d.fit j.is_join;
+          plain = j.stated.plain;
           kept = d.kept;
           later = later_parts o (places r l p) (item_places r l ps) s y z c.later d.later;
         }
@@ -485,7 +521,7 @@ module _ (L : Language) (K : List ℕ → Bool) (o : Notes) (all : List Place) (
     around_after : (found : List Tree) (t C : Tree) (s y z : State) → Made (places r l p) p t s y → Around (item_places r l ps) ps (found ++ t ∷ []) C y z
         → Around (places r l p ++ item_places r l ps) (one p ps) found C s z
     around_after found t C s y z m d =
-        let f = alone_stated K o z d.binding (λ w i. alone_right o (places r l p) (item_places r l ps) A w
+        let f = alone_stated K o z d.binding d.plain (λ w i. alone_right o (places r l p) (item_places r l ps) A w
         (item_name_counts r l ps w (subst (λ (xs : List (List ℕ)). In w xs) (split_items-names (d.fit the_hole)) i))) in
         let j = join_stated K o z m.binding d.binding (match-ascends m.fit) (split_items-ascends (d.fit the_hole))
         (items_again m.binding d.binding (match-names m.fit) (split_items-names (d.fit the_hole)))
@@ -500,6 +536,7 @@ module _ (L : Language) (K : List ℕ → Bool) (o : Notes) (all : List Place) (
           put = λ u. ap (λ w. cons t w) (d.put u);
           binding = j.binding;
           fit = λ u. split_behind {b = j.binding} m.fit (d.fit u) j.is_join;
+          plain = j.stated.plain;
           kept = d.kept;
           later = later_parts o (places r l p) (item_places r l ps) s y z m.later d.later;
         }
@@ -524,10 +561,11 @@ module _ (L : Language) (K : List ℕ → Bool) (o : Notes) (all : List Place) (
       terms_fit (lit u) r l s z t h P k e = moved (λ v y. Made [] (lit u) v s y) u t s z e (plain [] (lit u) u s s k (match_lit refl) (steady s))
       terms_fit (nt x) r l s z t h P k e =
           let m = F.terms x h size s z t e in
-          record { binding = no_names; fit = m.0; stated = λ y v i a. elim i [ ]; kept = kept_unchanged s z m.1 k; later = later_unchanged [] s z m.1 }
+          record { binding = no_names; fit = m.0; stated = nothing_stated K o z; kept = kept_unchanged s z m.1 k; later = later_unchanged [] s z m.1 }
       terms_fit (named x q) r l s z t h P k e =
           by_again x q r l P (is_one_of o.again x) (λ y. term S N o size q y) s z t refl k
           (λ y u d. terms_fit q r l s y u h (part_right o all (name_place x q r l ∷ []) (places r l q) P) k d) e
+      terms_fit (differ x q) r l s z t h P k e = absurd (true≢false (rules.no_mismatch (mismatch_place x q r l) (P.within (mismatch_place x q r l) (here refl))))
       terms_fit (in_hole p q) r l s z t h P k e =
           let w = came (context S N o size p s) (λ C y. after (term S N o size q y) (λ u y'. filled C u y')) t z e in
           let v = came (term S N o size q w.state) (λ u y'. filled w.value u y') t z w.second in
@@ -539,7 +577,7 @@ module _ (L : Language) (K : List ℕ → Bool) (o : Notes) (all : List Place) (
           (λ y i i'. common o all (places r true p) (places r l q) P y
           (name_counts r true p y (subst (λ (xs : List (List ℕ)). In y xs) (split-names (c.fit.splits v.value)) i))
           (name_counts r l q y (subst (λ (xs : List (List ℕ)). In y xs) (match-names m.fit) i')))
-          (context_stated r true p w.value v.state c.fit A) m.stated in
+          (context_stated r true p w.value v.state c.fit c.plain A) m.stated in
           filled_moved (λ u y. Made (places r true p ++ places r l q) (in_hole p q) u s y) w.value v.value t v.state z v.second
           (record {
             binding = j.binding;
@@ -572,7 +610,7 @@ module _ (L : Language) (K : List ℕ → Bool) (o : Notes) (all : List Place) (
             same = sym (append-nil found);
             binding = no_names;
             fit = match_none;
-            stated = λ y v i a. elim i [ ];
+            stated = nothing_stated K o s;
             kept = k;
             later = later_steady o [] s s (steady s);
           })
@@ -611,21 +649,23 @@ module _ (L : Language) (K : List ℕ → Bool) (o : Notes) (all : List Place) (
       contexts_fit (except rs) r l s z C h P A k e = absurd cc
       contexts_fit (prefix a) r l s z C h P A k e = absurd cc
       contexts_fit hole r l s z C h P A k e = moved (λ D y. MadeContext [] hole D s y) the_hole C s z e
-          (record { fit = record { context = refl; binding = no_names; splits = λ u. split_hole }; kept = k; later = later_steady o [] s s (steady s) })
+          (record { fit = record { context = refl; binding = no_names; splits = λ u. split_hole }; plain = refl; kept = k; later = later_steady o [] s s (steady s) })
       contexts_fit (lit u) r l s z C h P A k e = absurd cc
       contexts_fit (nt x) r l s z C h P A k e =
-          let m = F.contexts x h size s z C e in record { fit = m.0; kept = kept_unchanged s z m.1 k; later = later_unchanged [] s z m.1 }
+          let m = F.contexts x h size s z C e in record { fit = m.0; plain = m.1; kept = kept_unchanged s z m.2 k; later = later_unchanged [] s z m.2 }
       contexts_fit (named x q) r l s z C h P A k e =
           let c = contexts_fit q r l s z C h (part_right o all (name_place x q r l ∷ []) (places r l q) P) (alone_right o (name_place x q r l ∷ []) (places r l q) A) k e in
-          let j = join_stated K o z c.fit.binding (one_name x (one_term C)) (split-ascends (c.fit.splits the_hole)) (tt, tt)
+          let j = join_stated K o z c.fit.binding (one_name x (one_term C)) (split-ascends (c.fit.splits the_hole)) (one_name-ascends x (one_term C))
           (both_again x q r l P c.fit.binding (one_term C) (split-names (c.fit.splits the_hole)))
-          (context_stated r l q C z c.fit (alone_right o (name_place x q r l ∷ []) (places r l q) A))
+          (context_stated r l q C z c.fit c.plain (alone_right o (name_place x q r l ∷ []) (places r l q) A))
           (one_stated K o z x (one_term C) (λ b. absurd (true≢false (sym b ∙ A x (counted_left x (name_place x q r l ∷ []) (places r l q) (name_counts r l (named x wild) x (here refl))))))) in
           record {
             fit = record { context = c.fit.context; binding = j.binding; splits = λ u. split_named {b = j.binding} (c.fit.splits u) j.is_join };
+            plain = j.stated.plain;
             kept = c.kept;
             later = later_wider o (places r l q) (name_place x q r l ∷ places r l q) s z (λ y i. counted_right y (name_place x q r l ∷ []) (places r l q) i) c.later;
           }
+      contexts_fit (differ x q) r l s z C h P A k e = absurd (true≢false (rules.no_mismatch (mismatch_place x q r l) (P.within (mismatch_place x q r l) (here refl))))
       contexts_fit (in_hole p q) r l s z C h P A k e =
           let w = came (context S N o size p s) (λ D y. after (context S N o size q y) (λ E y'. filled D E y')) C z e in
           let v = came (context S N o size q w.state) (λ E y'. filled w.value E y') C z w.second in
@@ -637,11 +677,12 @@ module _ (L : Language) (K : List ℕ → Bool) (o : Notes) (all : List Place) (
           (λ y i i'. common o all (places r true p) (places r l q) P y
           (name_counts r true p y (subst (λ (xs : List (List ℕ)). In y xs) (split-names (c.fit.splits the_hole)) i))
           (name_counts r l q y (subst (λ (xs : List (List ℕ)). In y xs) (split-names (d.fit.splits the_hole)) i')))
-          (context_stated r true p w.value v.state c.fit AL) (context_stated r l q v.value v.state d.fit AR) in
+          (context_stated r true p w.value v.state c.fit c.plain AL) (context_stated r l q v.value v.state d.fit d.plain AR) in
           filled_moved (λ D y. MadeContext (places r true p ++ places r l q) (in_hole p q) D s y) w.value v.value C v.state z v.second
           (record {
             kept = d.kept;
             later = later_parts o (places r true p) (places r l q) s w.state v.state c.later d.later;
+            plain = j.stated.plain;
             fit = record {
               context = is_context-fill_of w.value v.value c.fit.context d.fit.context;
               binding = j.binding;
@@ -656,7 +697,7 @@ module _ (L : Language) (K : List ℕ → Bool) (o : Notes) (all : List Place) (
           let w = came (one_of (choices size (place_heights S.known (Some 0) ps)) s) (λ i y. around S N o size ps i [] y) C z e in
           let g = one_steady (choices size (place_heights S.known (Some 0) ps)) w.value s w.state w.first in
           let c = around_whole (item_places r l ps) ps C w.state z (around_fit ps w.value r l [] w.state z C h P A (kept_steady L K o all s w.state g k) w.second) in
-          record { fit = c.fit; kept = c.kept; later = later_both o (item_places r l ps) s w.state z (later_steady o (item_places r l ps) s w.state g) c.later }
+          record { fit = c.fit; plain = c.plain; kept = c.kept; later = later_both o (item_places r l ps) s w.state z (later_steady o (item_places r l ps) s w.state g) c.later }
 
       around_fit : (ps : Items) (i : ℕ) (r l : Bool) (found : List Tree) (s z : State) (C : Tree) → AreMakeable R ps → Part o all (item_places r l ps)
           → Alone o (item_places r l ps) → Kept L K o all s → around S N o size ps i found s ≡ made C z → Around (item_places r l ps) ps found C s z

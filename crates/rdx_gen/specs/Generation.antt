@@ -3,7 +3,7 @@ use Rattle.std.specs.Prelude.{ℕ, zero, suc, ◌+◌, ◌-◌, min, ◌==◌, �
 use Rattle.rdx_term.specs.Tree.{Tree, integer, truth, text, symbol}
 use Rattle.rdx_term.specs.Tree.{hole as the_hole}
 use Rattle.rdx_lang.specs.Lookup.{alternatives_of}
-use Rattle.rdx_lang.specs.Patterns.{Pattern, wild, of_kind, except, prefix, hole, lit, nt, named, in_hole, hide_hole, closed, seq, Items, nil, one, many, Language}
+use Rattle.rdx_lang.specs.Patterns.{Pattern, wild, of_kind, except, prefix, hole, lit, nt, named, differ, in_hole, hide_hole, closed, seq, Items, nil, one, many, Language}
 use Rattle.rdx_lang.specs.Rules.{is_one_of}
 use Rattle.rdx_lang.specs.declared.pattern.Kind.{Kind}
 use Rattle.rdx_lang.specs.declared.pattern.Kind.TheVariants.{Any, Number, Natural, Integer, Real, Text, Boolean, Variable, Unmentioned}
@@ -145,7 +145,7 @@ pub record Setting : Type 0 where
   pub unmentioned : List (List ℕ)
 
 abbrev mutual
-  -- a term; a closed pattern has no height and gives none
+  -- a term; a closed pattern has no height and gives none, and one with a mismatch name, which breaks a rule, is as without it
   pub term : Setting → Inner → Notes → ℕ → Pattern → State → Outcome Tree
   term S N o size wild s = any_atom s
   term S N o size (of_kind k) s = any_of_kind S.unmentioned k s
@@ -155,6 +155,7 @@ abbrev mutual
   term S N o size (lit u) s = made u s
   term S N o size (nt x) s = N.as_term x size s
   term S N o size (named x q) s = for_name (is_one_of o.again x) x (term S N o size q s) s
+  term S N o size (differ x q) s = term S N o size q s
   term S N o size (in_hole q r) s = after (context S N o size q s) (λ C s'. after (term S N o size r s') (λ t s''. filled C t s''))
   term S N o size (hide_hole q) s = term S N o size q s
   term S N o size (closed q) s = nothing
@@ -178,6 +179,7 @@ abbrev mutual
   context S N o size (lit u) s = nothing
   context S N o size (nt x) s = N.as_context x size s
   context S N o size (named x q) s = context S N o size q s
+  context S N o size (differ x q) s = context S N o size q s
   context S N o size (in_hole q r) s = after (context S N o size q s) (λ C s'. after (context S N o size r s') (λ D s''. filled C D s''))
   context S N o size (hide_hole q) s = nothing
   context S N o size (closed q) s = nothing

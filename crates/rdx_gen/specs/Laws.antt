@@ -4,7 +4,7 @@ use Rattle.rand_pcg.specs.Lcg.{Lcg}
 use Rattle.rdx_term.specs.Tree.{Tree}
 use Rattle.rdx_lang.specs.Bindings.{Binding}
 use Rattle.rdx_lang.specs.Members.{In}
-use Rattle.rdx_lang.specs.Patterns.{Pattern, wild, of_kind, except, prefix, hole, lit, nt, named, in_hole, hide_hole, closed, seq, Items, nil, one, many, Definition, Language}
+use Rattle.rdx_lang.specs.Patterns.{Pattern, wild, of_kind, except, prefix, hole, lit, nt, named, differ, in_hole, hide_hole, closed, seq, Items, nil, one, many, Definition, Language}
 use Rattle.rdx_lang.specs.References.{are_distinct}
 use Rattle.rdx_lang.specs.Rules.{IsAlternative, Match}
 use Rattle.rdx_lang.specs.WellFormed.{defined}
@@ -13,7 +13,7 @@ use Rattle.rdx_gen.specs.Generated.{Answer, barren, Generates, outcome}
 use Rattle.rdx_gen.specs.Generation.{lacks}
 use Rattle.rdx_gen.specs.declared.height.Height.{Height}
 use Rattle.rdx_gen.specs.Heights.{known_in, term_height, context_height, next_heights, heights_of}
-use Rattle.rdx_gen.specs.NameRules.{places_of, mentioned, reached, first_repeated, first_bad_name}
+use Rattle.rdx_gen.specs.NameRules.{places_of, mentioned, reached, first_in_alternative, first_bad_name}
 use Rattle.rdx_gen.specs.Outcomes.{nothing}
 
 -- There is one answer at most, and one state of the words behind it.
@@ -64,6 +64,7 @@ abbrev mutual
   NoneClosed (lit u) = Unit {0}
   NoneClosed (nt x) = Unit {0}
   NoneClosed (named x q) = NoneClosed q
+  NoneClosed (differ x q) = NoneClosed q
   NoneClosed (in_hole q r) = NoneClosed q × NoneClosed r
   NoneClosed (hide_hole q) = NoneClosed q
   NoneClosed (closed q) = ⊥
@@ -98,7 +99,7 @@ MarkExactly R (b ∷ bs) (d ∷ ds) = (IsTrue b ↔ R d.0) × MarkExactly R bs d
 abbrev pub ReachedExactly : Type 0
 ReachedExactly = (L : Language) (p : Pattern) → MarkExactly (Reaches L p) (reached L p) L.nonterminals
 
--- Where no name breaks a rule, no name stands twice in an alternative of a nonterminal that the pattern reaches.
-abbrev pub NoneRepeated : Type 0
-NoneRepeated = (L : Language) (p q : Pattern) (x : Ref) → first_bad_name L p ≡ None → Reaches L p x → IsAlternative L x q
-    → first_repeated (places_of q) (places_of q) ≡ None
+-- Where no name breaks a rule, no name stands twice in an alternative of a nonterminal that the pattern reaches, and no mismatch name stands in one.
+abbrev pub NoneBreaks : Type 0
+NoneBreaks = (L : Language) (p q : Pattern) (x : Ref) → first_bad_name L p ≡ None → Reaches L p x → IsAlternative L x q
+    → first_in_alternative (places_of q) (places_of q) ≡ None

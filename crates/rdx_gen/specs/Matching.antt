@@ -3,7 +3,7 @@ use Rattle.std.specs.Prelude.{◌≡◌, ◌<◌, ◌^◌, ℕ, length, None, Is
 use Rattle.std.specs.Str.{IsUtf8}
 use Rattle.rand_pcg.specs.Lcg.{Lcg}
 use Rattle.rdx_lang.specs.Bindings.{Binding}
-use Rattle.rdx_lang.specs.Patterns.{Pattern, wild, of_kind, except, prefix, hole, lit, nt, named, in_hole, hide_hole, closed, seq, Items, nil, one, many, Language}
+use Rattle.rdx_lang.specs.Patterns.{Pattern, wild, of_kind, except, prefix, hole, lit, nt, named, differ, in_hole, hide_hole, closed, seq, Items, nil, one, many, Language}
 use Rattle.rdx_lang.specs.Rules.{Match, Split, IsAlternative}
 use Rattle.rdx_lang.specs.WellFormed.{is_well_formed_in}
 use Rattle.rdx_lang.specs.declared.pattern.Ref.{Ref}
@@ -15,7 +15,7 @@ use Rattle.rdx_gen.specs.Generated.{Generates, generated}
 use Rattle.rdx_gen.specs.Generation.{term, context, inner_at, setting_of, no_notes}
 use Rattle.rdx_gen.specs.Laws.{Reaches}
 use Rattle.rdx_gen.specs.Literals.{language_literals}
-use Rattle.rdx_gen.specs.NameRules.{places_of, first_repeated}
+use Rattle.rdx_gen.specs.NameRules.{places_of, first_in_alternative}
 use Rattle.rdx_gen.specs.Outcomes.{State, made}
 
 abbrev mutual
@@ -30,6 +30,7 @@ abbrev mutual
   HasSymbols (lit u) = Unit {0}
   HasSymbols (nt x) = Unit {0}
   HasSymbols (named x q) = HasSymbols q
+  HasSymbols (differ x q) = HasSymbols q
   HasSymbols (in_hole q r) = HasSymbols q × HasSymbols r
   HasSymbols (hide_hole q) = HasSymbols q
   HasSymbols (closed q) = HasSymbols q
@@ -57,10 +58,10 @@ pub record IsContextOf (L : Language) (p : Pattern) (C : Tree) : Type 0 where
   pub binding : Binding
   pub splits : (u : Tree) → Split L p (fill_of C u) C u binding
 
--- no name stands twice in the pattern, nor in an alternative of a nonterminal that it reaches
+-- no name stands twice in the pattern, nor in an alternative of a nonterminal that it reaches, and no mismatch name stands in one of them
 pub record HasNamesOnce (L : Language) (p : Pattern) : Type 0 where
-  pub pattern : first_repeated (places_of p) (places_of p) ≡ None
-  pub alternatives : (x : Ref) (q : Pattern) → Reaches L p x → IsAlternative L x q → first_repeated (places_of q) (places_of q) ≡ None
+  pub pattern : first_in_alternative (places_of p) (places_of p) ≡ None
+  pub alternatives : (x : Ref) (q : Pattern) → Reaches L p x → IsAlternative L x q → first_in_alternative (places_of q) (places_of q) ≡ None
 
 -- What is made of such a pattern matches it.
 abbrev pub TermsMatch : Type 0

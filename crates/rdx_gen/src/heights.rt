@@ -109,7 +109,7 @@ impl Known<'_> {
             }
             Pat::Hole => Height::new(Some(0), Some(0)),
             Pat::Nt(name) => self.height(name),
-            Pat::Named(_, inner) => self.pattern_heights(inner),
+            Pat::Named(_, inner) | Pat::Differ(_, inner) => self.pattern_heights(inner),
             Pat::InHole(left, right) => {
                 let left = self.pattern_heights(left);
                 let right = self.pattern_heights(right);

@@ -9,12 +9,15 @@ pub fn worked_examples()
     ensures successors { examples.TwoSuccessors }
     ensures no_height { examples.NoHeight }
     ensures two_patterns { examples.TwoPatterns }
+    ensures mismatch_name { examples.MismatchName }
+    ensures mismatch_name_behind { examples.MismatchNameBehind }
     ensures no_items { examples.NoItems }
 {}
 
 /// What is generated of a pattern that is well formed in the language matches it, with some binding.
-/// So does what is made of a pattern in which no name stands twice; and a context that is made of one
-/// is a context, and the pattern splits whatever it is filled with into it and this.
+/// So does what is made of a pattern in which no name stands twice and no mismatch name stands; and a
+/// context that is made of one is a context, and the pattern splits whatever it is filled with into it
+/// and this.
 pub fn terms_match()
     ensures generated { matching.GeneratedMatches }
     ensures terms { matching.TermsMatch }
@@ -46,8 +49,8 @@ pub fn barren_matches_none()
 {}
 
 /// What a pattern reaches is marked exactly, so in the alternatives that it reaches no name stands twice
-/// where none breaks a rule.
+/// and no mismatch name stands where none breaks a rule.
 pub fn reached_exactly()
     ensures exactly { law.ReachedExactly }
-    ensures none_repeated { law.NoneRepeated }
+    ensures none_breaks { law.NoneBreaks }
 {}

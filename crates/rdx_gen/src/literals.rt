@@ -32,9 +32,8 @@ fn add_literals(pat: &Pat, out: &mut Vec<Name>) -> Result<(), NoMemory>
             (),
         ),
         Pat::Lit(t) => add_symbol(t, out),
-        Pat::Named(_, inner) | Pat::HideHole(inner) | Pat::Closed(inner) => add_literals(
-            inner, out,
-        ),
+        Pat::Named(_, inner) | Pat::Differ(_, inner) | Pat::HideHole(inner) | Pat::Closed(inner) =>
+            add_literals(inner, out),
         Pat::InHole(left, right) => {
             add_literals(left, out)?;
             add_literals(right, out)

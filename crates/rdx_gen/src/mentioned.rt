@@ -21,9 +21,8 @@ pub(crate) fn add_mentioned<'a>(pat: &'a Pat, out: &mut Vec<&'a Ref>) -> Result<
             out.push(name)?;
             Ok(())
         }
-        Pat::Named(_, inner) | Pat::HideHole(inner) | Pat::Closed(inner) => {
-            add_mentioned(inner, out)
-        }
+        Pat::Named(_, inner) | Pat::Differ(_, inner) | Pat::HideHole(inner) | Pat::Closed(inner) =>
+            add_mentioned(inner, out),
         Pat::InHole(left, right) => {
             add_mentioned(left, out)?;
             add_mentioned(right, out)

@@ -24,11 +24,19 @@ use std::alloc::Global;
 fn breaks(u: &Place, group: Group) -> bool
     ensures { result ≡ groups.breaks_by (place_of u.now) group }
 {
-    if u.is_length {
-        group.inside
-    } else {
-        group.differs || (group.several && group.inside)
-    }
+    u.is_mismatch
+        || if u.is_length {
+            group.inside
+        } else {
+            group.differs || (group.several && group.inside)
+        }
+}
+
+// Whether it breaks one in an alternative.
+fn breaks_alternative(u: &Place, group: Group) -> bool
+    ensures { result ≡ groups.breaks_alternative_by (place_of u.now) group }
+{
+    u.is_mismatch || group.several
 }
 
 // The first name that breaks a rule in a pattern.
@@ -45,34 +53,34 @@ fn first_broken(alloc: Global, all: &[Place]) -> Result<Option<Name>, NoMemory>
     Ok(None)
 }
 
-// The first name that stands again in an alternative.
-fn first_repeated(alloc: Global, all: &[Place]) -> Result<Option<Name>, NoMemory>
+// The first name that breaks a rule in an alternative.
+fn first_in_alternative(alloc: Global, all: &[Place]) -> Result<Option<Name>, NoMemory>
     ensures { IfOk result (λ r. r
-        ≡ model.first_repeated (map place_of all.now) (map place_of all.now)) }
+        ≡ model.first_in_alternative (map place_of all.now) (map place_of all.now)) }
 {
     let groups = groups_of(alloc, all)?;
     for i in 0..all.len() {
-        if groups[i].several {
+        if breaks_alternative(&all[i], groups[i]) {
             return Ok(Some(all[i].name.share()?));
         }
     }
     Ok(None)
 }
 
-// The first name that stands twice in one of these alternatives.
+// The first name that breaks a rule in one of these alternatives.
 fn first_in_alternatives(alloc: Global, pats: &[Pat]) -> Result<Option<Name>, NoMemory>
     ensures { IfOk result (λ r. r ≡ model.first_in_alternatives (patterns_of pats.now)) }
 {
     for pat in pats {
         let places = places_of(alloc, pat)?;
-        if let Some(name) = first_repeated(alloc, &places)? {
+        if let Some(name) = first_in_alternative(alloc, &places)? {
             return Ok(Some(name));
         }
     }
     Ok(None)
 }
 
-// The first name that stands twice in one of the alternatives of a definition that is marked.
+// The first name that breaks a rule in one of the alternatives of a definition that is marked.
 fn first_where(alloc: Global, is_marked: bool, pats: &[Pat]) -> Result<Option<Name>, NoMemory>
     ensures { IfOk result (λ r. r ≡ inside.first_where is_marked (patterns_of pats.now)) }
 {

@@ -45,6 +45,7 @@ fn is_atom(pat: &Pat) -> bool
             true,
         Pat::Nt(_)
         | Pat::Named(_, _)
+        | Pat::Differ(_, _)
         | Pat::InHole(_, _)
         | Pat::HideHole(_)
         | Pat::Closed(_)
@@ -80,6 +81,7 @@ fn atom<'p>(
         Pat::Lit(t) => Ok(t.share()?),
         Pat::Nt(_)
         | Pat::Named(_, _)
+        | Pat::Differ(_, _)
         | Pat::InHole(_, _)
         | Pat::HideHole(_)
         | Pat::Closed(_)
@@ -245,7 +247,7 @@ fn begin<'p>(
         Pat::InHole(left, right) => {
             Ok(Move::Waits(Frame::Term(scope, right), Next::Context(scope, left)))
         }
-        Pat::HideHole(inner) => Ok(Move::Goes(Next::Term(scope, inner))),
+        Pat::HideHole(inner) | Pat::Differ(_, inner) => Ok(Move::Goes(Next::Term(scope, inner))),
         Pat::Seq(items) => Ok(Move::Goes(Next::Row(Row {
             scope,
             spot: Spot::Nowhere,
@@ -328,7 +330,9 @@ fn context<'p>(
         | Pat::Closed(_) => Err(Stop::NoMemory),
         Pat::Hole => Ok(Move::Goes(Next::Made(Term::Hole))),
         Pat::Nt(name) => nonterminal_around(setting, scope, name, state),
-        Pat::Named(_, inner) => Ok(Move::Goes(Next::Context(scope, inner))),
+        Pat::Named(_, inner) | Pat::Differ(_, inner) => {
+            Ok(Move::Goes(Next::Context(scope, inner)))
+        }
         Pat::InHole(left, right) => {
             Ok(Move::Waits(Frame::Context(scope, right), Next::Context(scope, left)))
         }

@@ -24,7 +24,8 @@ fn read_prefixes(pat: &Pat)
         Pat::Prefix(start) => {
             let _text = start.text();
         }
-        Pat::Named(_, inner) | Pat::HideHole(inner) | Pat::Closed(inner) => read_prefixes(inner),
+        Pat::Named(_, inner) | Pat::Differ(_, inner) | Pat::HideHole(inner) | Pat::Closed(inner) =>
+            read_prefixes(inner),
         Pat::InHole(left, right) => {
             read_prefixes(left);
             read_prefixes(right)

@@ -3,7 +3,7 @@ use Rattle.std.proofs.Common.{◌≡◌, Bool, true, false, List, [], ◌∷◌,
 use Rattle.std.specs.Prelude.{codes}
 use Rattle.std.specs.Str.{chars}
 use Rattle.rdx_lang.specs.Empty.{empty_hole, empty_nt}
-use Rattle.rdx_lang.specs.Edges.{Edge, edge_nt, edge_named, edge_hide_hole, edge_closed, edge_left, edge_right, Reaches, at_once, further, IsFree, IsFirstRecursive}
+use Rattle.rdx_lang.specs.Edges.{Edge, edge_nt, edge_named, edge_differ, edge_hide_hole, edge_closed, edge_left, edge_right, Reaches, at_once, further, IsFree, IsFirstRecursive}
 use Rattle.rdx_lang.specs.Members.{In, here, there}
 use Rattle.rdx_lang.specs.Patterns.{Pattern, wild, of_kind, hole, nt, in_hole, Definition, Language}
 use Rattle.rdx_lang.specs.WellFormed.{all_patterns, all_alternatives}
@@ -40,6 +40,7 @@ module _ (L : Language) (all : all_alternatives is_built_in L.nonterminals ≡ t
   no_edge : {p q : Pattern} → Edge L p q → is_built_in p ≡ true → ⊥
   no_edge (edge_nt {x = x} {p = p} a) e = absurd cc
   no_edge (edge_named {x = x} {q = q}) e = absurd cc
+  no_edge (edge_differ {x = x} {q = q}) e = absurd cc
   no_edge (edge_hide_hole {q = q}) e = absurd cc
   no_edge (edge_closed {q = q}) e = absurd cc
   no_edge (edge_left {q = q} {r = r}) e = absurd cc

@@ -4,7 +4,7 @@ use Rattle.std.specs.Prelude.{codes}
 use Rattle.rdx_sexp.specs.Sexp.{Sexp}
 use Rattle.rdx_lang.specs.Depths.{has_fitting_names}
 use Rattle.rdx_lang.specs.Lookup.{alternatives_of, alternatives_among}
-use Rattle.rdx_lang.specs.Patterns.{Pattern, wild, of_kind, except, prefix, hole, lit, nt, named, in_hole, hide_hole, closed, seq, Items, nil, one, many, Language}
+use Rattle.rdx_lang.specs.Patterns.{Pattern, wild, of_kind, except, prefix, hole, lit, nt, named, differ, in_hole, hide_hole, closed, seq, Items, nil, one, many, Language}
 use Rattle.rdx_lang.specs.Patterns as model
 use Rattle.rdx_lang.specs.References.{is_same, is_among}
 use Rattle.rdx_lang.specs.WellFormed.{is_well_formed, has_known_nonterminals, have_known_nonterminals, all_patterns, all_alternatives}
@@ -33,6 +33,7 @@ mutual
   has_known_nonterminals-within xs ys w (lit u) e = refl
   has_known_nonterminals-within xs ys w (nt x) e = w x e
   has_known_nonterminals-within xs ys w (named x q) e = has_known_nonterminals-within xs ys w q e
+  has_known_nonterminals-within xs ys w (differ x q) e = has_known_nonterminals-within xs ys w q e
   has_known_nonterminals-within xs ys w (in_hole q r) e =
       let k = and_true (has_known_nonterminals xs q) (has_known_nonterminals xs r) e in
       and_both (has_known_nonterminals ys q) (has_known_nonterminals ys r) (has_known_nonterminals-within xs ys w q k.0) (has_known_nonterminals-within xs ys w r k.1)

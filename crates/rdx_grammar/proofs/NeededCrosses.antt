@@ -5,7 +5,7 @@ use Rattle.rdx_lang.specs.CrossLaws.{cross_of, IsCompletable}
 use Rattle.rdx_lang.specs.Crosses.{Way, ways, item_ways, language_ways}
 use Rattle.rdx_lang.specs.Depths.{has_fitting_names}
 use Rattle.rdx_lang.specs.Members.{In, here, there}
-use Rattle.rdx_lang.specs.Patterns.{Pattern, wild, of_kind, except, prefix, hole, lit, nt, named, in_hole, hide_hole, closed, seq, Items, nil, one, many, Language}
+use Rattle.rdx_lang.specs.Patterns.{Pattern, wild, of_kind, except, prefix, hole, lit, nt, named, differ, in_hole, hide_hole, closed, seq, Items, nil, one, many, Language}
 use Rattle.rdx_lang.specs.References.{is_same, is_among, are_distinct}
 use Rattle.rdx_lang.specs.Rules.{IsAlternative}
 use Rattle.rdx_lang.specs.WellFormed.{has_known_nonterminals, have_known_nonterminals, is_well_formed, all_alternatives, defined}
@@ -53,6 +53,7 @@ module _ (xs ys : List Ref) (plain : (z : List ℕ) → is_among (Nt z) xs ≡ t
     known-needed (nt (Nt z)) h a = plain z h
     known-needed (nt (Cross z y)) h a = a (z, y) (here refl)
     known-needed (named x q) h a = known-needed q h a
+    known-needed (differ x q) h a = known-needed q h a
     known-needed (in_hole q r) h a =
         let k = and_true (has_known_nonterminals xs q) (has_known_nonterminals xs r) h in
         and_both (has_known_nonterminals ys q) (has_known_nonterminals ys r)

@@ -8,7 +8,7 @@ use Rattle.std.specs.List.{list_all}
 use Rattle.std.specs.Prelude.{◌&&◌, nat_lt}
 use Rattle.rdx_lang.specs.Depths.{Use, length_use, uses, item_uses, all_agree, depth_limit, is_shallow}
 use Rattle.rdx_lang.specs.Inside.Capped.{capped, capped_uses}
-use Rattle.rdx_lang.specs.Patterns.{Pattern, wild, of_kind, except, prefix, hole, lit, nt, named, in_hole, hide_hole, closed, seq, Items, nil, one, many}
+use Rattle.rdx_lang.specs.Patterns.{Pattern, wild, of_kind, except, prefix, hole, lit, nt, named, differ, in_hole, hide_hole, closed, seq, Items, nil, one, many}
 
 -- ---- the depth at which a pattern stands
 
@@ -42,6 +42,7 @@ mutual
   uses-capped m n (lit u) e = refl
   uses-capped m n (nt x) e = refl
   uses-capped m n (named x q) e = λ i. record { name = x; depth = e i; is_length = false } ∷ uses-capped m n q e i
+  uses-capped m n (differ x q) e = uses-capped m n q e
   uses-capped m n (in_hole q r) e = both_capped (uses m q) (uses n q) (uses m r) (uses n r) (uses-capped m n q e) (uses-capped m n r e)
   uses-capped m n (hide_hole q) e = uses-capped m n q e
   uses-capped m n (closed q) e = refl

@@ -2,8 +2,8 @@
 use Rattle.std.proofs.Common.{◌≡◌, ◌⊎◌, inl, inr, List, [], ◌∷◌, refl, ap, subst, codes}
 use Rattle.rdx_lang.specs.CrossExamples.{e, cross_e, filled, CrossesMatter}
 use Rattle.rdx_lang.specs.Crosses.{completed}
-use Rattle.rdx_lang.specs.Edges.{Edge, edge_nt, edge_named, edge_hide_hole, edge_closed, edge_left, edge_right, Reaches, at_once, further, IsFree}
-use Rattle.rdx_lang.specs.Empty.{IsEmpty, empty_hole, empty_nt, empty_named, empty_closed, empty_in_hole}
+use Rattle.rdx_lang.specs.Edges.{Edge, edge_nt, edge_named, edge_differ, edge_hide_hole, edge_closed, edge_left, edge_right, Reaches, at_once, further, IsFree}
+use Rattle.rdx_lang.specs.Empty.{IsEmpty, empty_hole, empty_nt, empty_named, empty_differ, empty_closed, empty_in_hole}
 use Rattle.rdx_lang.specs.Members.{In, here, there}
 use Rattle.rdx_lang.specs.Patterns.{Pattern, hole, nt, in_hole, Definition}
 use Rattle.rdx_lang.specs.Rules.{IsAlternative}
@@ -34,6 +34,7 @@ not-empty empty_hole h = absurd cc
 not-empty (empty_nt {x = x} {p = p} a i) h =
     let k : x ≡ Cross (codes "e") (codes "e") = cc in none-of-cross (subst (λ y. IsAlternative filled y p) k a)
 not-empty (empty_named i) h = absurd cc
+not-empty (empty_differ i) h = absurd cc
 not-empty (empty_closed i) h = absurd cc
 not-empty (empty_in_hole i j) h = absurd cc
 
@@ -41,6 +42,7 @@ not-empty (empty_in_hole i j) h = absurd cc
 edge-from-filled : {p q : Pattern} → Edge filled p q → p ≡ in_hole cross_e e → q ≡ cross_e
 edge-from-filled (edge_nt a) h = absurd cc
 edge-from-filled edge_named h = absurd cc
+edge-from-filled edge_differ h = absurd cc
 edge-from-filled edge_hide_hole h = absurd cc
 edge-from-filled edge_closed h = absurd cc
 edge-from-filled edge_left h = cc

@@ -1,9 +1,9 @@
 -- Left edges from a cross nonterminal go as those from the nonterminal that it leads from.
 use Rattle.std.proofs.Common.{◌≡◌, ℕ, ◌⊎◌, inl, inr, List, refl, ap, sym, subst}
 use Rattle.rdx_lang.specs.Crosses.{unnamed, unnamed_items, crossed, crossed_items}
-use Rattle.rdx_lang.specs.Edges.{Edge, edge_nt, edge_named, edge_closed, Reaches, at_once, further, IsRecursive}
+use Rattle.rdx_lang.specs.Edges.{Edge, edge_nt, edge_named, edge_differ, edge_closed, Reaches, at_once, further, IsRecursive}
 use Rattle.rdx_lang.specs.Members.{In, here, there}
-use Rattle.rdx_lang.specs.Patterns.{Pattern, wild, of_kind, except, prefix, hole, lit, nt, named, in_hole, hide_hole, closed, seq, Language}
+use Rattle.rdx_lang.specs.Patterns.{Pattern, wild, of_kind, except, prefix, hole, lit, nt, named, differ, in_hole, hide_hole, closed, seq, Language}
 use Rattle.rdx_lang.specs.Rules.{IsAlternative}
 use Rattle.rdx_lang.specs.declared.pattern.Ref.TheVariants.{Nt, Cross}
 use Rattle.rdx_lang.proofs.LeftEdges.{edge-nt, edge-closed, edge-seq, reaches_on}
@@ -39,6 +39,10 @@ origin L x y (named n a) p e i = elim (origin L x y a p e i) [
   | inl h ↦ inr (at_once (subst (λ b. Edge L (named n a) b) h edge_named))
   | inr r ↦ inr (further edge_named r)
 ]
+origin L x y (differ n a) p e i = elim (origin L x y a p e i) [
+  | inl h ↦ inr (at_once (subst (λ b. Edge L (differ n a) b) h edge_differ))
+  | inr r ↦ inr (further edge_differ r)
+]
 origin L x y (in_hole a b) p e i = elim i [ ]
 origin L x y (hide_hole a) p e i = elim i [ ]
 origin L x y (closed a) p e i = let k = in-map closed (crossed y (unnamed a)) p i in let h = k.2 in absurd cc
@@ -66,6 +70,10 @@ module _ (L M : Language) (y : List ℕ) (Aside : Pattern → Type 0)
   step (named n a) p q i e = elim (step a p q i e) [
     | inl s ↦ inl s
     | inr m ↦ inr (mirrors-after edge_named m)
+  ]
+  step (differ n a) p q i e = elim (step a p q i e) [
+    | inl s ↦ inl s
+    | inr m ↦ inr (mirrors-after edge_differ m)
   ]
   step (in_hole a b) p q i e = elim i [ ]
   step (hide_hole a) p q i e = elim i [ ]

@@ -3,8 +3,9 @@ use Rattle.std.proofs.Common.{◌≡◌, ℕ, true, List, [], ◌∷◌, refl, s
 use Rattle.std.specs.Prelude.{◌↔◌}
 use Rattle.rdx_lang.specs.CrossLaws.{CrossesChangeNoMatch, CrossesChangeNoSplit, CrossesChangeNoListing, CrossesChangeNoSplitsListing}
 use Rattle.rdx_lang.specs.Crosses.{new_crosses, with_crosses, with_crosses_to}
-use Rattle.rdx_lang.specs.Listing.{IsListing}
-use Rattle.rdx_lang.specs.Patterns.{Pattern, Language}
+use Rattle.rdx_lang.specs.Bindings.{Binding}
+use Rattle.rdx_lang.specs.Listing.{IsListing, IsSeen}
+use Rattle.rdx_lang.specs.Patterns.{Language}
 use Rattle.rdx_lang.specs.WellFormed.{has_known_nonterminals, defined}
 use Rattle.std.specs.declared.cmp.Ordering.{Ordering}
 use Rattle.rdx_lang.proofs.DefinedNonterminals.{defined-more}
@@ -91,14 +92,23 @@ listing-same f l = record {
 backward : {A B : Type 0} → (A ↔ B) → (B ↔ A)
 backward e = (e.1, e.0)
 
+-- what is seen of what holds alike is seen alike
+seen-same : {R Q : Binding → Type 0} → ((b : Binding) → (R b ↔ Q b)) → (b : Binding) → (IsSeen R b ↔ IsSeen Q b)
+seen-same f b = (
+  (λ s. record { whole = s.whole; holds = (f s.whole).0 s.holds; seen = s.seen }),
+  (λ s. record { whole = s.whole; holds = (f s.whole).1 s.holds; seen = s.seen }),
+)
+
 -- so the listings of matches are the same
 pub crosses_change_no_listing : CrossesChangeNoListing
-crosses_change_no_listing L ys p w h t bs =
-    (listing-same (crosses_change_no_match L ys p w h t), listing-same (λ b. backward (crosses_change_no_match L ys p w h t b)))
+crosses_change_no_listing L ys p w h t bs = (
+  listing-same (seen-same (crosses_change_no_match L ys p w h t)),
+  listing-same (λ b. backward (seen-same (crosses_change_no_match L ys p w h t) b)),
+)
 
 -- and those of splits
 pub crosses_change_no_splits_listing : CrossesChangeNoSplitsListing
 crosses_change_no_splits_listing L ys p w h t ds = (
-  listing-same (λ d. crosses_change_no_split L ys p w h t d.context d.part d.binding),
-  listing-same (λ d. backward (crosses_change_no_split L ys p w h t d.context d.part d.binding)),
+  listing-same (λ d. seen-same (crosses_change_no_split L ys p w h t d.context d.part) d.binding),
+  listing-same (λ d. backward (seen-same (crosses_change_no_split L ys p w h t d.context d.part) d.binding)),
 )

@@ -8,19 +8,22 @@ use Rattle.rdx_term.specs.Context.{is_context_at}
 use Rattle.rdx_term.specs.Fill.{fill_of, fill_at, marked_at}
 use Rattle.rdx_term.specs.Tree.{Tree, integer, truth, text, symbol, list, Trees}
 use Rattle.rdx_term.specs.Tree.{hole as the_hole}
-use Rattle.rdx_lang.specs.Bindings.{Pair, Binding, no_names, one_name, HasAscendingNames}
+use Rattle.rdx_lang.specs.Bindings.{Pair, Mismatch, Binding, no_names, one_name, HasAscendingNames}
 use Rattle.rdx_lang.specs.Bindings.{one as one_term}
-use Rattle.rdx_lang.specs.Empty.{IsEmpty, empty_hole, empty_nt, empty_named, empty_closed, empty_in_hole, is_empty, TellsEmpty}
-use Rattle.rdx_lang.specs.Join.{IsJoin}
+use Rattle.rdx_lang.specs.Edges.{Edge, edge_nt, edge_named, edge_closed, edge_left, edge_right, at_once, further}
+use Rattle.rdx_lang.specs.Empty.{IsEmpty, empty_hole, empty_nt, empty_named, empty_differ, empty_closed, empty_in_hole, is_empty, TellsEmpty}
+use Rattle.rdx_lang.specs.Join.{JoinsSets, IsJoin}
 use Rattle.rdx_lang.specs.Laws.{WholeIsEmpty, EmptySplitsAll, EmptyIsDecided}
 use Rattle.rdx_lang.specs.Members.{In, here, there}
-use Rattle.rdx_lang.specs.Patterns.{Pattern, wild, of_kind, except, prefix, hole, lit, nt, named, in_hole, hide_hole, closed, seq, Definition, Language}
+use Rattle.rdx_lang.specs.Mismatches.{has_differ, HasNoDifferAhead}
+use Rattle.rdx_lang.specs.Patterns.{Pattern, wild, of_kind, except, prefix, hole, lit, nt, named, differ, in_hole, hide_hole, closed, seq, Definition, Language}
 use Rattle.rdx_lang.specs.References.{is_same}
-use Rattle.rdx_lang.specs.Rules.{IsAlternative, Split, split_hole, split_nt, split_named, split_in_hole, split_closed, split_seq}
+use Rattle.rdx_lang.specs.Rules.{IsAlternative, Split, split_hole, split_nt, split_named, split_differ, split_in_hole, split_closed, split_seq}
 use Rattle.rdx_lang.specs.declared.pattern.Ref.{Ref}
-use Rattle.rdx_lang.proofs.Joins.{join_exists}
+use Rattle.rdx_lang.proofs.Joins.{pairs_join}
 use Rattle.rdx_lang.proofs.LookupLaws.{is_same-equal, equal-is_same}
 use Rattle.rdx_lang.proofs.NameLaws.{split-ascends}
+use Rattle.rdx_lang.proofs.SetJoins.{no_sets_left}
 
 -- ---- the test of patterns, from one of nonterminals
 
@@ -43,6 +46,7 @@ module _ (L : Language) (E : Ref → Bool) where
   is_empty-sound f (lit u) h = absurd cc
   is_empty-sound f (nt x) h = f x h
   is_empty-sound f (named x q) h = empty_named (is_empty-sound f q h)
+  is_empty-sound f (differ x q) h = empty_differ (is_empty-sound f q h)
   is_empty-sound f (in_hole q r) h = empty_in_hole
       (is_empty-sound f q (and_parts (is_empty E q) (is_empty E r) h).0)
       (is_empty-sound f r (and_parts (is_empty E q) (is_empty E r) h).1)
@@ -55,6 +59,7 @@ module _ (L : Language) (E : Ref → Bool) where
   is_empty-complete f empty_hole = refl
   is_empty-complete f (empty_nt {x = x} {p = p} a h) = f x p a (is_empty-complete f h)
   is_empty-complete f (empty_named h) = is_empty-complete f h
+  is_empty-complete f (empty_differ h) = is_empty-complete f h
   is_empty-complete f (empty_closed h) = is_empty-complete f h
   is_empty-complete f (empty_in_hole {q = q} {r = r} h k) =
       and_from (is_empty E q) (is_empty E r) (is_empty-complete f h) (is_empty-complete f k)
@@ -200,14 +205,20 @@ module _ {L : Language} where
   split-whole split_hole e = empty_hole
   split-whole (split_nt a h) e = empty_nt a (split-whole h e)
   split-whole (split_named h j) e = empty_named (split-whole h e)
+  split-whole (split_differ h j) e = empty_differ (split-whole h e)
   split-whole (split_in_hole {D = D} {E = E} h g f j) e =
       let k = fill_of-whole D E (sym f ∙ e) in empty_in_hole (split-whole h k.0) (split-whole g k.1)
   split-whole (split_closed h) e = empty_closed (split-whole h e)
   split-whole (split_seq h f) e = absurd cc
 
--- each name stands for the hole
-abbrev AreHoles : Binding → Type 0
-AreHoles b = (p : Pair) → In p b → p.1 ≡ one_term the_hole
+-- each name stands for the hole, and there is no mismatch name
+record AreHoles (b : Binding) : Type 0 where
+  pub pairs : (p : Pair) → In p b.pairs → p.1 ≡ one_term the_hole
+  pub alone : b.differs ≡ []
+
+-- so it is where no name is bound
+no_holes : AreHoles no_names
+no_holes = record { pairs = λ p i. elim i [ ]; alone = refl }
 
 -- a join of such bindings
 record JoinOfHoles (a b : Binding) : Type 0 where
@@ -218,8 +229,15 @@ record JoinOfHoles (a b : Binding) : Type 0 where
 -- which there is
 join-holes : (a b : Binding) → HasAscendingNames a → HasAscendingNames b → AreHoles a → AreHoles b → JoinOfHoles a b
 join-holes a b m n f g =
-    let c = join_exists a b m n (λ x v w h k. f (x, v) h ∙ sym (g (x, w) k)) in
-    record { join = c.0; is_join = c.1; holes = λ p i. elim (c.1.sound p i) [ inl l ↦ f p l | inr r ↦ g p r ] }
+    let c = pairs_join a.pairs b.pairs m.0 n.0 (λ x v w h k. f.pairs (x, v) h ∙ sym (g.pairs (x, w) k)) in
+    let none : JoinsSets a.differs b.differs [] =
+    subst (λ (ms : List Mismatch). JoinsSets ms b.differs []) (sym f.alone)
+    (subst (λ (ms : List Mismatch). JoinsSets [] ms []) (sym g.alone) (no_sets_left [] (tt, tt))) in
+    record {
+      join = record { pairs = c.0; differs = [] };
+      is_join = record { pairs = c.1; differs = none };
+      holes = record { pairs = λ p i. elim (c.1.sound p i) [ inl l ↦ f.pairs p l | inr r ↦ g.pairs p r ]; alone = refl };
+    }
 
 -- the pattern splits t into the hole and t, and each name stands for the hole
 record IsWhole (L : Language) (p : Pattern) (t : Tree) : Type 0 where
@@ -227,16 +245,28 @@ record IsWhole (L : Language) (p : Pattern) (t : Tree) : Type 0 where
   pub split : Split L p t the_hole t binding
   pub holes : AreHoles binding
 
+-- what lies ahead of a pattern lies ahead where a left edge leads on to the next one, in which no mismatch name stands
+ahead : {L : Language} {p q : Pattern} → HasNoDifferAhead L p → Edge L p q → has_differ q ≡ false → HasNoDifferAhead L q
+ahead n e f = record { itself = f; reached = λ x r a h. n.reached x r a (further e h) }
+
+-- neither part has what both together do not
+neither : (b c : Bool) → b || c ≡ false → (b ≡ false) × (c ≡ false)
+neither false c h = (refl, h)
+neither true c h = absurd cc
+
 module _ {L : Language} (t : Tree) where
   -- a pattern with a name does where its part does
   named-whole : (x : List ℕ) (q : Pattern) → IsWhole L q t → IsWhole L (named x q) t
   named-whole x q w =
-      let j = join-holes w.binding (one_name x (one_term the_hole)) (split-ascends w.split) (tt, tt) w.holes one_hole in
+      let j = join-holes w.binding (one_name x (one_term the_hole)) (split-ascends w.split) ((tt, tt), (tt, tt)) w.holes one_hole in
       record { binding = j.join; split = split_named w.split j.is_join; holes = j.holes }
     where
+      one_pair : (p : Pair) → In p ((x, one_term the_hole) ∷ []) → p.1 ≡ one_term the_hole
+      one_pair p (here e) = ap (λ (r : Pair). r.1) e
+      one_pair p (there i) = elim i [ ]
+
       one_hole : AreHoles (one_name x (one_term the_hole))
-      one_hole p (here e) = ap (λ (r : Pair). r.1) e
-      one_hole p (there i) = elim i [ ]
+      one_hole = record { pairs = one_pair; alone = refl }
 
   -- and `in-hole` where both of its parts do
   in_hole-whole : (q r : Pattern) → IsWhole L q t → IsWhole L r t → IsWhole L (in_hole q r) t
@@ -244,18 +274,25 @@ module _ {L : Language} (t : Tree) where
       let j = join-holes w.binding v.binding (split-ascends w.split) (split-ascends v.split) w.holes v.holes in
       record { binding = j.join; split = split_in_hole w.split v.split refl j.is_join; holes = j.holes }
 
-  -- what is Empty splits each term so
-  empty-whole : {p : Pattern} → IsEmpty L p → IsWhole L p t
-  empty-whole empty_hole = record { binding = no_names; split = split_hole; holes = λ p i. elim i [ ] }
-  empty-whole (empty_nt a h) = let w = empty-whole h in record { binding = no_names; split = split_nt a w.split; holes = λ p i. elim i [ ] }
-  empty-whole (empty_named {x = x} {q = q} h) = named-whole x q (empty-whole h)
-  empty-whole (empty_closed h) = let w = empty-whole h in record { binding = no_names; split = split_closed w.split; holes = λ p i. elim i [ ] }
-  empty-whole (empty_in_hole {q = q} {r = r} h k) = in_hole-whole q r (empty-whole h) (empty-whole k)
+  -- what is Empty splits each term so, where no mismatch name is met
+  empty-whole : {p : Pattern} → IsEmpty L p → HasNoDifferAhead L p → IsWhole L p t
+  empty-whole empty_hole n = record { binding = no_names; split = split_hole; holes = no_holes }
+  empty-whole (empty_nt {x = x} {p = p} a h) n =
+      let w = empty-whole h (ahead n (edge_nt a) (n.reached x p a (at_once (edge_nt a)))) in
+      record { binding = no_names; split = split_nt a w.split; holes = no_holes }
+  empty-whole (empty_named {x = x} {q = q} h) n = named-whole x q (empty-whole h (ahead n edge_named n.itself))
+  empty-whole (empty_differ h) n = let f = n.itself in absurd cc
+  empty-whole (empty_closed h) n =
+      let w = empty-whole h (ahead n edge_closed n.itself) in
+      record { binding = no_names; split = split_closed w.split; holes = no_holes }
+  empty-whole (empty_in_hole {q = q} {r = r} h k) n =
+      let f = neither (has_differ q) (has_differ r) n.itself in
+      in_hole-whole q r (empty-whole h (ahead n edge_left f.0)) (empty-whole k (ahead n (edge_right h) f.1))
 
 -- a pattern that splits some term with the hole as context is Empty
 pub whole_is_empty : WholeIsEmpty
 whole_is_empty L p t w = split-whole w.split refl
 
--- a pattern that is Empty splits each term so
+-- a pattern that is Empty splits each term so, where no mismatch name is met
 pub empty_splits_all : EmptySplitsAll
-empty_splits_all L p t h = let w = empty-whole t h in record { part = t; binding = w.binding; split = w.split }
+empty_splits_all L p t h n = let w = empty-whole t h n in record { part = t; binding = w.binding; split = w.split }

@@ -8,7 +8,7 @@ use Rattle.rdx_term.specs.Tree.{nil as no_trees}
 use Rattle.rdx_term.specs.Tree.{hole as the_hole}
 use Rattle.rdx_term.specs.Fill.{fill_of}
 use Rattle.rdx_lang.specs.Ascending.{IsAscending}
-use Rattle.rdx_lang.specs.Bindings.{Value, Pair, Binding, one_name, name_cmp}
+use Rattle.rdx_lang.specs.Bindings.{Value, Pair, Binding, of_pairs, no_names, one_name, name_cmp}
 use Rattle.rdx_lang.specs.Bindings.{one as one_term}
 use Rattle.rdx_lang.specs.Decompositions.{Decomposition}
 use Rattle.rdx_lang.specs.Edges.{edge_nt, edge_named, edge_right, Reaches, at_once, further, IsRecursive}
@@ -16,7 +16,7 @@ use Rattle.rdx_lang.specs.Empty.{IsEmpty, empty_hole, empty_nt, empty_named}
 use Rattle.rdx_lang.specs.Examples.{int, first_marked, second_marked, list_of_one, list_of_two, binds, seq_of_one, seq_of_two, e, f, e_1, Numbers, Twins, ThroughAName, UnderAList, TwoEqual, TwoDifferent, TwoMarks, NameAround, NameAroundItself, Forgotten, OnceForTwo, Mentioned, ExceptMentionsNone, NonterminalsAreNotMentioned, PrefixFirst, ItemsDecide, FirstPairDecides, NameKeepsTheTerm, ListTakesOff}
 use Rattle.rdx_lang.specs.Examples.{marked_first, marked_second, E, E_1, any, number, Contexts, split_into, in_place, nested, BehindAList, InEachPlace, AtEitherHole, HiddenSplitsNothing, OneItemSplits, NeverAtBoth, ContextInContext, NameOfATerm, EqualContexts, ContextsWithMarks, EmptyThroughAnother, EmptyLeadsOn, ContextTakesOff}
 use Rattle.rdx_lang.specs.Join.{IsJoin}
-use Rattle.rdx_lang.proofs.JoinLaws.{one_join, join_agrees, turned_join, unit_left, unit_right, unit_left-only, unit_right-only, joined_itself, joined_itself-only}
+use Rattle.rdx_lang.proofs.JoinLaws.{one_join, join_agrees, turned_join, unit_left, unit_right, unit_right-only, joined_itself, none_left, none_left-only, one_left-only, one_right-only, one_itself-only}
 use Rattle.rdx_lang.specs.Listing.{IsListing, SplitsInto}
 use Rattle.rdx_lang.specs.Members.{In, here, there}
 use Rattle.rdx_lang.proofs.NameLaws.{match-ascends, split-ascends}
@@ -30,6 +30,8 @@ use Rattle.rdx_lang.specs.declared.pattern.Kind.TheVariants.{Number, Natural}
 use Rattle.rdx_lang.specs.declared.pattern.Ref.{Ref}
 use Rattle.rdx_lang.proofs.LookupLaws.{alternatives_of-all}
 use Rattle.rdx_lang.proofs.RankLaws.{ranked_is_free}
+use Rattle.rdx_lang.proofs.SeenListings.{matches_listed, splits_listed}
+use Rattle.rdx_lang.proofs.SetJoins.{no_sets_left}
 use Rattle.rdx_lang.proofs.RuleSteps.{hole_inside, named_inside, in_hole_inside, hide_hole_inside, hole_splits, kind_splits, hide_hole_splits, nt_splits, named_splits, in_hole_splits, seq_splits}
 
 -- ---- listings
@@ -68,7 +70,7 @@ apart v w l d =
 
 -- a name with two values has none
 pub two_values : (x : List ℕ) (v w : Value) (c : Binding) → value_cmp v w ≡ Less → IsJoin (one_name x v) (one_name x w) c → ⊥
-two_values x v w c l j = apart v w l (join_agrees (one_name x v) (one_name x w) c j x v w (here refl) (here refl))
+two_values x v w c l j = apart v w l ((join_agrees (one_name x v) (one_name x w) c j).pairs x v w (here refl) (here refl))
 
 -- ---- patterns
 
@@ -95,11 +97,11 @@ both (match_seq {b = b} (match_one {c = c} g (match_one {c = d} h match_none k) 
 }
 
 -- a nonterminal binds nothing
-nt_binds : {L : Language} {x : Ref} {t : Tree} {b : Binding} → Match L (nt x) t b → b ≡ []
+nt_binds : {L : Language} {x : Ref} {t : Tree} {b : Binding} → Match L (nt x) t b → b ≡ no_names
 nt_binds (match_nt a h) = refl
 
 -- a built-in name binds nothing
-kind_binds : {L : Language} {k : Kind} {t : Tree} {b : Binding} → Match L (of_kind k) t b → b ≡ []
+kind_binds : {L : Language} {k : Kind} {t : Tree} {b : Binding} → Match L (of_kind k) t b → b ≡ no_names
 kind_binds (match_kind h) = refl
 
 -- it matches the terms of its kind
@@ -108,15 +110,15 @@ kind_matches (match_kind h) = h
 
 -- a named nonterminal binds its name alone
 named_nt_binds : {L : Language} {x : List ℕ} {y : Ref} {t : Tree} {b : Binding} → Match L (named x (nt y)) t b → b ≡ binds x t
-named_nt_binds (match_named (match_nt a h) j) = unit_left-only (tt, tt) j
+named_nt_binds (match_named (match_nt a h) j) = one_left-only j
 
 -- and so does a named built-in name
 pub named_kind_binds : {L : Language} {x : List ℕ} {k : Kind} {t : Tree} {b : Binding} → Match L (named x (of_kind k)) t b → b ≡ binds x t
-named_kind_binds (match_named (match_kind h) j) = unit_left-only (tt, tt) j
+named_kind_binds (match_named (match_kind h) j) = one_left-only j
 
 -- a named nonterminal matches what the nonterminal matches
-named_nt : {L : Language} (x : List ℕ) {y : Ref} (t : Tree) → Match L (nt y) t [] → Match L (named x (nt y)) t (binds x t)
-named_nt x t h = match_named h (unit_left (binds x t) (tt, tt))
+named_nt : {L : Language} (x : List ℕ) {y : Ref} (t : Tree) → Match L (nt y) t no_names → Match L (named x (nt y)) t (binds x t)
+named_nt x t h = match_named h (unit_left (binds x t) ((tt, tt), (tt, tt)))
 
 -- a join of equal bindings
 pub joined_by : {a b c d s : Binding} → a ≡ c → b ≡ d → IsJoin a b s → IsJoin c d s
@@ -125,7 +127,7 @@ joined_by {a} {b} {c} {d} {s} g h j = subst (λ (x : Binding). IsJoin x d s) g (
 -- ---- a name that stands twice
 
 -- an integer is an e of `Numbers`
-number_of_numbers : (n : ℕ) → Match Numbers (nt e) (int n) []
+number_of_numbers : (n : ℕ) → Match Numbers (nt e) (int n) no_names
 number_of_numbers n = match_nt (record { all = of_kind Number ∷ []; defined = here refl; among = here refl }) (match_kind refl)
 
 -- e_1 = 1
@@ -137,23 +139,25 @@ one_of_numbers : Match Numbers e_1 (int 1) one_bound
 one_of_numbers = named_nt (codes "e_1") (int 1) (number_of_numbers 1)
 
 pub two_equal : TwoEqual
-two_equal =
-    one_alone one_bound (two one_bound one_bound one_of_numbers one_of_numbers (joined_itself one_bound (tt, tt)))
-    (λ c h. let d = both h in joined_itself-only (tt, tt) (joined_by (named_nt_binds d.matches_first) (named_nt_binds d.matches_second) d.joined))
+two_equal = matches_listed (refl, tt) (one_alone one_bound (two one_bound one_bound one_of_numbers one_of_numbers (joined_itself one_bound ((tt, tt), (tt, tt)) refl))
+    (λ c h. let d = both h in one_itself-only (joined_by (named_nt_binds d.matches_first) (named_nt_binds d.matches_second) d.joined)))
 
 pub two_different : TwoDifferent
-two_different = no_member (λ c h. let d = both h in
-    two_values (codes "e_1") (one_term (int 1)) (one_term (int 2)) c refl (joined_by (named_nt_binds d.matches_first) (named_nt_binds d.matches_second) d.joined))
+two_different = matches_listed tt (no_member (λ c h. let d = both h in
+    two_values (codes "e_1") (one_term (int 1)) (one_term (int 2)) c refl (joined_by (named_nt_binds d.matches_first) (named_nt_binds d.matches_second) d.joined)))
 
 pub two_marks : TwoMarks
-two_marks = no_member (λ c h. let d = both h in
-    two_values (codes "any_1") (one_term first_marked) (one_term second_marked) c refl (joined_by (named_kind_binds d.matches_first) (named_kind_binds d.matches_second) d.joined))
+two_marks = matches_listed tt (no_member (λ c h. let d = both h in
+    two_values (codes "any_1") (one_term first_marked) (one_term second_marked) c refl (joined_by (named_kind_binds d.matches_first) (named_kind_binds d.matches_second) d.joined)))
 
 -- ---- a name around a pattern
 
 -- two pairs in the order of their names are the join of the one and the other
-pub two_pairs : (p q : Pair) → name_cmp p.0 q.0 ≡ Less → IsJoin (p ∷ []) (q ∷ []) (p ∷ q ∷ [])
-two_pairs p q l = record { map = ((l, tt), (tt, tt)); sound = sound; left = left; right = λ r i. there i }
+pub two_pairs : (p q : Pair) → name_cmp p.0 q.0 ≡ Less → IsJoin (of_pairs (p ∷ [])) (of_pairs (q ∷ [])) (of_pairs (p ∷ q ∷ []))
+two_pairs p q l = record {
+  pairs = record { map = ((l, tt), (tt, tt)); sound = sound; left = left; right = λ r i. there i };
+  differs = no_sets_left [] (tt, tt);
+}
   where
     sound : (r : Pair) → In r (p ∷ q ∷ []) → In r (p ∷ []) ⊎ In r (q ∷ [])
     sound r (here d) = inl (here d)
@@ -165,24 +169,23 @@ two_pairs p q l = record { map = ((l, tt), (tt, tt)); sound = sound; left = left
 
 -- e_1 = 1 and x = (1 2)
 abbrev around : Binding
-around = (codes "e_1", one_term (int 1)) ∷ (codes "x", one_term (list_of_two (int 1) (int 2))) ∷ []
+around = of_pairs ((codes "e_1", one_term (int 1)) ∷ (codes "x", one_term (list_of_two (int 1) (int 2))) ∷ [])
 
 around_joined : IsJoin one_bound (binds (codes "x") (list_of_two (int 1) (int 2))) around
 around_joined = two_pairs (codes "e_1", one_term (int 1)) (codes "x", one_term (list_of_two (int 1) (int 2))) refl
 
 -- what `(e_1 e)` binds at `(1 2)`
 inside : {b : Binding} → Match Numbers (seq_of_two e_1 (nt e)) (list_of_two (int 1) (int 2)) b → b ≡ one_bound
-inside h = let d = both h in unit_right-only (tt, tt) (joined_by (named_nt_binds d.matches_first) (nt_binds d.matches_second) d.joined)
+inside h = let d = both h in one_right-only (joined_by (named_nt_binds d.matches_first) (nt_binds d.matches_second) d.joined)
 
 around_alone : {b : Binding} → Match Numbers (named (codes "x") (seq_of_two e_1 (nt e))) (list_of_two (int 1) (int 2)) b → b ≡ around
 around_alone (match_named {b = b} h j) =
     one_join one_bound (binds (codes "x") (list_of_two (int 1) (int 2))) b around (joined_by (inside h) refl j) around_joined
 
 pub name_around : NameAround
-name_around =
-    one_alone around
-    (match_named (two one_bound [] one_of_numbers (number_of_numbers 2) (unit_right one_bound (tt, tt))) around_joined)
-    (λ c h. around_alone h)
+name_around = matches_listed (refl, tt) (one_alone around
+    (match_named (two one_bound no_names one_of_numbers (number_of_numbers 2) (unit_right one_bound ((tt, tt), (tt, tt)))) around_joined)
+    (λ c h. around_alone h))
 
 -- x would be 1 and `(1)`
 both_x : {b : Binding} → Match Numbers (named (codes "x") (seq_of_one (named (codes "x") (nt e)))) (list_of_one (int 1)) b → ⊥
@@ -190,40 +193,39 @@ both_x (match_named {b = b} (match_seq (match_one h match_none m)) j) =
     two_values (codes "x") (one_term (int 1)) (one_term (list_of_one (int 1))) b refl (joined_by (unit_right-only (match-ascends h) m ∙ named_nt_binds h) refl j)
 
 pub name_around_itself : NameAroundItself
-name_around_itself = no_member (λ c h. both_x h)
+name_around_itself = matches_listed tt (no_member (λ c h. both_x h))
 
 -- ---- a nonterminal forgets
 
 -- an integer is an e of `Twins`
-number_of_twins : (n : ℕ) → Match Twins (nt e) (int n) []
+number_of_twins : (n : ℕ) → Match Twins (nt e) (int n) no_names
 number_of_twins n =
     match_nt (record { all = of_kind Number ∷ of_kind Natural ∷ seq_of_two e_1 e_1 ∷ []; defined = here refl; among = here refl }) (match_kind refl)
 
 -- an integer twice is an e of `Twins`
-twin : (n : ℕ) → Match Twins (nt e) (list_of_two (int n) (int n)) []
+twin : (n : ℕ) → Match Twins (nt e) (list_of_two (int n) (int n)) no_names
 twin n =
     match_nt (record { all = of_kind Number ∷ of_kind Natural ∷ seq_of_two e_1 e_1 ∷ []; defined = here refl; among = there (there (here refl)) })
     (two (binds (codes "e_1") (int n)) (binds (codes "e_1") (int n)) (named_nt (codes "e_1") (int n) (number_of_twins n)) (named_nt (codes "e_1") (int n) (number_of_twins n))
-    (joined_itself (binds (codes "e_1") (int n)) (tt, tt)))
+    (joined_itself (binds (codes "e_1") (int n)) ((tt, tt), (tt, tt)) refl))
 
 pub forgotten : Forgotten
-forgotten =
-    one_alone [] (two [] [] (twin 1) (twin 2) (unit_left [] tt))
-    (λ c h. let d = both h in unit_left-only tt (joined_by (nt_binds d.matches_first) (nt_binds d.matches_second) d.joined))
+forgotten = matches_listed (refl, tt) (one_alone no_names (two no_names no_names (twin 1) (twin 2) none_left)
+    (λ c h. let d = both h in none_left-only (joined_by (nt_binds d.matches_first) (nt_binds d.matches_second) d.joined)))
 
 pub once_for_two : OnceForTwo
-once_for_two = one_alone one_bound (named_nt (codes "e_1") (int 1) (number_of_twins 1)) (λ c h. named_nt_binds h)
+once_for_two = matches_listed (refl, tt) (one_alone one_bound (named_nt (codes "e_1") (int 1) (number_of_twins 1)) (λ c h. named_nt_binds h))
 
 -- ---- `variable-not-otherwise-mentioned`
 
 pub mentioned : Mentioned
-mentioned = no_member (λ c h. let k : false ≡ true = kind_matches h in absurd cc)
+mentioned = matches_listed tt (no_member (λ c h. let k : false ≡ true = kind_matches h in absurd cc))
 
 pub except_mentions_none : ExceptMentionsNone
-except_mentions_none = one_alone [] (match_kind refl) (λ c h. kind_binds h)
+except_mentions_none = matches_listed (refl, tt) (one_alone no_names (match_kind refl) (λ c h. kind_binds h))
 
 pub nonterminals_are_not_mentioned : NonterminalsAreNotMentioned
-nonterminals_are_not_mentioned = one_alone [] (match_kind refl) (λ c h. kind_binds h)
+nonterminals_are_not_mentioned = matches_listed (refl, tt) (one_alone no_names (match_kind refl) (λ c h. kind_binds h))
 
 -- ---- the order of bindings
 
@@ -307,7 +309,7 @@ is_split d e f g = λ i. record { context = e i; part = f i; binding = g i }
 -- ---- contexts
 
 -- each term is an `any`
-any_term : {L : Language} (t : Tree) → Match L any t []
+any_term : {L : Language} (t : Tree) → Match L any t no_names
 any_term t = match_kind refl
 
 -- the alternatives of E
@@ -315,7 +317,7 @@ abbrev e_patterns : List Pattern
 e_patterns = hole ∷ seq_of_two (nt E) any ∷ seq_of_two any (nt E) ∷ []
 
 -- E splits what one of its alternatives splits
-by_alternative : {p : Pattern} {t C s : Tree} {c : Binding} → In p e_patterns → Split Contexts p t C s c → Split Contexts (nt E) t C s []
+by_alternative : {p : Pattern} {t C s : Tree} {c : Binding} → In p e_patterns → Split Contexts p t C s c → Split Contexts (nt E) t C s no_names
 by_alternative {p = p} i h = split_nt (record { all = e_patterns; defined = here refl; among = i }) h
 
 -- how E splits a term
@@ -325,7 +327,7 @@ data SplitsE (t C s : Tree) : Type 0 where
   on_right : {c : Binding} → Split Contexts (seq_of_two any (nt E)) t C s c → SplitsE t C s
 
 -- it binds nothing, and splits in one of these ways
-splits_of_e : {t C s : Tree} {b : Binding} → Split Contexts (nt E) t C s b → SplitsE t C s × (b ≡ [])
+splits_of_e : {t C s : Tree} {b : Binding} → Split Contexts (nt E) t C s b → SplitsE t C s × (b ≡ no_names)
 splits_of_e {t = t} {C = C} {s = s} h =
     let k = nt_splits h in (by_form k.0.pattern ((alternatives_of-all Contexts E refl k.0.pattern).1 k.0.alternative) k.0.split, k.1)
   where
@@ -347,10 +349,10 @@ hole_no_list : NoList the_hole
 hole_no_list m ts d = absurd cc
 
 -- E splits what is no list into the hole and itself
-splits_of_atom : {t C s : Tree} {b : Binding} → NoList t → Split Contexts (nt E) t C s b → (C ≡ the_hole) × (s ≡ t) × (b ≡ [])
+splits_of_atom : {t C s : Tree} {b : Binding} → NoList t → Split Contexts (nt E) t C s b → (C ≡ the_hole) × (s ≡ t) × (b ≡ no_names)
 splits_of_atom {t = t} {C = C} {s = s} {b = b} n h = let k = splits_of_e h in by_way k.0 k.1
   where
-    by_way : SplitsE t C s → b ≡ [] → (C ≡ the_hole) × (s ≡ t) × (b ≡ [])
+    by_way : SplitsE t C s → b ≡ no_names → (C ≡ the_hole) × (s ≡ t) × (b ≡ no_names)
     by_way (as_hole c p) d = (c, p, d)
     by_way (on_left g) d = let w = seq_splits g in absurd (n w.mark w.items w.same)
     by_way (on_right g) d = let w = seq_splits g in absurd (n w.mark w.items w.same)
@@ -361,7 +363,7 @@ data SplitsPair (m : Option ℕ) (t u C s : Tree) : Type 0 where
   at_left : C ≡ marked_first the_hole u → s ≡ t → SplitsPair m t u C s
   at_right : C ≡ marked_second t the_hole → s ≡ u → SplitsPair m t u C s
 
-splits_of_pair : {m : Option ℕ} {t u C s : Tree} {b : Binding} → NoList t → NoList u → Split Contexts (nt E) (list m (cons t (cons u no_trees))) C s b → SplitsPair m t u C s × (b ≡ [])
+splits_of_pair : {m : Option ℕ} {t u C s : Tree} {b : Binding} → NoList t → NoList u → Split Contexts (nt E) (list m (cons t (cons u no_trees))) C s b → SplitsPair m t u C s × (b ≡ no_names)
 splits_of_pair {m = m} {t = t} {u = u} {C = C} {s = s} n o h = let k = splits_of_e h in (by_way k.0, k.1)
   where
     of_left : {c : Binding} → Halves Contexts (nt E) any t u C s c → SplitsPair m t u C s
@@ -378,20 +380,20 @@ splits_of_pair {m = m} {t = t} {u = u} {C = C} {s = s} n o h = let k = splits_of
     by_way (on_right g) = of_right (halves g)
 
 -- it splits each term so
-e_whole : (t : Tree) → Split Contexts (nt E) t the_hole t []
+e_whole : (t : Tree) → Split Contexts (nt E) t the_hole t no_names
 e_whole t = by_alternative (here refl) split_hole
 
-e_left : (m : Option ℕ) (t u : Tree) → Split Contexts (nt E) (list m (cons t (cons u no_trees))) (marked_first the_hole u) t []
-e_left m t u = by_alternative (there (here refl)) (split_first (e_whole t) (any_term u) (unit_left [] tt))
+e_left : (m : Option ℕ) (t u : Tree) → Split Contexts (nt E) (list m (cons t (cons u no_trees))) (marked_first the_hole u) t no_names
+e_left m t u = by_alternative (there (here refl)) (split_first (e_whole t) (any_term u) none_left)
 
-e_right : (m : Option ℕ) (t u : Tree) → Split Contexts (nt E) (list m (cons t (cons u no_trees))) (marked_second t the_hole) u []
-e_right m t u = by_alternative (there (there (here refl))) (split_second (any_term t) (e_whole u) (unit_left [] tt))
+e_right : (m : Option ℕ) (t u : Tree) → Split Contexts (nt E) (list m (cons t (cons u no_trees))) (marked_second t the_hole) u no_names
+e_right m t u = by_alternative (there (there (here refl))) (split_second (any_term t) (e_whole u) none_left)
 
 pub at_either_hole : AtEitherHole
-at_either_hole = listed members ascending each only
+at_either_hole = splits_listed (refl, (refl, (refl, tt))) (listed members ascending each only)
   where
     members : List Decomposition
-    members = split_into the_hole (list_of_two the_hole the_hole) [] ∷ split_into first_marked the_hole [] ∷ split_into second_marked the_hole [] ∷ []
+    members = split_into the_hole (list_of_two the_hole the_hole) no_names ∷ split_into first_marked the_hole no_names ∷ split_into second_marked the_hole no_names ∷ []
 
     ascending : IsAscending decomposition_cmp members
     ascending = ((refl, (refl, tt)), ((refl, tt), (tt, tt)))
@@ -399,7 +401,7 @@ at_either_hole = listed members ascending each only
     each : HoldsOfAll (SplitsInto Contexts (nt E) (list_of_two the_hole the_hole)) members
     each = (e_whole (list_of_two the_hole the_hole), (e_left None the_hole the_hole, (e_right None the_hole the_hole, tt)))
 
-    by_place : (d : Decomposition) → SplitsPair None the_hole the_hole d.context d.part → d.binding ≡ [] → In d members
+    by_place : (d : Decomposition) → SplitsPair None the_hole the_hole d.context d.part → d.binding ≡ no_names → In d members
     by_place d (as_whole c p) b = here (is_split d c p b)
     by_place d (at_left c p) b = there (here (is_split d c p b))
     by_place d (at_right c p) b = there (there (here (is_split d c p b)))
@@ -418,7 +420,7 @@ record InHoleOfE (q : Pattern) (t : Tree) (b : Binding) : Type 0 where
   pub context : Tree
   pub part : Tree
   pub inner : Binding
-  pub split : Split Contexts (nt E) t context part []
+  pub split : Split Contexts (nt E) t context part no_names
   pub matched : Match Contexts q part inner
   pub joined : IsJoin (binds (codes "E_1") context) inner b
 
@@ -426,8 +428,8 @@ in_hole_of_e : {q : Pattern} {t : Tree} {b : Binding} → Match Contexts (in_hol
 in_hole_of_e {t = t} h =
     let k = in_hole_inside h in
     let n = named_splits k.split in
-    let none : n.inside ≡ [] = (splits_of_e n.split).1 in
-    let named : k.outer ≡ binds (codes "E_1") k.context = unit_left-only (tt, tt) (joined_by none refl n.joined) in
+    let none : n.inside ≡ no_names = (splits_of_e n.split).1 in
+    let named : k.outer ≡ binds (codes "E_1") k.context = one_left-only (joined_by none refl n.joined) in
     record {
       context = k.context;
       part = k.part;
@@ -438,9 +440,9 @@ in_hole_of_e {t = t} h =
     }
 
 -- and each such is a match
-in_hole_by_e : {q : Pattern} {t C s : Tree} {d b : Binding} → Split Contexts (nt E) t C s [] → Match Contexts q s d → IsJoin (binds (codes "E_1") C) d b
+in_hole_by_e : {q : Pattern} {t C s : Tree} {d b : Binding} → Split Contexts (nt E) t C s no_names → Match Contexts q s d → IsJoin (binds (codes "E_1") C) d b
     → Match Contexts (in_hole E_1 q) t b
-in_hole_by_e {C = C} h g j = match_in_hole (split_named h (unit_left (binds (codes "E_1") C) (tt, tt))) g j
+in_hole_by_e {C = C} h g j = match_in_hole (split_named h (unit_left (binds (codes "E_1") C) ((tt, tt), (tt, tt)))) g j
 
 -- E_1 and number_1 together
 in_place_joined : (C t : Tree) → IsJoin (binds (codes "E_1") C) (binds (codes "number_1") t) (in_place C t)
@@ -451,10 +453,10 @@ abbrev number_1 : Pattern
 number_1 = named (codes "number_1") number
 
 number_1_matches : (n : ℕ) → Match Contexts number_1 (int n) (binds (codes "number_1") (int n))
-number_1_matches n = match_named (match_kind refl) (unit_left (binds (codes "number_1") (int n)) (tt, tt))
+number_1_matches n = match_named (match_kind refl) (unit_left (binds (codes "number_1") (int n)) ((tt, tt), (tt, tt)))
 
 pub in_each_place : InEachPlace
-in_each_place = listed members ((refl, tt), (tt, tt)) each only
+in_each_place = matches_listed (refl, (refl, tt)) (listed members ((refl, tt), (tt, tt)) each only)
   where
     members : List Binding
     members = in_place (marked_first the_hole (int 2)) (int 1) ∷ in_place (marked_second (int 1) the_hole) (int 2) ∷ []
@@ -465,7 +467,7 @@ in_each_place = listed members ((refl, tt), (tt, tt)) each only
       (in_hole_by_e (e_right None (int 1) (int 2)) (number_1_matches 2) (in_place_joined (marked_second (int 1) the_hole) (int 2)), tt),
     )
 
-    placed : (b : Binding) (C s : Tree) → SplitsPair None (int 1) (int 2) C s → Match Contexts number s [] → b ≡ in_place C s → In b members
+    placed : (b : Binding) (C s : Tree) → SplitsPair None (int 1) (int 2) C s → Match Contexts number s no_names → b ≡ in_place C s → In b members
     placed b C s (as_whole c p) g d = absurd (no_number p g)
     placed b C s (at_left c p) g d = here (d ∙ (λ i. in_place (c i) (p i)))
     placed b C s (at_right c p) g d = there (here (d ∙ (λ i. in_place (c i) (p i))))
@@ -474,7 +476,7 @@ in_each_place = listed members ((refl, tt), (tt, tt)) each only
     only b h =
         let k = in_hole_of_e h in
         let n = named_inside k.matched in
-        let g : Match Contexts number k.part [] = subst (λ (c : Binding). Match Contexts number k.part c) (kind_binds n.matched) n.matched in
+        let g : Match Contexts number k.part no_names = subst (λ (c : Binding). Match Contexts number k.part c) (kind_binds n.matched) n.matched in
         let j : IsJoin (binds (codes "E_1") k.context) (binds (codes "number_1") k.part) b = joined_by refl (named_kind_binds k.matched) k.joined in
         placed b k.context k.part (splits_of_pair (int_no_list 1) (int_no_list 2) k.split).0 g (one_join _ _ b (in_place k.context k.part) j (in_place_joined k.context k.part))
 
@@ -487,30 +489,30 @@ number_in : {m : Option ℕ} {t u : Tree} {b : Binding} → NoList t → NoList 
 number_in {m = m} {t = t} {u = u} {b = b} n o h =
     let k = in_hole_of_e h in
     by_place k.context k.part (splits_of_pair n o k.split).0 (subst (λ (c : Binding). Match Contexts number k.part c) (kind_binds k.matched) k.matched)
-    (unit_right-only (tt, tt) (joined_by refl (kind_binds k.matched) k.joined))
+    (one_right-only (joined_by refl (kind_binds k.matched) k.joined))
   where
-    by_place : (C s : Tree) → SplitsPair m t u C s → Match Contexts number s [] → b ≡ binds (codes "E_1") C → NumberIn t u b
+    by_place : (C s : Tree) → SplitsPair m t u C s → Match Contexts number s no_names → b ≡ binds (codes "E_1") C → NumberIn t u b
     by_place C s (as_whole c p) g d = absurd (no_number p g)
     by_place C s (at_left c p) g d =
-        number_left (kind_matches (subst (λ (x : Tree). Match Contexts number x []) p g)) (d ∙ ap (binds (codes "E_1")) c)
+        number_left (kind_matches (subst (λ (x : Tree). Match Contexts number x no_names) p g)) (d ∙ ap (binds (codes "E_1")) c)
     by_place C s (at_right c p) g d =
-        number_right (kind_matches (subst (λ (x : Tree). Match Contexts number x []) p g)) (d ∙ ap (binds (codes "E_1")) c)
+        number_right (kind_matches (subst (λ (x : Tree). Match Contexts number x no_names) p g)) (d ∙ ap (binds (codes "E_1")) c)
 
 number_at_left : (n : ℕ) (u : Tree) → Match Contexts (in_hole E_1 number) (list_of_two (int n) u) (binds (codes "E_1") (marked_first the_hole u))
-number_at_left n u = in_hole_by_e (e_left None (int n) u) (match_kind refl) (unit_right (binds (codes "E_1") (marked_first the_hole u)) (tt, tt))
+number_at_left n u = in_hole_by_e (e_left None (int n) u) (match_kind refl) (unit_right (binds (codes "E_1") (marked_first the_hole u)) ((tt, tt), (tt, tt)))
 
 -- E_1 does not stand for two contexts of which the one is less than the other
 two_contexts : {a b s : Binding} (C D : Tree) → value_cmp (one_term C) (one_term D) ≡ Less → a ≡ binds (codes "E_1") C → b ≡ binds (codes "E_1") D → IsJoin a b s → ⊥
 two_contexts {s = s} C D l d c j = two_values (codes "E_1") (one_term C) (one_term D) s l (joined_by d c j)
 
 pub equal_contexts : EqualContexts
-equal_contexts = one_alone same (two same same (number_at_left 1 (int 2)) (number_at_left 3 (int 2)) (joined_itself same (tt, tt))) only
+equal_contexts = matches_listed (refl, tt) (one_alone same (two same same (number_at_left 1 (int 2)) (number_at_left 3 (int 2)) (joined_itself same ((tt, tt), (tt, tt)) refl)) only)
   where
     same : Binding
     same = binds (codes "E_1") (marked_first the_hole (int 2))
 
     by_places : {a b s : Binding} → NumberIn (int 1) (int 2) a → NumberIn (int 3) (int 2) b → IsJoin a b s → s ≡ same
-    by_places (number_left h d) (number_left i c) j = joined_itself-only (tt, tt) (joined_by d c j)
+    by_places (number_left h d) (number_left i c) j = one_itself-only (joined_by d c j)
     by_places (number_left h d) (number_right i c) j = absurd (two_contexts (marked_first the_hole (int 2)) (marked_second (int 3) the_hole) refl d c j)
     by_places {a} {b} {s} (number_right h d) (number_left i c) j =
         absurd (two_contexts (marked_first the_hole (int 2)) (marked_second (int 1) the_hole) refl c d (turned_join a b s j))
@@ -522,7 +524,7 @@ equal_contexts = one_alone same (two same same (number_at_left 1 (int 2)) (numbe
         by_places (number_in (int_no_list 1) (int_no_list 2) k.matches_first) (number_in (int_no_list 3) (int_no_list 2) k.matches_second) k.joined
 
 pub contexts_with_marks : ContextsWithMarks
-contexts_with_marks = no_member none
+contexts_with_marks = matches_listed tt (no_member none)
   where
     by_places : {a b s : Binding} → NumberIn (int 1) the_hole a → NumberIn the_hole (int 2) b → IsJoin a b s → ⊥
     by_places (number_left h d) (number_left i c) j = let k : false ≡ true = i in absurd cc
@@ -538,15 +540,15 @@ contexts_with_marks = no_member none
 
 pub hidden_splits_nothing : HiddenSplitsNothing
 hidden_splits_nothing = (
-  one_alone [] (match_hide_hole match_hole) (λ b h. (hole_inside (hide_hole_inside h)).1),
-  no_member (λ d h. hide_hole_splits h),
-  one_alone (split_into the_hole the_hole []) split_hole (λ d h. let k = hole_splits h in is_split d k.0 k.1 k.2),
+  matches_listed (refl, tt) (one_alone no_names (match_hide_hole match_hole) (λ b h. (hole_inside (hide_hole_inside h)).1)),
+  splits_listed tt (no_member (λ d h. hide_hole_splits h)),
+  splits_listed (refl, tt) (one_alone (split_into the_hole the_hole no_names) split_hole (λ d h. let k = hole_splits h in is_split d k.0 k.1 k.2)),
 )
 
 -- how `(hole hole)` splits a list of two
 pub data AtOneHole (t u : Tree) (C s : Tree) (b : Binding) : Type 0 where
-  first_hole : u ≡ the_hole → C ≡ marked_first the_hole u → s ≡ t → b ≡ [] → AtOneHole t u C s b
-  second_hole : t ≡ the_hole → C ≡ marked_second t the_hole → s ≡ u → b ≡ [] → AtOneHole t u C s b
+  first_hole : u ≡ the_hole → C ≡ marked_first the_hole u → s ≡ t → b ≡ no_names → AtOneHole t u C s b
+  second_hole : t ≡ the_hole → C ≡ marked_second t the_hole → s ≡ u → b ≡ no_names → AtOneHole t u C s b
 
 at_one_hole : {m : Option ℕ} {t u C s : Tree} {b : Binding} → Split Contexts (seq_of_two hole hole) (list m (cons t (cons u no_trees))) C s b → AtOneHole t u C s b
 at_one_hole {t = t} {u = u} {C = C} {s = s} {b = b} h = by_half (halves h)
@@ -555,28 +557,28 @@ at_one_hole {t = t} {u = u} {C = C} {s = s} {b = b} h = by_half (halves h)
     by_half (in_first d g i j) =
         let k = hole_splits g in
         let n = hole_inside i in
-        first_hole n.0 (d ∙ ap (λ (x : Tree). marked_first x u) k.0) k.1 (unit_left-only tt (joined_by k.2 n.1 j))
+        first_hole n.0 (d ∙ ap (λ (x : Tree). marked_first x u) k.0) k.1 (none_left-only (joined_by k.2 n.1 j))
     by_half (in_second d g i j) =
         let k = hole_splits i in
         let n = hole_inside g in
-        second_hole n.0 (d ∙ ap (λ (x : Tree). marked_second t x) k.0) k.1 (unit_left-only tt (joined_by n.1 k.2 j))
+        second_hole n.0 (d ∙ ap (λ (x : Tree). marked_second t x) k.0) k.1 (none_left-only (joined_by n.1 k.2 j))
 
 -- the list `(hole hole)`, split at either item
 abbrev pub at_either_item : List Decomposition
-at_either_item = split_into first_marked the_hole [] ∷ split_into second_marked the_hole [] ∷ []
+at_either_item = split_into first_marked the_hole no_names ∷ split_into second_marked the_hole no_names ∷ []
 
 pub is_either : (d : Decomposition) → AtOneHole the_hole the_hole d.context d.part d.binding → In d at_either_item
 is_either d (first_hole n c p b) = here (is_split d c p b)
 is_either d (second_hole n c p b) = there (here (is_split d c p b))
 
 pub one_item_splits : OneItemSplits
-one_item_splits = listed at_either_item ((refl, tt), (tt, tt)) each (λ d h. is_either d (at_one_hole h))
+one_item_splits = splits_listed (refl, (refl, tt)) (listed at_either_item ((refl, tt), (tt, tt)) each (λ d h. is_either d (at_one_hole h)))
   where
     each : HoldsOfAll (SplitsInto Contexts (seq_of_two hole hole) (list_of_two the_hole the_hole)) at_either_item
-    each = (split_first split_hole match_hole (unit_left [] tt), (split_second match_hole split_hole (unit_left [] tt), tt))
+    each = (split_first split_hole match_hole none_left, (split_second match_hole split_hole none_left, tt))
 
 pub never_at_both : NeverAtBoth
-never_at_both = no_member (λ d h. by_hole (at_one_hole h))
+never_at_both = splits_listed tt (no_member (λ d h. by_hole (at_one_hole h)))
   where
     by_hole : {C s : Tree} {b : Binding} → AtOneHole (int 1) (int 2) C s b → ⊥
     by_hole (first_hole n c p d) = absurd cc
@@ -586,30 +588,30 @@ never_at_both = no_member (λ d h. by_hole (at_one_hole h))
 
 -- `(hole any)` splits a list of two at its first item
 at_first_item : {m : Option ℕ} {t u C s : Tree} {b : Binding} → Split Contexts (seq_of_two hole any) (list m (cons t (cons u no_trees))) C s b
-    → (C ≡ marked_first the_hole u) × (s ≡ t) × (b ≡ [])
+    → (C ≡ marked_first the_hole u) × (s ≡ t) × (b ≡ no_names)
 at_first_item {t = t} {u = u} {C = C} {s = s} {b = b} h = by_half (halves h)
   where
-    by_half : Halves Contexts hole any t u C s b → (C ≡ marked_first the_hole u) × (s ≡ t) × (b ≡ [])
-    by_half (in_first d g i j) = let k = hole_splits g in (d ∙ ap (λ (x : Tree). marked_first x u) k.0, k.1, unit_left-only tt (joined_by k.2 (kind_binds i) j))
+    by_half : Halves Contexts hole any t u C s b → (C ≡ marked_first the_hole u) × (s ≡ t) × (b ≡ no_names)
+    by_half (in_first d g i j) = let k = hole_splits g in (d ∙ ap (λ (x : Tree). marked_first x u) k.0, k.1, none_left-only (joined_by k.2 (kind_binds i) j))
     by_half (in_second d g i j) = absurd (kind_splits i)
 
 -- and `(any hole)` at its second
 at_second_item : {m : Option ℕ} {t u C s : Tree} {b : Binding} → Split Contexts (seq_of_two any hole) (list m (cons t (cons u no_trees))) C s b
-    → (C ≡ marked_second t the_hole) × (s ≡ u) × (b ≡ [])
+    → (C ≡ marked_second t the_hole) × (s ≡ u) × (b ≡ no_names)
 at_second_item {t = t} {u = u} {C = C} {s = s} {b = b} h = by_half (halves h)
   where
-    by_half : Halves Contexts any hole t u C s b → (C ≡ marked_second t the_hole) × (s ≡ u) × (b ≡ [])
+    by_half : Halves Contexts any hole t u C s b → (C ≡ marked_second t the_hole) × (s ≡ u) × (b ≡ no_names)
     by_half (in_first d g i j) = absurd (kind_splits g)
-    by_half (in_second d g i j) = let k = hole_splits i in (d ∙ ap (λ (x : Tree). marked_second t x) k.0, k.1, unit_left-only tt (joined_by (kind_binds g) k.2 j))
+    by_half (in_second d g i j) = let k = hole_splits i in (d ∙ ap (λ (x : Tree). marked_second t x) k.0, k.1, none_left-only (joined_by (kind_binds g) k.2 j))
 
 pub context_in_context : ContextInContext
-context_in_context = one_alone (split_into nested (int 2) (binds (codes "x") nested)) split only
+context_in_context = splits_listed (refl, tt) (one_alone (split_into nested (int 2) (binds (codes "x") nested)) split only)
   where
     split : Split Contexts (named (codes "x") (in_hole (seq_of_two hole any) (seq_of_two any hole))) (list_of_two (list_of_two (int 1) (int 2)) (int 3)) nested (int 2) (binds (codes "x") nested)
     split =
         split_named
-        (split_in_hole (split_first split_hole (any_term (int 3)) (unit_left [] tt)) (split_second (any_term (int 1)) split_hole (unit_left [] tt)) refl (unit_left [] tt))
-        (unit_left (binds (codes "x") nested) (tt, tt))
+        (split_in_hole (split_first split_hole (any_term (int 3)) none_left) (split_second (any_term (int 1)) split_hole none_left) refl none_left)
+        (unit_left (binds (codes "x") nested) ((tt, tt), (tt, tt)))
 
     only : (d : Decomposition) → SplitsInto Contexts (named (codes "x") (in_hole (seq_of_two hole any) (seq_of_two any hole))) (list_of_two (list_of_two (int 1) (int 2)) (int 3)) d → d ≡ split_into nested (int 2) (binds (codes "x") nested)
     only d h =
@@ -618,23 +620,23 @@ context_in_context = one_alone (split_into nested (int 2) (binds (codes "x") nes
         let o = at_first_item k.split in
         let i = at_second_item (subst (λ (x : Tree). Split Contexts (seq_of_two any hole) x k.second d.part k.inner) o.1 k.again) in
         let c : d.context ≡ nested = k.filled ∙ (λ j. fill_of (o.0 j) (i.0 j)) in
-        let none : n.inside ≡ [] = unit_left-only tt (joined_by o.2 i.2 k.joined) in
-        is_split d c i.1 (unit_left-only (tt, tt) (joined_by none refl n.joined) ∙ ap (binds (codes "x")) c)
+        let none : n.inside ≡ no_names = none_left-only (joined_by o.2 i.2 k.joined) in
+        is_split d c i.1 (one_left-only (joined_by none refl n.joined) ∙ ap (binds (codes "x")) c)
 
 pub name_of_a_term : NameOfATerm
-name_of_a_term = one_alone (binds (codes "x") (list_of_two (int 1) (int 2))) matched only
+name_of_a_term = matches_listed (refl, tt) (one_alone (binds (codes "x") (list_of_two (int 1) (int 2))) matched only)
   where
     matched : Match Contexts (named (codes "x") (in_hole (seq_of_two hole any) number)) (list_of_two (int 1) (int 2)) (binds (codes "x") (list_of_two (int 1) (int 2)))
     matched =
-        match_named (match_in_hole (split_first split_hole (any_term (int 2)) (unit_left [] tt)) (match_kind refl) (unit_left [] tt))
-        (unit_left (binds (codes "x") (list_of_two (int 1) (int 2))) (tt, tt))
+        match_named (match_in_hole (split_first split_hole (any_term (int 2)) none_left) (match_kind refl) none_left)
+        (unit_left (binds (codes "x") (list_of_two (int 1) (int 2))) ((tt, tt), (tt, tt)))
 
     only : (b : Binding) → Match Contexts (named (codes "x") (in_hole (seq_of_two hole any) number)) (list_of_two (int 1) (int 2)) b → b ≡ binds (codes "x") (list_of_two (int 1) (int 2))
     only b h =
         let n = named_inside h in
         let k = in_hole_inside n.matched in
-        let none : n.inside ≡ [] = unit_left-only tt (joined_by (at_first_item k.split).2 (kind_binds k.matched) k.joined) in
-        unit_left-only (tt, tt) (joined_by none refl n.joined)
+        let none : n.inside ≡ no_names = none_left-only (joined_by (at_first_item k.split).2 (kind_binds k.matched) k.joined) in
+        one_left-only (joined_by none refl n.joined)
 
 -- ---- Empty patterns
 

@@ -1,5 +1,5 @@
 -- A pattern has finitely many bindings and splits at a term where those that it is made of have, for each form of pattern.
-use Rattle.std.proofs.Common.{◌≡◌, ℕ, zero, suc, Bool, true, false, ◌⊎◌, inl, inr, List, [], Option, Some, refl, sym, subst}
+use Rattle.std.proofs.Common.{◌≡◌, ℕ, zero, suc, Bool, true, false, ◌⊎◌, inl, inr, List, Option, Some, refl, sym, subst}
 use Rattle.std.specs.Prelude.{eqb}
 use Rattle.std.specs.List.{starts_with}
 use Rattle.rdx_term.specs.Bare.{bare}
@@ -7,26 +7,26 @@ use Rattle.rdx_term.specs.Fill.{fill_of}
 use Rattle.rdx_term.specs.Items.{put_at}
 use Rattle.rdx_term.specs.Tree as tree
 use Rattle.rdx_term.specs.Tree.{Tree, Trees}
-use Rattle.rdx_lang.specs.Bindings.{Binding, one_name}
+use Rattle.rdx_lang.specs.Bindings.{Binding, no_names, one_name, one_differs, HasAscendingNames}
 use Rattle.rdx_lang.specs.Bindings.{one as one_term}
 use Rattle.rdx_lang.specs.Decompositions.{Decomposition}
 use Rattle.rdx_lang.specs.Inside.Alternatives.{AnyAlternative, AnySplit}
 use Rattle.rdx_lang.specs.Join.{IsJoin}
 use Rattle.rdx_lang.specs.Listing.{SplitsInto}
 use Rattle.rdx_lang.specs.Members.{In}
-use Rattle.rdx_lang.specs.Patterns.{Pattern, wild, of_kind, except, prefix, hole, lit, nt, named, in_hole, hide_hole, closed, seq, Items, nil, one, Definition, Language}
+use Rattle.rdx_lang.specs.Patterns.{Pattern, wild, of_kind, except, prefix, hole, lit, nt, named, differ, in_hole, hide_hole, closed, seq, Items, nil, one, Definition, Language}
 use Rattle.rdx_lang.specs.References.{is_same}
-use Rattle.rdx_lang.specs.Rules.{Match, MatchItems, IsAlternative, is_of_kind, is_one_of, match_wild, match_kind, match_except, match_prefix, match_hole, match_lit, match_nt, match_named, match_in_hole, match_hide_hole, match_closed, match_seq, match_none, match_one}
-use Rattle.rdx_lang.specs.Rules.{Split, SplitItems, split_hole, split_nt, split_named, split_in_hole, split_closed, split_seq, split_here, split_behind}
+use Rattle.rdx_lang.specs.Rules.{Match, MatchItems, IsAlternative, is_of_kind, is_one_of, match_wild, match_kind, match_except, match_prefix, match_hole, match_lit, match_nt, match_named, match_differ, match_in_hole, match_hide_hole, match_closed, match_seq, match_none, match_one}
+use Rattle.rdx_lang.specs.Rules.{Split, SplitItems, split_hole, split_nt, split_named, split_differ, split_in_hole, split_closed, split_seq, split_here, split_behind}
 use Rattle.rdx_lang.specs.declared.pattern.Kind.{Kind}
 use Rattle.rdx_lang.specs.declared.pattern.Ref.{Ref}
 use Rattle.rdx_lang.proofs.Finite.{Finite, Comes, IsImage, finite_none, finite_one, finite_as, finite_either, finite_comes, finite_by, finite_images}
 use Rattle.rdx_lang.proofs.FiniteJoins.{same_terms, finite_joins, finite_made}
 use Rattle.rdx_lang.proofs.NameLaws.{match-ascends, items-ascends, split-ascends, split_items-ascends}
 use Rattle.rdx_lang.proofs.Recursion.{Decided, same-by}
-use Rattle.rdx_lang.proofs.RuleSteps.{wild_inside, kind_inside, hole_inside, lit_inside, nt_inside, named_inside, in_hole_inside, hide_hole_inside, closed_inside, seq_inside, list_inside, none_inside, item_inside}
-use Rattle.rdx_lang.proofs.RuleSteps.{wild_splits, kind_splits, except_splits, prefix_splits, lit_splits, hide_hole_splits, hole_splits, nt_splits, named_splits, in_hole_splits, closed_splits, seq_splits, item_splits, none_splits}
-use Rattle.rdx_lang.proofs.RuleSteps.{NamedParts, ItemParts, InHoleParts, NamedSplit, InHoleSplit, ItemSplit, at_first, at_later}
+use Rattle.rdx_lang.proofs.RuleSteps.{wild_inside, kind_inside, hole_inside, lit_inside, nt_inside, named_inside, differ_inside, in_hole_inside, hide_hole_inside, closed_inside, seq_inside, list_inside, none_inside, item_inside}
+use Rattle.rdx_lang.proofs.RuleSteps.{wild_splits, kind_splits, except_splits, prefix_splits, lit_splits, hide_hole_splits, hole_splits, nt_splits, named_splits, differ_splits, in_hole_splits, closed_splits, seq_splits, item_splits, none_splits}
+use Rattle.rdx_lang.proofs.RuleSteps.{NamedParts, DifferParts, ItemParts, InHoleParts, NamedSplit, DifferSplit, InHoleSplit, ItemSplit, at_first, at_later}
 
 -- p matches t with finitely many bindings, and splits it in finitely many ways
 pub record FinitelyMany (L : Language) (p : Pattern) (t : Tree) : Type 0 where
@@ -55,11 +55,11 @@ with_binding d b = record { context = d.context; part = d.part; binding = b }
 
 -- no names, whatever was bound
 abbrev no_names_of : Binding → Binding
-no_names_of c = []
+no_names_of c = no_names
 
 -- the same context and part, with no names
 abbrev nameless : Decomposition → Decomposition
-nameless d = with_binding d []
+nameless d = with_binding d no_names
 
 -- the second context in the hole of the first, with the second part and this binding
 abbrev inside_of : Decomposition → Decomposition → Binding → Decomposition
@@ -84,8 +84,8 @@ as_later x b = record { place = suc x.place; inner = with_binding x.inner b }
 -- ---- patterns without parts
 
 -- one binding or none, by a test
-finite_when : (R : Binding → Type 0) (b : Bool) → (b ≡ true → R []) → ((c : Binding) → R c → (b ≡ true) × (c ≡ [])) → Finite R
-finite_when R true f g = finite_one R [] (f refl) (λ c r. (g c r).1)
+finite_when : (R : Binding → Type 0) (b : Bool) → (b ≡ true → R no_names) → ((c : Binding) → R c → (b ≡ true) × (c ≡ no_names)) → Finite R
+finite_when R true f g = finite_one R no_names (f refl) (λ c r. (g c r).1)
 finite_when R false f g = finite_none R (λ c r. let e = (g c r).0 in absurd cc)
 
 module _ (L : Language) where
@@ -95,7 +95,7 @@ module _ (L : Language) where
 
   -- `_`
   pub finite_wild : (t : Tree) → FinitelyMany L wild t
-  finite_wild t = no_splits wild t (finite_one (Match L wild t) [] match_wild (λ b m. wild_inside m)) (λ C s b h. wild_splits h)
+  finite_wild t = no_splits wild t (finite_one (Match L wild t) no_names match_wild (λ b m. wild_inside m)) (λ C s b h. wild_splits h)
 
   -- a built-in name
   pub finite_kind : (k : Kind) (t : Tree) → FinitelyMany L (of_kind k) t
@@ -117,9 +117,9 @@ module _ (L : Language) where
         where
           excluded : (c : Binding) → Match L (except rs) (tree.symbol x) c → ⊥
           excluded c (match_except f) = absurd cc
-      by_test false e = finite_one (Match L (except rs) (tree.symbol x)) [] (match_except e) one_way
+      by_test false e = finite_one (Match L (except rs) (tree.symbol x)) no_names (match_except e) one_way
         where
-          one_way : (c : Binding) → Match L (except rs) (tree.symbol x) c → c ≡ []
+          one_way : (c : Binding) → Match L (except rs) (tree.symbol x) c → c ≡ no_names
           one_way c (match_except f) = refl
   excepted rs (tree.list m ts) = finite_none (Match L (except rs) (tree.list m ts)) (λ b k. elim k [ ])
 
@@ -135,7 +135,7 @@ module _ (L : Language) where
   prefixed r (tree.text x) = finite_none (Match L (prefix r) (tree.text x)) (λ b m. elim m [ ])
   prefixed r (tree.symbol x) = finite_when (Match L (prefix r) (tree.symbol x)) (starts_with eqb x r) (λ e. match_prefix e) one_way
     where
-      one_way : (c : Binding) → Match L (prefix r) (tree.symbol x) c → (starts_with eqb x r ≡ true) × (c ≡ [])
+      one_way : (c : Binding) → Match L (prefix r) (tree.symbol x) c → (starts_with eqb x r ≡ true) × (c ≡ no_names)
       one_way c (match_prefix f) = (f, refl)
   prefixed r (tree.list m ts) = finite_none (Match L (prefix r) (tree.list m ts)) (λ b k. elim k [ ])
 
@@ -148,7 +148,7 @@ module _ (L : Language) where
   finite_lit u t = no_splits (lit u) t (by_test (same_terms (bare t) (bare u))) (λ C s b h. lit_splits h)
     where
       by_test : Decided (bare t ≡ bare u) → Finite (Match L (lit u) t)
-      by_test (inl e) = finite_one (Match L (lit u) t) [] (match_lit e) (λ b m. (lit_inside m).1)
+      by_test (inl e) = finite_one (Match L (lit u) t) no_names (match_lit e) (λ b m. (lit_inside m).1)
       by_test (inr n) = finite_none (Match L (lit u) t) (λ b m. n (lit_inside m).0)
 
   -- `hole` matches the hole, and splits each term in one way
@@ -159,47 +159,80 @@ module _ (L : Language) where
   }
     where
       by_test : Decided (t ≡ tree.hole) → Finite (Match L hole t)
-      by_test (inl e) = finite_one (Match L hole t) [] (subst (λ (u : Tree). Match L hole u []) (sym e) match_hole) (λ b m. (hole_inside m).1)
+      by_test (inl e) = finite_one (Match L hole t) no_names (subst (λ (u : Tree). Match L hole u no_names) (sym e) match_hole) (λ b m. (hole_inside m).1)
       by_test (inr n) = finite_none (Match L hole t) (λ b m. n (hole_inside m).0)
 
       whole : Decomposition
-      whole = record { context = tree.hole; part = t; binding = [] }
+      whole = record { context = tree.hole; part = t; binding = no_names }
 
       one_way : (d : Decomposition) → SplitsInto L hole t d → d ≡ whole
       one_way d h = let e = hole_splits h in λ i. record { context = e.0 i; part = e.1 i; binding = e.2 i }
 
-  -- ---- patterns with a name
+  -- ---- patterns with a name, or with a mismatch name
 
-  -- b is c joined with the name for the term
-  abbrev NameJoined : List ℕ → Tree → Binding → Binding → Type 0
-  NameJoined x t c b = IsJoin c (one_name x (one_term t)) b
+  module _ (added : Tree → Binding) (maps : (u : Tree) → HasAscendingNames (added u)) where
+    -- b is c joined with what is added for the term
+    abbrev AddedTo : Tree → Binding → Binding → Type 0
+    AddedTo t c b = IsJoin c (added t) b
 
-  -- e is d with the name for the context
-  abbrev NameMade : List ℕ → Decomposition → Decomposition → Type 0
-  NameMade x d e = IsImage (NameJoined x d.context d.binding) (with_binding d) e
+    -- e is d with what is added for the context
+    abbrev AddedInto : Decomposition → Decomposition → Type 0
+    AddedInto d e = IsImage (AddedTo d.context d.binding) (with_binding d) e
+
+    -- p matches and splits as q does, with something added
+    finite_added : (p q : Pattern) (t : Tree)
+        → ((b : Binding) → Comes (Match L q t) (AddedTo t) b → Match L p t b)
+        → ((b : Binding) → Match L p t b → Comes (Match L q t) (AddedTo t) b)
+        → ((e : Decomposition) → Comes (SplitsInto L q t) AddedInto e → SplitsInto L p t e)
+        → ((e : Decomposition) → SplitsInto L p t e → Comes (SplitsInto L q t) AddedInto e)
+        → FinitelyMany L q t → FinitelyMany L p t
+    finite_added p q t to_match from_match to_split from_split f = record {
+      matches = finite_by (Match L q t) (AddedTo t) (Match L p t) to_match from_match f.matches joined;
+      splits = finite_by (SplitsInto L q t) AddedInto (SplitsInto L p t) to_split from_split f.splits made;
+    }
+      where
+        joined : (c : Binding) → Match L q t c → Finite (AddedTo t c)
+        joined c m = finite_joins c (added t) (match-ascends m) (maps t)
+
+        made : (d : Decomposition) → SplitsInto L q t d → Finite (AddedInto d)
+        made d h = finite_made (with_binding d) d.binding (added d.context) (split-ascends h) (maps d.context)
 
   -- a pattern with a name, where there are finitely many for its part
   pub finite_named : (x : List ℕ) (q : Pattern) (t : Tree) → FinitelyMany L q t → FinitelyMany L (named x q) t
-  finite_named x q t f = record {
-    matches = finite_by (Match L q t) (NameJoined x t) (Match L (named x q) t) (λ b c. match_named c.has c.by) from_match f.matches joined;
-    splits = finite_by (SplitsInto L q t) (NameMade x) (SplitsInto L (named x q) t) to_split from_split f.splits made;
-  }
+  finite_named x q t f =
+      finite_added (λ u. one_name x (one_term u)) (λ u. ((tt, tt), (tt, tt))) (named x q) q t (λ b c. match_named c.has c.by) from_match to_split from_split f
     where
-      joined : (c : Binding) → Match L q t c → Finite (NameJoined x t c)
-      joined c m = finite_joins c (one_name x (one_term t)) (match-ascends m) (tt, tt)
-
-      made : (d : Decomposition) → SplitsInto L q t d → Finite (NameMade x d)
-      made d h = finite_made (with_binding d) d.binding (one_name x (one_term d.context)) (split-ascends h) (tt, tt)
-
-      from_match : (b : Binding) → Match L (named x q) t b → Comes (Match L q t) (NameJoined x t) b
+      from_match : (b : Binding) → Match L (named x q) t b → Comes (Match L q t) (λ c. IsJoin c (one_name x (one_term t))) b
       from_match b m = let n : NamedParts L x q t b = named_inside m in record { from = n.inside; has = n.matched; by = n.joined }
 
-      to_split : (e : Decomposition) → Comes (SplitsInto L q t) (NameMade x) e → SplitsInto L (named x q) t e
+      to_split : (e : Decomposition)
+          → Comes (SplitsInto L q t) (λ d. IsImage (λ b. IsJoin d.binding (one_name x (one_term d.context)) b) (with_binding d)) e
+          → SplitsInto L (named x q) t e
       to_split e c = subst (SplitsInto L (named x q) t) (sym c.by.by) (split_named c.has c.by.has)
 
-      from_split : (e : Decomposition) → SplitsInto L (named x q) t e → Comes (SplitsInto L q t) (NameMade x) e
+      from_split : (e : Decomposition) → SplitsInto L (named x q) t e
+          → Comes (SplitsInto L q t) (λ d. IsImage (λ b. IsJoin d.binding (one_name x (one_term d.context)) b) (with_binding d)) e
       from_split e h =
           let n : NamedSplit L x q t e.context e.part e.binding = named_splits h in
+          record { from = with_binding e n.inside; has = n.split; by = record { from = e.binding; has = n.joined; by = refl } }
+
+  -- and one with a mismatch name
+  pub finite_differ : (x : List ℕ) (q : Pattern) (t : Tree) → FinitelyMany L q t → FinitelyMany L (differ x q) t
+  finite_differ x q t f =
+      finite_added (one_differs x) (λ u. (tt, ((tt, tt), ((tt, tt), tt)))) (differ x q) q t (λ b c. match_differ c.has c.by) from_match to_split from_split f
+    where
+      from_match : (b : Binding) → Match L (differ x q) t b → Comes (Match L q t) (λ c. IsJoin c (one_differs x t)) b
+      from_match b m = let n : DifferParts L x q t b = differ_inside m in record { from = n.inside; has = n.matched; by = n.joined }
+
+      to_split : (e : Decomposition)
+          → Comes (SplitsInto L q t) (λ d. IsImage (λ b. IsJoin d.binding (one_differs x d.context) b) (with_binding d)) e
+          → SplitsInto L (differ x q) t e
+      to_split e c = subst (SplitsInto L (differ x q) t) (sym c.by.by) (split_differ c.has c.by.has)
+
+      from_split : (e : Decomposition) → SplitsInto L (differ x q) t e
+          → Comes (SplitsInto L q t) (λ d. IsImage (λ b. IsJoin d.binding (one_differs x d.context) b) (with_binding d)) e
+      from_split e h =
+          let n : DifferSplit L x q t e.context e.part e.binding = differ_splits h in
           record { from = with_binding e n.inside; has = n.split; by = record { from = e.binding; has = n.joined; by = refl } }
 
   -- ---- patterns whose names are forgotten
@@ -294,7 +327,7 @@ module _ (L : Language) where
 
       from_match : (b : Binding) → Match L (nt x) t b → Comes (IsAlternative L x) (MatchesAlternative t) b
       from_match b m =
-          let n : AnyAlternative L x t × (b ≡ []) = nt_inside m in
+          let n : AnyAlternative L x t × (b ≡ no_names) = nt_inside m in
           record { from = n.0.pattern; has = n.0.alternative; by = record { from = n.0.binding; has = n.0.matched; by = n.1 } }
 
       to_split : (e : Decomposition) → Comes (IsAlternative L x) (SplitsAlternative t) e → SplitsInto L (nt x) t e
@@ -302,7 +335,7 @@ module _ (L : Language) where
 
       from_split : (e : Decomposition) → SplitsInto L (nt x) t e → Comes (IsAlternative L x) (SplitsAlternative t) e
       from_split e h =
-          let n : AnySplit L x t e.context e.part × (e.binding ≡ []) = nt_splits h in
+          let n : AnySplit L x t e.context e.part × (e.binding ≡ no_names) = nt_splits h in
           record {
             from = n.0.pattern;
             has = n.0.alternative;
@@ -413,7 +446,7 @@ module _ (L : Language) where
   -- no items match no terms
   pub finite_none_left : FinitelyManyItems L nil tree.nil
   finite_none_left = record {
-    matches = finite_one (MatchItems L nil tree.nil) [] match_none (λ b m. none_inside m);
+    matches = finite_one (MatchItems L nil tree.nil) no_names match_none (λ b m. none_inside m);
     splits = finite_none (ItemSplitsInto L nil tree.nil) (λ x h. none_splits h);
   }
 

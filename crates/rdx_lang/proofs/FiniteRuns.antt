@@ -4,8 +4,8 @@ use Rattle.std.proofs.Common.{ℕ, zero, suc, ◌⊎◌, inl, inr, List, [], ◌
 use Rattle.rdx_term.specs.Tree as tree
 use Rattle.rdx_term.specs.Tree.{Tree, Trees}
 use Rattle.rdx_lang.specs.Ascending.{IsAscending}
-use Rattle.rdx_lang.specs.Bindings.{len, Binding, one_name, name_cmp, HasAscendingNames}
-use Rattle.rdx_lang.specs.Collections.{IsCollection, IsRepetition, without_length, with_length}
+use Rattle.rdx_lang.specs.Bindings.{len, Mismatch, Binding, one_name, name_cmp, HasAscendingNames}
+use Rattle.rdx_lang.specs.Collections.{AreSetsOf, IsCollection, IsRepetition, without_length, with_length}
 use Rattle.rdx_lang.specs.Decompositions.{Decomposition}
 use Rattle.rdx_lang.specs.Join.{IsJoin}
 use Rattle.rdx_lang.specs.Listing.{SplitsInto}
@@ -13,8 +13,8 @@ use Rattle.rdx_lang.specs.Names.{names}
 use Rattle.rdx_lang.specs.Patterns.{Pattern, Items, many, Language}
 use Rattle.rdx_lang.specs.Rules.{Match, MatchItems, MatchRun, match_many, run_end, run_more, SplitRun, split_many, run_here, run_there, run_behind}
 use Rattle.rdx_lang.proofs.CollectionLaws.{AreMaps, BindNames, collection-ascends, repetition-ascends, one_collection, some_collection}
-use Rattle.rdx_lang.proofs.Finite.{Finite, Comes, IsImage, finite_one, finite_as, finite_either, finite_comes, finite_by, finite_images}
-use Rattle.rdx_lang.proofs.FiniteJoins.{finite_joins}
+use Rattle.rdx_lang.proofs.Finite.{Finite, Comes, IsImage, finite_none, finite_one, finite_as, finite_either, finite_comes, finite_by, finite_images}
+use Rattle.rdx_lang.proofs.FiniteJoins.{finite_joins, sets_decided}
 use Rattle.rdx_lang.proofs.FinitePatterns.{FinitelyMany, FinitelyManyItems, ItemDecomposition, ItemSplitsInto}
 use Rattle.rdx_lang.proofs.NameLaws.{names-ascend, run-maps, run-ascends, split_run-maps, split_run-ascends, turn-names, split_turn-names}
 use Rattle.rdx_lang.proofs.RuleSteps.{many_inside, run_at_end, run_at_term, many_splits, run_splits_end, run_splits_term}
@@ -25,9 +25,13 @@ use Rattle.rdx_lang.proofs.RuleSteps.{ManyParts, RunParts, ended, turned, ManySp
 module _ (xs : List (List ℕ)) (cs : List Binding) (a : IsAscending name_cmp xs) (m : AreMaps cs) (f : BindNames xs cs) where
   -- turns that bind exactly these names are collected in one way
   finite_collections : Finite (IsCollection xs cs)
-  finite_collections =
-      let s = some_collection xs cs f in
-      finite_one (IsCollection xs cs) s.0 s.1 (λ c k. one_collection xs cs c s.0 a m k s.1)
+  finite_collections = by_sets (sets_decided cs)
+    where
+      by_sets : ((ms : List Mismatch) × AreSetsOf cs ms) ⊎ ((ms : List Mismatch) → AreSetsOf cs ms → ⊥) → Finite (IsCollection xs cs)
+      by_sets (inl s) =
+          let k = some_collection xs cs f s.0 s.1 in
+          finite_one (IsCollection xs cs) k.0 k.1 (λ c l. one_collection xs cs c k.0 a m l k.1)
+      by_sets (inr n) = finite_none (IsCollection xs cs) (λ c k. n c.differs k.differs)
 
   -- b is c joined with the length name for the number of turns
   abbrev LengthJoined : List ℕ → Binding → Binding → Type 0
@@ -44,7 +48,7 @@ module _ (xs : List (List ℕ)) (cs : List Binding) (a : IsAscending name_cmp xs
       finite_collections joined
     where
       joined : (c : Binding) → IsCollection xs cs c → Finite (LengthJoined x c)
-      joined c k = finite_joins c (one_name x (len (length cs))) (collection-ascends xs cs c a k) (tt, tt)
+      joined c k = finite_joins c (one_name x (len (length cs))) (collection-ascends xs cs c a k) ((tt, tt), (tt, tt))
 
       back : (b : Binding) → IsRepetition xs cs (Some x) b → Comes (IsCollection xs cs) (LengthJoined x) b
       back b (with_length {c = c} k j) = record { from = c; has = k; by = j }

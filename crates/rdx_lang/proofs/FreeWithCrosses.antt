@@ -3,8 +3,8 @@ use Rattle.std.proofs.Common.{◌≡◌, ℕ, ◌⊎◌, inl, inr, true, false, 
 use Rattle.std.proofs.lemmas.Bool.{both_ways}
 use Rattle.rdx_lang.specs.CrossLaws.{CrossesFree}
 use Rattle.rdx_lang.specs.Crosses.{unnamed, crossed, cross_alternatives, new_crosses, with_crosses, with_crosses_to}
-use Rattle.rdx_lang.specs.Edges.{Edge, edge_nt, edge_named, edge_hide_hole, edge_closed, edge_left, edge_right, Reaches, at_once, further, IsFree}
-use Rattle.rdx_lang.specs.Empty.{IsEmpty, empty_hole, empty_nt, empty_named, empty_closed, empty_in_hole}
+use Rattle.rdx_lang.specs.Edges.{Edge, edge_nt, edge_named, edge_differ, edge_hide_hole, edge_closed, edge_left, edge_right, Reaches, at_once, further, IsFree}
+use Rattle.rdx_lang.specs.Empty.{IsEmpty, empty_hole, empty_nt, empty_named, empty_differ, empty_closed, empty_in_hole}
 use Rattle.rdx_lang.specs.Members.{In}
 use Rattle.rdx_lang.specs.Patterns.{Pattern, hole, nt, Language}
 use Rattle.rdx_lang.specs.References.{is_among}
@@ -43,6 +43,7 @@ module _ (L : Language) (y : List ℕ) (k : KnowsAll L) where
   old-empty empty_hole h = empty_hole
   old-empty (empty_nt {x = x} {p = p} a e) h = let b = old-alternative x p h a in empty_nt b (old-empty e (alternative-old x p b))
   old-empty (empty_named e) h = empty_named (old-empty e h)
+  old-empty (empty_differ e) h = empty_differ (old-empty e h)
   old-empty (empty_closed e) h = empty_closed (old-empty e h)
   old-empty (empty_in_hole {q = q} {r = r} e f) h =
       let k = known-parts (defined L) q r h in empty_in_hole (old-empty e k.0) (old-empty f k.1)
@@ -51,6 +52,7 @@ module _ (L : Language) (y : List ℕ) (k : KnowsAll L) where
   old-edge : {p q : Pattern} → Edge (with_crosses L y) p q → Old p → Edge L p q × Old q
   old-edge (edge_nt {x = x} {p = p} a) h = let b = old-alternative x p h a in (edge_nt b, alternative-old x p b)
   old-edge edge_named h = (edge_named, h)
+  old-edge edge_differ h = (edge_differ, h)
   old-edge edge_hide_hole h = (edge_hide_hole, h)
   old-edge edge_closed h = (edge_closed, h)
   old-edge (edge_left {q = q} {r = r}) h = (edge_left, (known-parts (defined L) q r h).0)

@@ -8,8 +8,8 @@ use Rattle.rdx_lang.specs.Bindings.{Binding}
 use Rattle.rdx_lang.specs.Literals.{is_mentioned}
 use Rattle.rdx_lang.specs.Patterns.{Pattern, Items, Language}
 use Rattle.rdx_lang.specs.References.{is_among}
-use Rattle.rdx_lang.specs.Rules.{Match, MatchItems, MatchRun, match_wild, match_kind, match_except, match_prefix, match_hole, match_lit, match_nt, match_named, match_in_hole, match_hide_hole, match_closed, match_seq, match_none, match_one, match_many, run_end, run_more, is_unmentioned, is_of_kind, IsAlternative}
-use Rattle.rdx_lang.specs.Rules.{Split, SplitItems, SplitRun, split_hole, split_nt, split_named, split_in_hole, split_closed, split_seq, split_here, split_behind, split_many, run_here, run_there, run_behind}
+use Rattle.rdx_lang.specs.Rules.{Match, MatchItems, MatchRun, match_wild, match_kind, match_except, match_prefix, match_hole, match_lit, match_nt, match_named, match_differ, match_in_hole, match_hide_hole, match_closed, match_seq, match_none, match_one, match_many, run_end, run_more, is_unmentioned, is_of_kind, IsAlternative}
+use Rattle.rdx_lang.specs.Rules.{Split, SplitItems, SplitRun, split_hole, split_nt, split_named, split_differ, split_in_hole, split_closed, split_seq, split_here, split_behind, split_many, run_here, run_there, run_behind}
 use Rattle.rdx_lang.specs.WellFormed.{has_known_nonterminals, have_known_nonterminals}
 use Rattle.rdx_lang.specs.declared.pattern.Kind.{Kind}
 use Rattle.rdx_lang.specs.declared.pattern.Kind.TheVariants.{Any, Number, Natural, Integer, Real, Text, Boolean, Variable, Unmentioned}
@@ -59,6 +59,7 @@ module _ {xs : List Ref} {L M : Language} (keeps : Keeps xs L M) where
     match-kept (match_lit e) h = match_lit e
     match-kept (match_nt {x = x} {p = p} a m) h = match_nt (keeps.alternative x p h a) (match-kept m (keeps.known x p h a))
     match-kept (match_named m j) h = match_named (match-kept m h) j
+    match-kept (match_differ m j) h = match_differ (match-kept m h) j
     match-kept (match_in_hole {q = q} {r = r} s m j) h =
         let k = known-parts xs q r h in match_in_hole (split-kept s k.0) (match-kept m k.1) j
     match-kept (match_hide_hole m) h = match_hide_hole (match-kept m h)
@@ -82,6 +83,7 @@ module _ {xs : List Ref} {L M : Language} (keeps : Keeps xs L M) where
     split-kept split_hole h = split_hole
     split-kept (split_nt {x = x} {p = p} a d) h = split_nt (keeps.alternative x p h a) (split-kept d (keeps.known x p h a))
     split-kept (split_named d j) h = split_named (split-kept d h) j
+    split-kept (split_differ d j) h = split_differ (split-kept d h) j
     split-kept (split_in_hole {q = q} {r = r} d f e j) h =
         let k = known-parts xs q r h in split_in_hole (split-kept d k.0) (split-kept f k.1) e j
     split-kept (split_closed d) h = split_closed (split-kept d h)

@@ -4,7 +4,7 @@ use Rattle.std.proofs.lemmas.Bool.{and_parts, and_from}
 use Rattle.std.specs.Prelude.{◌&&◌}
 use Rattle.rdx_lang.specs.Crosses.{unnamed, unnamed_items, crossed, crossed_items}
 use Rattle.rdx_lang.specs.Members.{In, here, there}
-use Rattle.rdx_lang.specs.Patterns.{Pattern, wild, of_kind, except, prefix, hole, lit, nt, named, in_hole, hide_hole, closed, seq, Items, nil, one, many}
+use Rattle.rdx_lang.specs.Patterns.{Pattern, wild, of_kind, except, prefix, hole, lit, nt, named, differ, in_hole, hide_hole, closed, seq, Items, nil, one, many}
 use Rattle.rdx_lang.specs.References.{is_among}
 use Rattle.rdx_lang.specs.WellFormed.{has_known_nonterminals, have_known_nonterminals}
 use Rattle.rdx_lang.specs.declared.pattern.Ref.{Ref}
@@ -47,6 +47,7 @@ module _ (xs : List Ref) where
     known-unnamed (lit u) h = h
     known-unnamed (nt x) h = h
     known-unnamed (named x q) h = known-unnamed q h
+    known-unnamed (differ x q) h = known-unnamed q h
     known-unnamed (in_hole q r) h =
         let k = known-parts q r h in both_known (unnamed q) (unnamed r) (known-unnamed q k.0) (known-unnamed r k.1)
     known-unnamed (hide_hole q) h = known-unnamed q h
@@ -73,6 +74,7 @@ module _ (xs ys : List Ref) (more : (x : Ref) → is_among x xs ≡ true → is_
     known-more (lit u) h = h
     known-more (nt x) h = more x h
     known-more (named x q) h = known-more q h
+    known-more (differ x q) h = known-more q h
     known-more (in_hole q r) h = let k = known-parts xs q r h in both_known ys q r (known-more q k.0) (known-more r k.1)
     known-more (hide_hole q) h = known-more q h
     known-more (closed q) h = known-more q h
@@ -103,6 +105,8 @@ module _ (xs ys : List Ref) (more : (x : Ref) → is_among x xs ≡ true → is_
       known-crossed (nt (Cross z w)) q h i = elim i [ ]
       known-crossed (named x p) q h i =
           let k = in-map (λ r. named x r) (crossed y p) q i in ap (has_known_nonterminals ys) k.2 ∙ known-crossed p k.0 h k.1
+      known-crossed (differ x p) q h i =
+          let k = in-map (λ r. differ x r) (crossed y p) q i in ap (has_known_nonterminals ys) k.2 ∙ known-crossed p k.0 h k.1
       known-crossed (in_hole p r) q h i = elim i [ ]
       known-crossed (hide_hole p) q h i = elim i [ ]
       known-crossed (closed p) q h i =

@@ -5,7 +5,7 @@ use Rattle.std.specs.Prelude.{◌||◌}
 use Rattle.rdx_lang.specs.Crosses.{unnamed, unnamed_items, crossed, crossed_items, cross_alternatives}
 use Rattle.rdx_lang.specs.Literals.{mentions, items_mention, any_mentions, definitions_mention, is_mentioned}
 use Rattle.rdx_lang.specs.Members.{In, here, there}
-use Rattle.rdx_lang.specs.Patterns.{Pattern, wild, of_kind, except, prefix, hole, lit, nt, named, in_hole, hide_hole, closed, seq, Items, nil, one, many, Definition, Language}
+use Rattle.rdx_lang.specs.Patterns.{Pattern, wild, of_kind, except, prefix, hole, lit, nt, named, differ, in_hole, hide_hole, closed, seq, Items, nil, one, many, Definition, Language}
 use Rattle.rdx_lang.specs.Rules.{IsAlternative}
 use Rattle.rdx_lang.specs.declared.pattern.Ref.{Ref}
 use Rattle.rdx_lang.specs.declared.pattern.Ref.TheVariants.{Nt, Cross}
@@ -26,6 +26,7 @@ module _ (s : List ℕ) where
     mentions-unnamed (lit u) = refl
     mentions-unnamed (nt x) = refl
     mentions-unnamed (named x q) = mentions-unnamed q
+    mentions-unnamed (differ x q) = mentions-unnamed q
     mentions-unnamed (in_hole q r) = λ i. mentions-unnamed q i || mentions-unnamed r i
     mentions-unnamed (hide_hole q) = mentions-unnamed q
     mentions-unnamed (closed q) = mentions-unnamed q
@@ -51,6 +52,8 @@ module _ (s : List ℕ) where
     mentions-crossed y (nt (Cross z w)) q i h = elim i [ ]
     mentions-crossed y (named x p) q i h =
         let k = in-map (λ r. named x r) (crossed y p) q i in mentions-crossed y p k.0 k.1 (sym (ap (mentions s) k.2) ∙ h)
+    mentions-crossed y (differ x p) q i h =
+        let k = in-map (λ r. differ x r) (crossed y p) q i in mentions-crossed y p k.0 k.1 (sym (ap (mentions s) k.2) ∙ h)
     mentions-crossed y (in_hole p r) q i h = elim i [ ]
     mentions-crossed y (hide_hole p) q i h = elim i [ ]
     mentions-crossed y (closed p) q i h =

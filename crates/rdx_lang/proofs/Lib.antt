@@ -5,6 +5,8 @@ pub mod ValueEquations
 pub mod Rest
 pub mod OrderLaws
 pub mod Orders
+pub mod SetLists
+pub mod SetJoins
 pub mod JoinLaws
 pub mod NameLists
 pub mod CollectionLaws
@@ -17,6 +19,7 @@ pub mod Emptiness
 pub mod SplitLaws
 pub mod RankLaws
 pub mod FirstRecursive
+pub mod SeenListings
 pub mod Examples
 pub mod RepetitionExamples
 pub mod Collecting

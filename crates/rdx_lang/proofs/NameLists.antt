@@ -4,12 +4,12 @@ use Rattle.std.specs.declared.cmp.Ordering.{Ordering}
 use Rattle.std.specs.declared.cmp.Ordering.TheVariants.{Less, Equal, Greater}
 use Rattle.std.specs.Ordering.{ordering_reverse}
 use Rattle.rdx_lang.specs.Ascending.{IsBelow, IsAscending}
-use Rattle.rdx_lang.specs.Bindings.{Pair, Binding, name_cmp, bound_names, HasAscendingNames}
-use Rattle.rdx_lang.specs.Join.{IsJoin}
+use Rattle.rdx_lang.specs.Bindings.{Pair, Binding, name_cmp, pair_names, bound_names, HaveAscendingNames, HasAscendingNames}
+use Rattle.rdx_lang.specs.Join.{JoinsPairs, IsJoin}
 use Rattle.rdx_lang.specs.Members.{In, here, there}
 use Rattle.rdx_lang.specs.Names.{placed, with_name, add_names, with_length_name}
 use Rattle.rdx_lang.specs.Model.TotalOrders.{name_cmp-total}
-use Rattle.rdx_lang.proofs.JoinLaws.{bound_names-member}
+use Rattle.rdx_lang.proofs.JoinLaws.{pair_names-member}
 use Rattle.rdx_lang.proofs.MemberLaws.{in-map}
 use Rattle.rdx_lang.proofs.OrderLaws.{name_cmp-tells, fixed_by_members}
 
@@ -106,30 +106,34 @@ with_length_name-ascends (Some x) xs a = add_names-ascends xs (x ∷ []) (tt, tt
 
 -- ---- the names of a join
 
--- what has the name of each pair has each bound name
-bound_names-within : (b : Binding) (xs : List (List ℕ)) → ((p : Pair) → In p b → In p.0 xs) → (z : List ℕ) → In z (bound_names b) → In z xs
-bound_names-within b xs f z h =
-    let k : (p : Pair) × In p b × (z ≡ p.0) = in-map (λ (p : Pair). p.0) b z h in
+-- what has the name of each pair has each of the names
+pair_names-within : (ps : List Pair) (xs : List (List ℕ)) → ((p : Pair) → In p ps → In p.0 xs) → (z : List ℕ) → In z (pair_names ps) → In z xs
+pair_names-within ps xs f z h =
+    let k : (p : Pair) × In p ps × (z ≡ p.0) = in-map (λ (p : Pair). p.0) ps z h in
     subst (λ (w : List ℕ). In w xs) (sym k.2) (f k.0 k.1)
 
--- a join binds the names that either binds
-pub bound_names-join : (a b c : Binding) → HasAscendingNames b → IsJoin a b c → bound_names c ≡ add_names (bound_names a) (bound_names b)
-bound_names-join a b c h j =
-    fixed_by_members name_cmp name_cmp-total (bound_names c) (add_names (bound_names a) (bound_names b)) j.map (add_names-ascends (bound_names a) (bound_names b) h) to from
+-- a join has the names that either has
+pub pair_names-join : (a b c : List Pair) → HaveAscendingNames b → JoinsPairs a b c → pair_names c ≡ add_names (pair_names a) (pair_names b)
+pair_names-join a b c h j =
+    fixed_by_members name_cmp name_cmp-total (pair_names c) (add_names (pair_names a) (pair_names b)) j.map (add_names-ascends (pair_names a) (pair_names b) h) to from
   where
-    of_pair : (p : Pair) → In p a ⊎ In p b → In p.0 (add_names (bound_names a) (bound_names b))
-    of_pair p (inl l) = add_names-left (bound_names a) (bound_names b) p.0 (bound_names-member p a l)
-    of_pair p (inr r) = add_names-right (bound_names a) (bound_names b) p.0 (bound_names-member p b r)
+    of_pair : (p : Pair) → In p a ⊎ In p b → In p.0 (add_names (pair_names a) (pair_names b))
+    of_pair p (inl l) = add_names-left (pair_names a) (pair_names b) p.0 (pair_names-member p a l)
+    of_pair p (inr r) = add_names-right (pair_names a) (pair_names b) p.0 (pair_names-member p b r)
 
-    to : (z : List ℕ) → In z (bound_names c) → In z (add_names (bound_names a) (bound_names b))
-    to = bound_names-within c (add_names (bound_names a) (bound_names b)) (λ p i. of_pair p (j.sound p i))
+    to : (z : List ℕ) → In z (pair_names c) → In z (add_names (pair_names a) (pair_names b))
+    to = pair_names-within c (add_names (pair_names a) (pair_names b)) (λ p i. of_pair p (j.sound p i))
 
-    of_either : (z : List ℕ) → In z (bound_names a) ⊎ In z (bound_names b) → In z (bound_names c)
-    of_either z (inl l) = bound_names-within a (bound_names c) (λ p i. bound_names-member p c (j.left p i)) z l
-    of_either z (inr r) = bound_names-within b (bound_names c) (λ p i. bound_names-member p c (j.right p i)) z r
+    of_either : (z : List ℕ) → In z (pair_names a) ⊎ In z (pair_names b) → In z (pair_names c)
+    of_either z (inl l) = pair_names-within a (pair_names c) (λ p i. pair_names-member p c (j.left p i)) z l
+    of_either z (inr r) = pair_names-within b (pair_names c) (λ p i. pair_names-member p c (j.right p i)) z r
 
-    from : (z : List ℕ) → In z (add_names (bound_names a) (bound_names b)) → In z (bound_names c)
-    from z h = of_either z (add_names-sound (bound_names a) (bound_names b) z h)
+    from : (z : List ℕ) → In z (add_names (pair_names a) (pair_names b)) → In z (pair_names c)
+    from z h = of_either z (add_names-sound (pair_names a) (pair_names b) z h)
+
+-- a join of bindings binds the names that either binds
+pub bound_names-join : (a b c : Binding) → HasAscendingNames b → IsJoin a b c → bound_names c ≡ add_names (bound_names a) (bound_names b)
+bound_names-join a b c h j = pair_names-join a.pairs b.pairs c.pairs h.0 j.pairs
 
 -- a join binds the names of both, by what they are known to bind
 pub joined : (a b : Binding) {c : Binding} {xs ys : List (List ℕ)} → HasAscendingNames b → IsJoin a b c → bound_names a ≡ xs → bound_names b ≡ ys → bound_names c ≡ add_names xs ys

@@ -11,18 +11,19 @@ use Rattle.std.specs.List.Sorted.{IsBinarySearchResult, IsNonDecreasingBy, IsSea
 use Rattle.std.specs.Ordering.{ordering_index, ordering_reverse}
 use Rattle.std.proofs.lemmas.Cmp.{tied_itself}
 use Rattle.rdx_lang.specs.Ascending.{IsBelow}
-use Rattle.rdx_lang.specs.Bindings.{Value, Pair, Binding, name_cmp, one_name, bound_names, value_at, HasAscendingNames, IsValueAt}
+use Rattle.rdx_lang.specs.Bindings.{Value, Pair, Mismatch, Binding, name_cmp, one_name, pair_names, value_in, value_at, HaveAscendingNames, HasAscendingNames, AreSets, IsValueAt}
 use Rattle.rdx_lang.specs.BindingView.{value_of, pair_of, pairs_of}
 use Rattle.rdx_lang.specs.Inside.Places.{IsGapFor, IsNameAt}
-use Rattle.rdx_lang.specs.Join.{IsJoin}
+use Rattle.rdx_lang.specs.Join.{JoinsPairs, IsJoin}
 use Rattle.rdx_lang.specs.Members.{In, here, there}
 use Rattle.rdx_lang.specs.Model.TotalOrders.{name_cmp-total}
 use Rattle.rdx_lang.specs.Model.ValueOrder.{value_cmp-total}
 use Rattle.rdx_lang.specs.Order.{value_cmp}
 use Rattle.rdx_lang.specs.declared.binding.Value as code_value
 use Rattle.rdx_lang.proofs.JoinLaws.{join_agrees}
+use Rattle.rdx_lang.proofs.SetJoins.{no_sets_right}
 use Rattle.rdx_lang.proofs.OrderLaws.{name_cmp-tells, value_cmp-tells}
-use Rattle.rdx_lang.proofs.Values.{value_at-exact}
+use Rattle.rdx_lang.proofs.Values.{value_in-exact}
 
 -- pairs of the code
 abbrev CodePair : Type 0
@@ -54,13 +55,13 @@ rises x a b h = by_first (name_cmp a x) refl
 -- ---- in pairs whose names ascend
 
 -- what is below names is below the name at each place
-below_at : (x : List ℕ) (ps : List CodePair) (k : ℕ) (d : CodePair) → IsBelow name_cmp x (bound_names (pairs_of ps)) → k < length ps → name_cmp x (slice_index_or ps k d).0 ≡ Less
+below_at : (x : List ℕ) (ps : List CodePair) (k : ℕ) (d : CodePair) → IsBelow name_cmp x (pair_names (pairs_of ps)) → k < length ps → name_cmp x (slice_index_or ps k d).0 ≡ Less
 below_at x [] k d h l = absurd (omega (arith, l))
 below_at x (p ∷ ps) zero d h l = h.0
 below_at x (p ∷ ps) (suc k) d h l = below_at x ps k d h.1 (omega (arith, l))
 
 -- a later place has no lower name in comparison with any
-pub names_rise : (x : List ℕ) (ps : List CodePair) → HasAscendingNames (pairs_of ps) → IsNonDecreasingBy (λ (p : CodePair). ordering_index (name_cmp p.0 x)) ps
+pub names_rise : (x : List ℕ) (ps : List CodePair) → HaveAscendingNames (pairs_of ps) → IsNonDecreasingBy (λ (p : CodePair). ordering_index (name_cmp p.0 x)) ps
 names_rise x [] h i j d le l = absurd (omega (arith, l))
 names_rise x (p ∷ ps) h zero zero d le l = omega arith
 names_rise x (p ∷ ps) h zero (suc j) d le l = rises x p.0 (slice_index_or ps j d).0 (below_at p.0 ps j d h.0 (omega (arith, l)))
@@ -73,7 +74,7 @@ pub found_there : (ps : List CodePair) (x : List ℕ) (r : Result ℕ ℕ) → I
 found_there ps x (Ok i) l h = record { within = l; name = λ d. name_cmp-tells (slice_index_or ps i d).0 x (h d) }
 found_there ps x (Err i) l h = tt
 
-pub found_gap : (ps : List CodePair) (x : List ℕ) (r : Result ℕ ℕ) → HasAscendingNames (pairs_of ps) → IsSearchInRange r (length ps) → IsBinarySearchResult (λ (p : CodePair). name_cmp p.0 x) ps r → IfErr r (IsGapFor ps x)
+pub found_gap : (ps : List CodePair) (x : List ℕ) (r : Result ℕ ℕ) → HaveAscendingNames (pairs_of ps) → IsSearchInRange r (length ps) → IsBinarySearchResult (λ (p : CodePair). name_cmp p.0 x) ps r → IfErr r (IsGapFor ps x)
 found_gap ps x (Ok i) a l h = tt
 found_gap ps x (Err i) a l h = let s = h (names_rise x ps a) in record { within = l; before = s.0; behind = s.1 }
 
@@ -93,12 +94,12 @@ named-member ps x i p h e = subst (λ (q : Pair). In q (pairs_of ps)) (λ j. (na
     name = h.name p
 
 -- what a name is bound to stands at its place
-pub value_at-place : (ps : List CodePair) (x : List ℕ) (i : ℕ) (p : CodePair) → HasAscendingNames (pairs_of ps) → IsNameAt ps x i → p ≡ slice_index_or ps i p → Some (value_of p.1) ≡ value_at (pairs_of ps) x
-value_at-place ps x i p a h e = sym ((value_at-exact (pairs_of ps) x (value_of p.1) a).1 (named-member ps x i p h e))
+pub value_at-place : (ps : List CodePair) (x : List ℕ) (i : ℕ) (p : CodePair) → HaveAscendingNames (pairs_of ps) → IsNameAt ps x i → p ≡ slice_index_or ps i p → Some (value_of p.1) ≡ value_in (pairs_of ps) x
+value_at-place ps x i p a h e = sym ((value_in-exact (pairs_of ps) x (value_of p.1) a).1 (named-member ps x i p h e))
 
 -- what is found is a value exactly where the name is bound to it
-pub found_exactly : (b : Binding) (x : List ℕ) (r : Option Value) → HasAscendingNames b → r ≡ value_at b x → IsValueAt b x r
-found_exactly b x r a e v = subst (λ (s : Option Value). (s ≡ Some v) ↔ In (x, v) b) (sym e) (value_at-exact b x v a)
+pub found_exactly : (b : Binding) (x : List ℕ) (r : Option Value) → HaveAscendingNames b.pairs → r ≡ value_at b x → IsValueAt b x r
+found_exactly b x r a e v = subst (λ (s : Option Value). (s ≡ Some v) ↔ In (x, v) b.pairs) (sym e) (value_in-exact b.pairs x v a)
 
 -- ---- a gap
 
@@ -130,35 +131,35 @@ differ x y r e n = by_test (bytes_eq y x) refl
     by_test true h = absurd (n (sym e ∙ tie ((bytes_decides y x).0 h)))
 
 -- a name for which there is a gap isn't bound
-value_at-gap : (ps : List CodePair) (x : List ℕ) (i : ℕ) → IsGapFor ps x i → value_at (pairs_of ps) x ≡ None
+value_at-gap : (ps : List CodePair) (x : List ℕ) (i : ℕ) → IsGapFor ps x i → value_in (pairs_of ps) x ≡ None
 value_at-gap [] x i g = refl
 value_at-gap (p ∷ ps) x zero g =
     let e : bytes_eq p.0 x ≡ false = differ x p.0 Greater (g.behind 0 p (omega arith) (omega arith)) (λ h. cc) in
-    ap (λ s. if s then Some (value_of p.1) else value_at (pairs_of ps) x) e ∙ value_at-gap ps x 0 (gap_first p ps x g)
+    ap (λ s. if s then Some (value_of p.1) else value_in (pairs_of ps) x) e ∙ value_at-gap ps x 0 (gap_first p ps x g)
 value_at-gap (p ∷ ps) x (suc i) g =
     let e : bytes_eq p.0 x ≡ false = differ x p.0 Less (g.before 0 p (omega arith) (omega arith)) (λ h. cc) in
-    ap (λ s. if s then Some (value_of p.1) else value_at (pairs_of ps) x) e ∙ value_at-gap ps x i (gap_behind p ps x i g)
+    ap (λ s. if s then Some (value_of p.1) else value_in (pairs_of ps) x) e ∙ value_at-gap ps x i (gap_behind p ps x i g)
 
 -- so nothing is found
-pub none-gap : (ps : List CodePair) (x : List ℕ) (i : ℕ) → IsGapFor ps x i → None ≡ value_at (pairs_of ps) x
+pub none-gap : (ps : List CodePair) (x : List ℕ) (i : ℕ) → IsGapFor ps x i → None ≡ value_in (pairs_of ps) x
 none-gap ps x i g = sym (value_at-gap ps x i g)
 
 -- ---- a pair that is put in
 
 -- what is above a name from the first place on
-above_all : (x : List ℕ) (ps : List CodePair) → IsGapFor ps x 0 → IsBelow name_cmp x (bound_names (pairs_of ps))
+above_all : (x : List ℕ) (ps : List CodePair) → IsGapFor ps x 0 → IsBelow name_cmp x (pair_names (pairs_of ps))
 above_all x [] g = tt
 above_all x (p ∷ ps) g = (turned p.0 x (g.behind 0 p (omega arith) (omega arith)), above_all x ps (gap_first p ps x g))
 
 -- what is below names, and below one more, is below all with this put in
-below_put : (y : List ℕ) (ps : List CodePair) (i : ℕ) (q : CodePair) → name_cmp y q.0 ≡ Less → IsBelow name_cmp y (bound_names (pairs_of ps)) → IsBelow name_cmp y (bound_names (pairs_of (insert ps i q)))
+below_put : (y : List ℕ) (ps : List CodePair) (i : ℕ) (q : CodePair) → name_cmp y q.0 ≡ Less → IsBelow name_cmp y (pair_names (pairs_of ps)) → IsBelow name_cmp y (pair_names (pairs_of (insert ps i q)))
 below_put y [] zero q l h = (l, tt)
 below_put y [] (suc i) q l h = (l, tt)
 below_put y (p ∷ ps) zero q l h = (l, h)
 below_put y (p ∷ ps) (suc i) q l h = (h.0, below_put y ps i q l h.1)
 
 -- names ascend where one is put into its gap
-ascend_put : (ps : List CodePair) (i : ℕ) (q : CodePair) → HasAscendingNames (pairs_of ps) → IsGapFor ps q.0 i → HasAscendingNames (pairs_of (insert ps i q))
+ascend_put : (ps : List CodePair) (i : ℕ) (q : CodePair) → HaveAscendingNames (pairs_of ps) → IsGapFor ps q.0 i → HaveAscendingNames (pairs_of (insert ps i q))
 ascend_put [] zero q a g = (tt, tt)
 ascend_put [] (suc i) q a g = (tt, tt)
 ascend_put (p ∷ ps) zero q a g = (above_all q.0 (p ∷ ps) g, a)
@@ -186,7 +187,8 @@ put-right (p ∷ ps) zero q = here refl
 put-right (p ∷ ps) (suc i) q = there (put-right ps i q)
 
 -- a pair that is put into the gap for its name gives the join with it
-put-joins : (ps : List CodePair) (i : ℕ) (q : CodePair) → HasAscendingNames (pairs_of ps) → IsGapFor ps q.0 i → IsJoin (pairs_of ps) (one_name q.0 (value_of q.1)) (pairs_of (insert ps i q))
+put-joins : (ps : List CodePair) (i : ℕ) (q : CodePair) → HaveAscendingNames (pairs_of ps) → IsGapFor ps q.0 i
+    → JoinsPairs (pairs_of ps) (pair_of q ∷ []) (pairs_of (insert ps i q))
 put-joins ps i q a g = record {
   map = ascend_put ps i q a g;
   sound = λ r h. put-sound ps i q r h;
@@ -194,33 +196,40 @@ put-joins ps i q a g = record {
   right = λ r h. elim h [ here e ↦ subst (λ (s : Pair). In s (pairs_of (insert ps i q))) (sym e) (put-right ps i q) | there k ↦ elim k [ ] ];
 }
 
--- so it does where the pair has this name and this value
-pub put-join : (ps qs : List CodePair) (i : ℕ) (q : CodePair) (x : List ℕ) (v : Value) → HasAscendingNames (pairs_of ps) → IsGapFor ps x i → q.0 ≡ x → value_of q.1 ≡ v → qs ≡ insert ps i q
-    → IsJoin (pairs_of ps) (one_name x v) (pairs_of qs)
-put-join ps qs i q x v a g n w e =
+-- so it does where the pair has this name and this value, beside any sets
+pub put-join : (ps qs : List CodePair) (ms : List Mismatch) (i : ℕ) (q : CodePair) (x : List ℕ) (v : Value) → HaveAscendingNames (pairs_of ps) → AreSets ms
+    → IsGapFor ps x i → q.0 ≡ x → value_of q.1 ≡ v → qs ≡ insert ps i q
+    → IsJoin (record { pairs = pairs_of ps; differs = ms }) (one_name x v) (record { pairs = pairs_of qs; differs = ms })
+put-join ps qs ms i q x v a s g n w e =
     let named : IsGapFor ps q.0 i = subst (λ (y : List ℕ). IsGapFor ps y i) (sym n) g in
-    let one : one_name q.0 (value_of q.1) ≡ one_name x v = λ j. one_name (n j) (w j) in
-    subst (λ (b : Binding). IsJoin (pairs_of ps) b (pairs_of qs)) one
-    (subst (λ (rs : List CodePair). IsJoin (pairs_of ps) (one_name q.0 (value_of q.1)) (pairs_of rs)) (sym e) (put-joins ps i q a named))
+    let one : pair_of q ≡ (x, v) = λ j. (n j, w j) in
+    record {
+      pairs = subst (λ (p : Pair). JoinsPairs (pairs_of ps) (p ∷ []) (pairs_of qs)) one
+          (subst (λ (rs : List CodePair). JoinsPairs (pairs_of ps) (pair_of q ∷ []) (pairs_of rs)) (sym e) (put-joins ps i q a named));
+      differs = no_sets_right ms s;
+    }
 
 -- ---- a pair that is there
 
 -- a binding is its join with a pair of it
-there-joins : (b : Binding) (x : List ℕ) (v : Value) → HasAscendingNames b → In (x, v) b → IsJoin b (one_name x v) b
+there-joins : (b : Binding) (x : List ℕ) (v : Value) → HasAscendingNames b → In (x, v) b.pairs → IsJoin b (one_name x v) b
 there-joins b x v a h = record {
-  map = a;
-  sound = λ r i. inl i;
-  left = λ r i. i;
-  right = λ r i. elim i [ here e ↦ subst (λ (s : Pair). In s b) (sym e) h | there k ↦ elim k [ ] ];
+  pairs = record {
+    map = a.0;
+    sound = λ r i. inl i;
+    left = λ r i. i;
+    right = λ r i. elim i [ here e ↦ subst (λ (s : Pair). In s b.pairs) (sym e) h | there k ↦ elim k [ ] ];
+  };
+  differs = no_sets_right b.differs a.1;
 }
 
 -- so it is with a value that ties with that of the name
-pub tied-join : (b : Binding) (x : List ℕ) (v w : Value) → HasAscendingNames b → In (x, v) b → Equal ≡ value_cmp v w → IsJoin b (one_name x w) b
+pub tied-join : (b : Binding) (x : List ℕ) (v w : Value) → HasAscendingNames b → In (x, v) b.pairs → Equal ≡ value_cmp v w → IsJoin b (one_name x w) b
 tied-join b x v w a h e = subst (λ (u : Value). IsJoin b (one_name x u) b) (value_cmp-tells v w (sym e)) (there-joins b x v a h)
 
 -- and with one that doesn't there is none
-pub no_join : (b : Binding) (x : List ℕ) (v w : Value) (r : Ordering) → In (x, v) b → r ≡ value_cmp v w → (r ≡ Less) ⊎ (r ≡ Greater) → (c : Binding) → IsJoin b (one_name x w) c → ⊥
+pub no_join : (b : Binding) (x : List ℕ) (v w : Value) (r : Ordering) → In (x, v) b.pairs → r ≡ value_cmp v w → (r ≡ Less) ⊎ (r ≡ Greater) → (c : Binding) → IsJoin b (one_name x w) c → ⊥
 no_join b x v w r h e n c j =
-    let one : v ≡ w = join_agrees b (one_name x w) c j x v w h (here refl) in
+    let one : v ≡ w = (join_agrees b (one_name x w) c j).pairs x v w h (here refl) in
     let tie : r ≡ Equal = e ∙ ap (λ u. value_cmp u w) one ∙ tied_itself value_cmp-total w in
     elim n [ inl l ↦ cc | inr g ↦ cc ]

@@ -8,7 +8,7 @@ use Rattle.std.specs.Ordering.{match_ordering, ordering_reverse, on}
 use Rattle.rdx_lang.specs.Bindings.{name_cmp}
 use Rattle.rdx_lang.specs.Model.TotalOrders.{name_cmp-total}
 use Rattle.rdx_lang.specs.Names.{placed, with_name, add_names, with_length_name, names, item_names}
-use Rattle.rdx_lang.specs.Patterns.{Pattern, wild, of_kind, except, prefix, hole, lit, nt, named, in_hole, hide_hole, closed, seq, Items, nil, one, many}
+use Rattle.rdx_lang.specs.Patterns.{Pattern, wild, of_kind, except, prefix, hole, lit, nt, named, differ, in_hole, hide_hole, closed, seq, Items, nil, one, many}
 use Rattle.rdx_lang.specs.declared.key.Key.{Key}
 use Rattle.rdx_lang.proofs.Keys.{turned, map-inserted}
 use Rattle.rdx_lang.proofs.OrderLaws.{name_cmp-tells}
@@ -159,6 +159,7 @@ mutual
   names-alone (lit u) = refl
   names-alone (nt x) = refl
   names-alone (named x q) = both_alone (names q) (x ∷ []) refl
+  names-alone (differ x q) = names-alone q
   names-alone (in_hole q r) = both_alone (names q) (names r) (names-alone r)
   names-alone (hide_hole q) = names-alone q
   names-alone (closed q) = refl

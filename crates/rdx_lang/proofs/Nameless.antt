@@ -6,7 +6,7 @@ use Rattle.std.specs.Prelude.{◌&&◌}
 use Rattle.rdx_lang.specs.Crosses.{unnamed, unnamed_items, crossed, crossed_items}
 use Rattle.rdx_lang.specs.Depths.{length_use, uses, item_uses, all_agree, is_shallow, has_one_depth_each, closed_parts_fit, closed_items_fit, has_fitting_names}
 use Rattle.rdx_lang.specs.Members.{In, here, there}
-use Rattle.rdx_lang.specs.Patterns.{Pattern, wild, of_kind, except, prefix, hole, lit, nt, named, in_hole, hide_hole, closed, seq, Items, nil, one, many}
+use Rattle.rdx_lang.specs.Patterns.{Pattern, wild, of_kind, except, prefix, hole, lit, nt, named, differ, in_hole, hide_hole, closed, seq, Items, nil, one, many}
 use Rattle.rdx_lang.specs.declared.pattern.Ref.TheVariants.{Nt, Cross}
 use Rattle.rdx_lang.proofs.MemberLaws.{in-map, in-append}
 
@@ -21,6 +21,7 @@ abbrev mutual
   IsNameless (lit u) = Unit {0}
   IsNameless (nt x) = Unit {0}
   IsNameless (named x q) = ⊥
+  IsNameless (differ x q) = ⊥
   IsNameless (in_hole q r) = IsNameless q × IsNameless r
   IsNameless (hide_hole q) = IsNameless q
   IsNameless (closed q) = IsNameless q
@@ -45,6 +46,7 @@ mutual
   nameless-unnamed (lit u) = tt
   nameless-unnamed (nt x) = tt
   nameless-unnamed (named x q) = nameless-unnamed q
+  nameless-unnamed (differ x q) = nameless-unnamed q
   nameless-unnamed (in_hole q r) = (nameless-unnamed q, nameless-unnamed r)
   nameless-unnamed (hide_hole q) = nameless-unnamed q
   nameless-unnamed (closed q) = nameless-unnamed q
@@ -69,6 +71,7 @@ mutual
   nameless-crossed y (nt (Nt z)) q h (there i) = elim i [ ]
   nameless-crossed y (nt (Cross z w)) q h i = elim i [ ]
   nameless-crossed y (named x p) q h i = absurd h
+  nameless-crossed y (differ x p) q h i = absurd h
   nameless-crossed y (in_hole p r) q h i = elim i [ ]
   nameless-crossed y (hide_hole p) q h i = elim i [ ]
   nameless-crossed y (closed p) q h i =
@@ -110,6 +113,7 @@ mutual
   uses-none n (lit u) h = refl
   uses-none n (nt x) h = refl
   uses-none n (named x q) h = absurd h
+  uses-none n (differ x q) h = absurd h
   uses-none n (in_hole q r) h = λ i. uses-none n q h.0 i ++ uses-none n r h.1 i
   uses-none n (hide_hole q) h = uses-none n q h
   uses-none n (closed q) h = refl
@@ -136,6 +140,7 @@ mutual
   nameless-closed (lit u) h = refl
   nameless-closed (nt x) h = refl
   nameless-closed (named x q) h = absurd h
+  nameless-closed (differ x q) h = absurd h
   nameless-closed (in_hole q r) h = and_from (closed_parts_fit q) (closed_parts_fit r) (nameless-closed q h.0) (nameless-closed r h.1)
   nameless-closed (hide_hole q) h = nameless-closed q h
   nameless-closed (closed q) h = and_from (has_one_depth_each q) (closed_parts_fit q) (nameless-one_depth q h) (nameless-closed q h)

@@ -13,18 +13,18 @@ use Rattle.rdx_lang.specs.Ascending.{IsBelow, IsAscending}
 use Rattle.rdx_lang.specs.Bindings.{one, many, len, none, more, name_cmp}
 use Rattle.rdx_lang.specs.Listing.{IsListing}
 use Rattle.rdx_lang.specs.Members.{In, here, there}
-use Rattle.rdx_lang.specs.Order.{value_cmp, values_cmp, pair_cmp, binding_cmp, decomposition_cmp, TellsApart}
+use Rattle.rdx_lang.specs.Order.{value_cmp, values_cmp, pair_cmp, pairs_cmp, mismatch_cmp, mismatches_cmp, binding_cmp, decomposition_cmp, TellsApart}
 
 -- ---- orders made of others
 
 -- what ties in two steps ties in the first
-first_Equal : (o p : Ordering) → ordering_then o p ≡ Equal → o ≡ Equal
+pub first_Equal : (o p : Ordering) → ordering_then o p ≡ Equal → o ≡ Equal
 first_Equal Less p h = cc
 first_Equal Equal p h = refl
 first_Equal Greater p h = cc
 
 -- what ties in two steps ties in the second
-second_Equal : (o p : Ordering) → ordering_then o p ≡ Equal → p ≡ Equal
+pub second_Equal : (o p : Ordering) → ordering_then o p ≡ Equal → p ≡ Equal
 second_Equal Less p h = cc
 second_Equal Equal p h = h
 second_Equal Greater p h = cc
@@ -79,9 +79,21 @@ pair_cmp-tells p q h =
     let d : p.1 ≡ q.1 = value_cmp-tells p.1 q.1 (second_Equal (name_cmp p.0 q.0) (value_cmp p.1 q.1) h) in
     λ i. (e i, d i)
 
+-- mismatch names with their sets that tie are equal
+mismatch_cmp-tells : TellsApart mismatch_cmp
+mismatch_cmp-tells m n h =
+    let e : m.0 ≡ n.0 = name_cmp-tells m.0 n.0 (first_Equal (name_cmp m.0 n.0) (slice_cmp tree_cmp m.1 n.1) h) in
+    let d : m.1 ≡ n.1 = lists_tell tree_cmp tree_cmp-equal m.1 n.1 (second_Equal (name_cmp m.0 n.0) (slice_cmp tree_cmp m.1 n.1) h) in
+    λ i. (e i, d i)
+
 -- bindings that tie are equal
 pub binding_cmp-tells : TellsApart binding_cmp
-binding_cmp-tells = lists_tell pair_cmp pair_cmp-tells
+binding_cmp-tells a b h =
+    let e : a.pairs ≡ b.pairs =
+    lists_tell pair_cmp pair_cmp-tells a.pairs b.pairs (first_Equal (pairs_cmp a.pairs b.pairs) (mismatches_cmp a.differs b.differs) h) in
+    let d : a.differs ≡ b.differs =
+    lists_tell mismatch_cmp mismatch_cmp-tells a.differs b.differs (second_Equal (pairs_cmp a.pairs b.pairs) (mismatches_cmp a.differs b.differs) h) in
+    λ i. record { pairs = e i; differs = d i }
 
 -- decompositions that tie are equal
 pub decomposition_cmp-tells : TellsApart decomposition_cmp

@@ -1,7 +1,7 @@
 -- What each form of the code's patterns stands for, for proofs here and in the crates above.
 use Rattle.std.proofs.Common.{◌≡◌, ℕ, List, Option, map, ap, ◌∙◌}
 use Rattle.rdx_term.specs.View.{tree_of}
-use Rattle.rdx_lang.specs.Patterns.{Pattern, wild, of_kind, except, prefix, hole, lit, nt, named, in_hole, hide_hole, closed, seq}
+use Rattle.rdx_lang.specs.Patterns.{Pattern, wild, of_kind, except, prefix, hole, lit, nt, named, differ, in_hole, hide_hole, closed, seq}
 use Rattle.rdx_lang.specs.PatternView.{pattern_of, pattern_step, slot_of, slot_step, Slot, just, repeated, items_of}
 use Rattle.rdx_lang.specs.declared.pattern.Item as code_item
 use Rattle.rdx_lang.specs.declared.pattern.Item.TheOpen as layer
@@ -46,6 +46,10 @@ pattern_lit u = pattern_at _ _ (pattern_variants.outs-Lit u)
 -- a nonterminal
 pub pattern_nt : (x : Ref) → pattern_of (code_pattern.Nt x) ≡ nt x
 pattern_nt x = pattern_at _ _ (pattern_variants.outs-Nt x)
+
+-- a pattern with a mismatch name
+pub pattern_differ : (x : List ℕ) (q : _) → pattern_of (code_pattern.Differ x q) ≡ differ x (pattern_of q.value)
+pattern_differ x q = pattern_at _ _ (pattern_variants.outs-Differ x q)
 
 -- a named pattern
 pub pattern_named : (x : List ℕ) (q : _) → pattern_of (code_pattern.Named x q) ≡ named x (pattern_of q.value)

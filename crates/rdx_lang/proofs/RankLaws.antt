@@ -1,12 +1,12 @@
 -- Where ranks fall along every left edge, so do the numbers that they give to patterns, and no nonterminal reaches itself.
 use Rattle.std.proofs.Common.{◌≡◌, ℕ, ◌+◌, ◌<◌, ◌≤◌, max, Bool, true, false, List, [], ◌∷◌, drop, refl, sym, subst, arith, if◌then◌else◌}
 use Rattle.std.proofs.Math.Nat.{max-le}
-use Rattle.rdx_lang.specs.Edges.{Edge, edge_nt, edge_named, edge_hide_hole, edge_closed, edge_left, edge_right, Reaches, at_once, further}
+use Rattle.rdx_lang.specs.Edges.{Edge, edge_nt, edge_named, edge_differ, edge_hide_hole, edge_closed, edge_left, edge_right, Reaches, at_once, further}
 use Rattle.rdx_lang.specs.Empty.{is_empty, TellsEmpty}
 use Rattle.rdx_lang.specs.Laws.{RanksFall, EdgesFall, RankedIsFree}
 use Rattle.rdx_lang.specs.Lookup.{alternatives_among}
 use Rattle.rdx_lang.specs.Members.{In, here, there}
-use Rattle.rdx_lang.specs.Patterns.{Pattern, wild, of_kind, except, prefix, hole, lit, nt, named, in_hole, hide_hole, closed, seq, Definition, Language}
+use Rattle.rdx_lang.specs.Patterns.{Pattern, wild, of_kind, except, prefix, hole, lit, nt, named, differ, in_hole, hide_hole, closed, seq, Definition, Language}
 use Rattle.rdx_lang.specs.Nodes.{pattern_nodes, patterns_nodes}
 use Rattle.rdx_lang.specs.Ranks.{first_rank, root_ranks, roots_among, AreBelow, FallIn, FallInAll, FallAmong, AreRanks}
 use Rattle.rdx_lang.specs.LeftNumbers.{above, rank_of, left_number}
@@ -64,6 +64,10 @@ module _ (L : Language) (E : Ref → Bool) (e : TellsEmpty L E) (roots : Ref →
       let k : number q ≤ first_rank (drop 1 ns) = number-root q (drop 1 ns) h.1 in
       let l : first_rank (drop 1 ns) < first_rank ns = h.0 in
       omega arith
+  number-root (differ x q) ns h =
+      let k : number q ≤ first_rank (drop 1 ns) = number-root q (drop 1 ns) h.1 in
+      let l : first_rank (drop 1 ns) < first_rank ns = h.0 in
+      omega arith
   number-root (in_hole q r) ns h =
       in_hole-root q r ns h (number-root q (drop 1 ns) h.0.1) (number-root r (drop (pattern_nodes q) (drop 1 ns)) h.1.1)
   number-root (hide_hole q) ns h =
@@ -114,6 +118,7 @@ module _ (L : Language) (ns : List ℕ) (E : Ref → Bool) (w : IsWellFormed L) 
   left_number-edge : {p q : Pattern} → Edge L p q → left_number E (rank_of L ns) q < left_number E (rank_of L ns) p
   left_number-edge (edge_nt {x = x} {p = p} a) = ranks_fall L ns E w r e x p a
   left_number-edge (edge_named {x = x} {q = q}) = omega arith
+  left_number-edge (edge_differ {x = x} {q = q}) = omega arith
   left_number-edge (edge_hide_hole {q = q}) = omega arith
   left_number-edge (edge_closed {q = q}) = omega arith
   left_number-edge (edge_left {q = q} {r = s}) = omega arith

@@ -1,10 +1,10 @@
 -- Whether a language is left-recursive can be decided: either no nonterminal reaches itself, or there is a first that does.
 use Rattle.std.proofs.Common.{◌≡◌, Bool, true, false, ◌⊎◌, inl, inr, List, [], ◌∷◌, ◌++◌, refl, sym, ap, subst, if◌then◌else◌}
-use Rattle.rdx_lang.specs.Edges.{Edge, edge_nt, edge_named, edge_hide_hole, edge_closed, edge_left, edge_right, Reaches, at_once, further, IsRecursive, IsFree}
+use Rattle.rdx_lang.specs.Edges.{Edge, edge_nt, edge_named, edge_differ, edge_hide_hole, edge_closed, edge_left, edge_right, Reaches, at_once, further, IsRecursive, IsFree}
 use Rattle.rdx_lang.specs.Empty.{is_empty, TellsEmpty}
 use Rattle.rdx_lang.specs.Laws.{HasFirstRecursive, FreeOrRecursive}
 use Rattle.rdx_lang.specs.Members.{In, here, there}
-use Rattle.rdx_lang.specs.Patterns.{Pattern, wild, of_kind, except, prefix, hole, lit, nt, named, in_hole, hide_hole, closed, seq, Definition, Language}
+use Rattle.rdx_lang.specs.Patterns.{Pattern, wild, of_kind, except, prefix, hole, lit, nt, named, differ, in_hole, hide_hole, closed, seq, Definition, Language}
 use Rattle.rdx_lang.specs.Rules.{IsAlternative}
 use Rattle.rdx_lang.specs.References.{is_same}
 use Rattle.rdx_lang.specs.declared.pattern.Ref.{Ref}
@@ -77,6 +77,7 @@ module _ (E : Ref → Bool) where
   leads (lit t) = []
   leads (nt x) = x ∷ []
   leads (named x q) = leads q
+  leads (differ x q) = leads q
   leads (in_hole q r) = leads q ++ (if is_empty E q then leads r else [])
   leads (hide_hole q) = leads q
   leads (closed q) = leads q
@@ -187,6 +188,7 @@ module _ (L : Language) (E : Ref → Bool) (e : TellsEmpty L E) where
   leads-reach (nt x) y q d (here f) = subst (λ (z : Ref). Reaches L q (nt z)) (sym f) (at_once d)
   leads-reach (nt x) y q d (there i) = elim i [ ]
   leads-reach (named x p) y q d i = further d (leads-reach p y (named x p) edge_named i)
+  leads-reach (differ x p) y q d i = further d (leads-reach p y (differ x p) edge_differ i)
   leads-reach (in_hole p r) y q d i = elim (in-append (leads E p) (if is_empty E p then leads E r else []) y i) [
     | inl j ↦ further d (leads-reach p y (in_hole p r) edge_left j)
     | inr j ↦
@@ -263,6 +265,7 @@ module _ (L : Language) (E : Ref → Bool) (e : TellsEmpty L E) where
   Onward (lit t) y = ⊥
   Onward (nt x) y = Via all x y
   Onward (named x q) y = LeadsOn (named x q) y
+  Onward (differ x q) y = LeadsOn (differ x q) y
   Onward (in_hole q r) y = LeadsOn (in_hole q r) y
   Onward (hide_hole q) y = LeadsOn (hide_hole q) y
   Onward (closed q) y = LeadsOn (closed q) y
@@ -278,6 +281,7 @@ module _ (L : Language) (E : Ref → Bool) (e : TellsEmpty L E) where
   onward-leads (lit t) y h = absurd h
   onward-leads (nt x) y h = record { lead = x; among = here refl; on = inr h }
   onward-leads (named x q) y h = h
+  onward-leads (differ x q) y h = h
   onward-leads (in_hole q r) y h = h
   onward-leads (hide_hole q) y h = h
   onward-leads (closed q) y h = h
@@ -298,6 +302,7 @@ module _ (L : Language) (E : Ref → Bool) (e : TellsEmpty L E) where
   edge-onward : (p q : Pattern) (y : Ref) → Edge L p q → LeadsOn q y → Onward p y
   edge-onward p q y (edge_nt {x = x} a) l = step-on x l.lead y (lead-step x q l.lead a l.among) l.on
   edge-onward p q y edge_named l = record { lead = l.lead; among = l.among; on = l.on }
+  edge-onward p q y edge_differ l = record { lead = l.lead; among = l.among; on = l.on }
   edge-onward p q y edge_hide_hole l = record { lead = l.lead; among = l.among; on = l.on }
   edge-onward p q y edge_closed l = record { lead = l.lead; among = l.among; on = l.on }
   edge-onward p q y (edge_left {r = r}) l =

@@ -4,9 +4,9 @@ use Rattle.std.specs.declared.cmp.Ordering.TheVariants.{Less}
 use Rattle.rdx_term.specs.Tree.{Tree, list, cons, trees}
 use Rattle.rdx_term.specs.Tree.{nil as no_trees}
 use Rattle.rdx_term.specs.Tree.{hole as the_hole}
-use Rattle.rdx_lang.specs.Bindings.{Value, len, values, Pair, Binding, one_name, name_cmp, bound_names, HasAscendingNames}
+use Rattle.rdx_lang.specs.Bindings.{Value, len, values, Pair, Binding, of_pairs, no_names, one_name, name_cmp, HaveAscendingNames, HasAscendingNames}
 use Rattle.rdx_lang.specs.Bindings.{one as one_term}
-use Rattle.rdx_lang.specs.Collections.{AreValuesOf, of_none, of_more, IsSequenceOf, IsCollection, IsRepetition, without_length, with_length}
+use Rattle.rdx_lang.specs.Collections.{AreValuesOf, of_none, of_more, IsSequenceOf, AreSetsOf, sets_of_none, sets_of_more, IsCollection, IsRepetition, without_length, with_length}
 use Rattle.rdx_lang.specs.Examples.{int, list_of_one, list_of_two, marked_first, marked_second, first_marked, second_marked, any, Numbers, Contexts}
 use Rattle.rdx_lang.specs.Join.{IsJoin}
 use Rattle.rdx_lang.specs.Members.{In, here, there}
@@ -17,9 +17,10 @@ use Rattle.rdx_lang.specs.Rules.{Match, MatchItems, MatchRun, match_kind, match_
 use Rattle.rdx_lang.specs.Rules.{Split, split_hole, split_seq, split_many, run_here, run_there, run_behind}
 use Rattle.rdx_lang.proofs.CollectionLaws.{AreMaps, repetition-ascends, one_repetition}
 use Rattle.rdx_lang.proofs.Examples.{HoldsOfAll, of_member, listed, one_alone, no_member, apart, two_values, two_pairs, joined_by, named_kind_binds, AtOneHole, first_hole, second_hole, at_either_item, is_either}
-use Rattle.rdx_lang.proofs.JoinLaws.{one_join, join_agrees, turned_join, unit_left, unit_right, unit_right-only, joined_itself, joined_itself-only}
+use Rattle.rdx_lang.proofs.JoinLaws.{one_join, join_agrees, turned_join, unit_left, unit_right, unit_right-only, joined_itself, none_left, none_left-only, one_right-only, one_itself-only}
 use Rattle.rdx_lang.proofs.MemberLaws.{in-map, map-in}
-use Rattle.rdx_lang.proofs.NameLaws.{split-names}
+use Rattle.rdx_lang.proofs.SeenListings.{matches_listed, splits_listed}
+use Rattle.rdx_lang.proofs.SetJoins.{no_sets_left}
 use Rattle.rdx_lang.proofs.RuleSteps.{list_inside, many_inside, hole_inside, hole_splits}
 
 -- ---- what a repetition binds whose turns bind one name
@@ -30,18 +31,23 @@ each x vs = map (one_name x) vs
 
 -- a binding of one name is a finite map
 each_map : (x : List ℕ) (vs : List Value) → AreMaps (each x vs)
-each_map x vs b i = let k = in-map (one_name x) vs b i in subst HasAscendingNames (sym k.2) (tt, tt)
+each_map x vs b i = let k = in-map (one_name x) vs b i in subst HasAscendingNames (sym k.2) ((tt, tt), (tt, tt))
 
 -- the values are in their order
 each_value : (x : List ℕ) (vs : List Value) → AreValuesOf x (each x vs) (values vs)
 each_value x [] = of_none
 each_value x (v ∷ vs) = of_more (here refl) (each_value x vs)
 
+-- and there are no sets
+each_sets : (x : List ℕ) (vs : List Value) → AreSetsOf (each x vs) []
+each_sets x [] = sets_of_none
+each_sets x (v ∷ vs) = sets_of_more (each_sets x vs) (no_sets_left [] (tt, tt))
+
 -- the name stands for their sequence
 each_collected : (x : List ℕ) (vs : List Value) → IsCollection (x ∷ []) (each x vs) (one_name x (in_turns vs))
-each_collected x vs = record { names = refl; sequences = sequences }
+each_collected x vs = record { names = refl; sequences = sequences; differs = each_sets x vs }
   where
-    sequences : (y : List ℕ) (v : Value) → In (y, v) (one_name x (in_turns vs)) → IsSequenceOf y (each x vs) v
+    sequences : (y : List ℕ) (v : Value) → In {A = Pair} (y, v) ((x, in_turns vs) ∷ []) → IsSequenceOf y (each x vs) v
     sequences y v (here e) = record {
       sequence = values vs;
       same = ap (λ (p : Pair). p.1) e;
@@ -62,7 +68,7 @@ repeats-only x vs c r = one_repetition (tt, tt) (each_map x vs) r (repeats x vs)
 
 -- with a length name that comes first
 abbrev counted : List ℕ → List ℕ → List Value → Binding
-counted n x vs = (n, len (length (each x vs))) ∷ (x, in_turns vs) ∷ []
+counted n x vs = of_pairs ((n, len (length (each x vs))) ∷ (x, in_turns vs) ∷ [])
 
 counts : (n x : List ℕ) (vs : List Value) → name_cmp n x ≡ Less → IsRepetition (x ∷ []) (each x vs) (Some n) (counted n x vs)
 counts n x vs l =
@@ -111,7 +117,7 @@ module _ {L : Language} {x : List ℕ} where
 
   -- `any` with a name matches each term
   named_any : (t : Tree) → Match L (named x any) t (one_name x (one_term t))
-  named_any t = match_named (match_kind refl) (unit_left (one_name x (one_term t)) (tt, tt))
+  named_any t = match_named (match_kind refl) (unit_left (one_name x (one_term t)) ((tt, tt), (tt, tt)))
 
   -- and each way to take some is such a run
   run_of : {ps : Items} (us vs : List Tree) {d : Binding} → MatchItems L ps (trees vs) d
@@ -121,12 +127,12 @@ module _ {L : Language} {x : List ℕ} where
 
   -- with no items behind it, it takes all
   takes_all : (ts : List Tree) {cs : List Binding} {d : Binding} → MatchRun L (named x any) nil (trees ts) cs d
-      → (cs ≡ each x (terms ts)) × (d ≡ [])
+      → (cs ≡ each x (terms ts)) × (d ≡ no_names)
   takes_all [] (run_end match_none) = (refl, refl)
   takes_all (t ∷ ts) (run_end h) = elim h [ ]
   takes_all (t ∷ ts) (run_more h r) = let k = takes_all ts r in ((λ i. named_kind_binds h i ∷ k.0 i), k.1)
 
-  run_of_all : (ts : List Tree) → MatchRun L (named x any) nil (trees ts) (each x (terms ts)) []
+  run_of_all : (ts : List Tree) → MatchRun L (named x any) nil (trees ts) (each x (terms ts)) no_names
   run_of_all [] = run_end match_none
   run_of_all (t ∷ ts) = run_more (named_any t) (run_of_all ts)
 
@@ -136,7 +142,7 @@ module _ {L : Language} {x : List ℕ} where
   last_binds {n = n} ts {b} h =
       let k = many_inside h in
       let a = takes_all ts k.run in
-      let none : IsJoin k.first [] b = subst (λ (d : Binding). IsJoin k.first d b) a.1 k.joined in
+      let none : IsJoin k.first no_names b = subst (λ (d : Binding). IsJoin k.first d b) a.1 k.joined in
       let same : b ≡ k.first = unit_right-only (repetition-ascends (tt, tt) k.repeats) none in
       let repeats : IsRepetition (x ∷ []) (each x (terms ts)) n k.first = subst (λ (cs : List Binding). IsRepetition (x ∷ []) cs n k.first) a.0 k.repeats in
       subst (λ (c : Binding). IsRepetition (x ∷ []) (each x (terms ts)) n c) (sym same) repeats
@@ -223,7 +229,7 @@ divides : (us vs : List Tree) (b : Binding) → IsJoin (as_any_1 (terms us)) (as
 divides us vs b j = one_join (as_any_1 (terms us)) (as_any_2 (terms vs)) b (both_bound (in_turn us) (in_turn vs)) j (joined_both (in_turn us) (in_turn vs))
 
 pub each_division : EachDivision
-each_division = listed members ((refl, tt), (tt, tt)) (by_division [] (alone 1), (by_division (alone 1) [], tt)) only
+each_division = matches_listed (refl, (refl, tt)) (listed members ((refl, tt), (tt, tt)) (by_division [] (alone 1), (by_division (alone 1) [], tt)) only)
   where
     members : List Binding
     members = both_bound (in_turn []) (in_turn (alone 1)) ∷ both_bound (in_turn (alone 1)) (in_turn []) ∷ []
@@ -249,18 +255,20 @@ counts_2 : (vs : List Value) → IsRepetition (codes "any_2" ∷ []) (each (code
 counts_2 vs = counts (codes "..._n") (codes "any_2") vs refl
 
 pub no_turn : NoTurn
-no_turn =
-    one_alone (counted_1 []) (match_seq (last_item [] (counts_1 [])))
-    (λ b h. counts-only (codes "..._n") (codes "any_1") refl [] b (last_binds [] (list_inside h)))
+no_turn = matches_listed (refl, tt) (one_alone (counted_1 []) (match_seq (last_item [] (counts_1 [])))
+    (λ b h. counts-only (codes "..._n") (codes "any_1") refl [] b (last_binds [] (list_inside h))))
 
 -- a finite map is the join of two where each pair of it is of one of them, and each of theirs is of it
-join_of : (a b c : Binding) → HasAscendingNames c → HoldsOfAll (λ p. In p a ⊎ In p b) c → HoldsOfAll (λ p. In p c) a → HoldsOfAll (λ p. In p c) b
-    → IsJoin a b c
+join_of : (a b c : List Pair) → HaveAscendingNames c → HoldsOfAll (λ p. In p a ⊎ In p b) c → HoldsOfAll (λ p. In p c) a → HoldsOfAll (λ p. In p c) b
+    → IsJoin (of_pairs a) (of_pairs b) (of_pairs c)
 join_of a b c m s l r = record {
-  map = m;
-  sound = of_member (λ p. In p a ⊎ In p b) c s;
-  left = of_member (λ p. In p c) a l;
-  right = of_member (λ p. In p c) b r;
+  pairs = record {
+    map = m;
+    sound = of_member (λ p. In p a ⊎ In p b) c s;
+    left = of_member (λ p. In p c) a l;
+    right = of_member (λ p. In p c) b r;
+  };
+  differs = no_sets_left [] (tt, tt);
 }
 
 -- the lengths of repetitions with one length name are equal
@@ -269,17 +277,17 @@ equal_counts : (us vs : List Tree) (b : Binding) → IsJoin (counted_1 (terms us
 equal_counts us vs b j =
     let m : Value = len (length (each (codes "any_1") (terms us))) in
     let n : Value = len (length (each (codes "any_2") (terms vs))) in
-    join_agrees (counted_1 (terms us)) (counted_2 (terms vs)) b j (codes "..._n") m n (here refl) (here refl)
+    (join_agrees (counted_1 (terms us)) (counted_2 (terms vs)) b j).pairs (codes "..._n") m n (here refl) (here refl)
 
 pub equal_lengths : EqualLengths
-equal_lengths = one_alone all (division (alone 1) (alone 2) (counts_1 (terms (alone 1))) (counts_2 (terms (alone 2))) joined) only
+equal_lengths = matches_listed (refl, tt) (one_alone all (division (alone 1) (alone 2) (counts_1 (terms (alone 1))) (counts_2 (terms (alone 2))) joined) only)
   where
     all : Binding
-    all = (codes "..._n", len 1) ∷ both_bound (in_turn (alone 1)) (in_turn (alone 2))
+    all = of_pairs ((codes "..._n", len 1) ∷ (codes "any_1", in_turn (alone 1)) ∷ (codes "any_2", in_turn (alone 2)) ∷ [])
 
     joined : IsJoin (counted_1 (terms (alone 1))) (counted_2 (terms (alone 2))) all
     joined =
-        join_of (counted_1 (terms (alone 1))) (counted_2 (terms (alone 2))) all ((refl, (refl, tt)), ((refl, tt), (tt, tt)))
+        join_of (counted_1 (terms (alone 1))).pairs (counted_2 (terms (alone 2))).pairs all.pairs ((refl, (refl, tt)), ((refl, tt), (tt, tt)))
         (inl (here refl), (inl (there (here refl)), (inr (there (here refl)), tt)))
         (here refl, (there (here refl), tt)) (here refl, (there (there (here refl)), tt))
 
@@ -314,18 +322,21 @@ twice : (ts : List Tree) {k : Option ℕ} {b : Binding} → Match Numbers (seq_o
 twice ts h = divided as_any_1 as_any_1 (repeats-only (codes "any_1")) (repeats-only (codes "any_1")) ts h
 
 pub equal_sequences : EqualSequences
-equal_sequences = (one_alone bound (division (alone 1) (alone 1) (repeats_1 (terms (alone 1))) (repeats_1 (terms (alone 1))) itself) only, no_member none)
+equal_sequences = (
+  matches_listed (refl, tt) (one_alone bound (division (alone 1) (alone 1) (repeats_1 (terms (alone 1))) (repeats_1 (terms (alone 1))) itself) only),
+  matches_listed tt (no_member none),
+)
   where
     bound : Binding
     bound = as_any_1 (terms (alone 1))
 
     itself : IsJoin bound bound bound
-    itself = joined_itself bound (tt, tt)
+    itself = joined_itself bound ((tt, tt), (tt, tt)) refl
 
     only : (b : Binding) → Match Numbers (seq_of_both any_1 None any_1 None) (list_of_two (int 1) (int 1)) b → b ≡ bound
     only b h =
         by_cut (b ≡ bound)
-        ((λ j. absurd (no_longer (int 1) (alone 1) b j)), ((λ j. joined_itself-only (tt, tt) j), ((λ j. absurd (no_shorter (int 1) (alone 1) b j)), tt)))
+        ((λ j. absurd (no_longer (int 1) (alone 1) b j)), ((λ j. one_itself-only j), ((λ j. absurd (no_shorter (int 1) (alone 1) b j)), tt)))
         (twice (pair 1 1) h)
 
     none : (b : Binding) → Match Numbers (seq_of_both any_1 None any_1 None) (list_of_two (int 1) (int 2)) b → ⊥
@@ -343,7 +354,7 @@ record TwoTurns (L : Language) (p : Pattern) (t u : Tree) (cs : List Binding) (d
   pub at_first : Match L p t first
   pub at_second : Match L p u second
   pub turns : cs ≡ first ∷ second ∷ []
-  pub behind : d ≡ []
+  pub behind : d ≡ no_names
 
 -- so is each over two terms
 two_turns : {L : Language} {p : Pattern} {t u : Tree} {cs : List Binding} {d : Binding} → MatchRun L p nil (cons t (cons u no_trees)) cs d
@@ -354,7 +365,7 @@ two_turns (run_more {c = b} h (run_more {c = c} g (run_end match_none))) =
     record { first = b; second = c; at_first = h; at_second = g; turns = refl; behind = refl }
 
 pub sequence_of_sequences : SequenceOfSequences
-sequence_of_sequences = one_alone bound (match_seq (match_many run (repeats_1 both) (unit_right bound (tt, tt)))) only
+sequence_of_sequences = matches_listed (refl, tt) (one_alone bound (match_seq (match_many run (repeats_1 both) (unit_right bound ((tt, tt), (tt, tt))))) only)
   where
     both : List Value
     both = in_turn (alone 1) ∷ in_turn [] ∷ []
@@ -362,7 +373,7 @@ sequence_of_sequences = one_alone bound (match_seq (match_many run (repeats_1 bo
     bound : Binding
     bound = as_any_1 both
 
-    run : MatchRun Numbers (seq_of_any any_1 None) nil (trees (list_of_one (int 1) ∷ empty_list ∷ [])) (each (codes "any_1") both) []
+    run : MatchRun Numbers (seq_of_any any_1 None) nil (trees (list_of_one (int 1) ∷ empty_list ∷ [])) (each (codes "any_1") both) no_names
     run = run_more (list_of_any (alone 1)) (run_more (list_of_any []) (run_end match_none))
 
     only : (b : Binding) → Match Numbers (seq_of_any (seq_of_any any_1 None) None) (list_of_two (list_of_one (int 1)) empty_list) b
@@ -373,42 +384,53 @@ sequence_of_sequences = one_alone bound (match_seq (match_many run (repeats_1 bo
         let turns : k.turns ≡ each (codes "any_1") both = w.turns ∙ (λ i. list_binds (alone 1) w.at_first i ∷ list_binds [] w.at_second i ∷ []) in
         let r : IsRepetition (codes "any_1" ∷ []) (each (codes "any_1") both) None k.first =
         subst (λ (cs : List Binding). IsRepetition (codes "any_1" ∷ []) cs None k.first) turns k.repeats in
-        unit_right-only (tt, tt) (joined_by (repeats-only (codes "any_1") both k.first r) w.behind k.joined)
+        one_right-only (joined_by (repeats-only (codes "any_1") both k.first r) w.behind k.joined)
 
 -- ---- what they split
 
--- a binding of no name is empty
-nameless : (b : Binding) → bound_names b ≡ [] → b ≡ []
-nameless [] e = refl
-nameless (p ∷ b) e = absurd cc
+-- two turns without names bind nothing
+none_twice : IsRepetition [] (no_names ∷ no_names ∷ []) None no_names
+none_twice = without_length (record {
+  names = refl;
+  sequences = λ x v i. elim i [ ];
+  differs = sets_of_more (sets_of_more sets_of_none (no_sets_left [] (tt, tt))) (no_sets_left [] (tt, tt));
+})
+
+-- and nothing else
+two_nameless : {b c d : Binding} → b ≡ no_names → c ≡ no_names → IsRepetition [] (b ∷ c ∷ []) None d → d ≡ no_names
+two_nameless {b} {c} {d} e f r =
+    one_repetition tt maps (subst (λ (cs : List Binding). IsRepetition [] cs None d) (λ i. e i ∷ f i ∷ []) r) none_twice
+  where
+    maps : AreMaps (no_names ∷ no_names ∷ [])
+    maps g (here k) = subst HasAscendingNames (sym k) (tt, (tt, tt))
+    maps g (there (here k)) = subst HasAscendingNames (sym k) (tt, (tt, tt))
+    maps g (there (there i)) = elim i [ ]
+
+-- joined with no names
+nothing_more : {c d b : Binding} → c ≡ no_names → d ≡ no_names → IsJoin c d b → b ≡ no_names
+nothing_more e f j = none_left-only (joined_by e f j)
 
 -- `(hole ...)` splits a list of two at one item, and the other is the hole
 one_hole : {m : Option ℕ} {t u C s : Tree} {b : Binding} → Split Contexts (seq_of_any hole None) (list m (cons t (cons u no_trees))) C s b
     → AtOneHole t u C s b
-one_hole {t = t} {u = u} {C = C} {b = b} h = by_run (nameless b (split-names h)) h
-  where
-    by_run : {m : Option ℕ} {s : Tree} → b ≡ [] → Split Contexts (seq_of_any hole None) (list m (cons t (cons u no_trees))) C s b
-        → AtOneHole t u C s b
-    by_run n (split_seq (split_many (run_here g (run_end i)) r j) e) = elim i [ ]
-    by_run n (split_seq (split_many (run_here g (run_more i (run_end match_none))) r j) e) =
-        let k = hole_splits g in
-        first_hole (hole_inside i).0 (e ∙ ap (λ (x : Tree). marked_first x u) k.0) k.1 n
-    by_run n (split_seq (split_many (run_there i (run_here g (run_end match_none))) r j) e) =
-        let k = hole_splits g in
-        second_hole (hole_inside i).0 (e ∙ ap (λ (x : Tree). marked_second t x) k.0) k.1 n
-    by_run n (split_seq (split_many (run_there i (run_there g (run_behind o))) r j) e) = elim o [ ]
-    by_run n (split_seq (split_many (run_there i (run_behind o)) r j) e) = elim o [ ]
-    by_run n (split_seq (split_many (run_behind o) r j) e) = elim o [ ]
+one_hole (split_seq (split_many (run_here g (run_end i)) r j) e) = elim i [ ]
+one_hole {u = u} (split_seq (split_many (run_here g (run_more i (run_end match_none))) r j) e) =
+    let k = hole_splits g in
+    let n = hole_inside i in
+    first_hole n.0 (e ∙ ap (λ (x : Tree). marked_first x u) k.0) k.1 (nothing_more (two_nameless k.2 n.1 r) refl j)
+one_hole {t = t} (split_seq (split_many (run_there i (run_here g (run_end match_none))) r j) e) =
+    let k = hole_splits g in
+    let n = hole_inside i in
+    second_hole n.0 (e ∙ ap (λ (x : Tree). marked_second t x) k.0) k.1 (nothing_more (two_nameless n.1 k.2 r) refl j)
+one_hole (split_seq (split_many (run_there i (run_there g (run_behind o))) r j) e) = elim o [ ]
+one_hole (split_seq (split_many (run_there i (run_behind o)) r j) e) = elim o [ ]
+one_hole (split_seq (split_many (run_behind o) r j) e) = elim o [ ]
 
 pub one_turn_splits : OneTurnSplits
-one_turn_splits = listed at_either_item ((refl, tt), (tt, tt)) (at_first, (at_second, tt)) (λ d h. is_either d (one_hole h))
+one_turn_splits = splits_listed (refl, (refl, tt)) (listed at_either_item ((refl, tt), (tt, tt)) (at_first, (at_second, tt)) (λ d h. is_either d (one_hole h)))
   where
-    -- what two turns without names bind
-    none : IsRepetition [] ([] ∷ [] ∷ []) None []
-    none = without_length (record { names = refl; sequences = λ x v i. elim i [ ] })
+    at_first : Split Contexts (seq_of_any hole None) (list_of_two the_hole the_hole) first_marked the_hole no_names
+    at_first = split_seq (split_many (run_here split_hole (run_more match_hole (run_end match_none))) none_twice none_left) refl
 
-    at_first : Split Contexts (seq_of_any hole None) (list_of_two the_hole the_hole) first_marked the_hole []
-    at_first = split_seq (split_many (run_here split_hole (run_more match_hole (run_end match_none))) none (unit_left [] tt)) refl
-
-    at_second : Split Contexts (seq_of_any hole None) (list_of_two the_hole the_hole) second_marked the_hole []
-    at_second = split_seq (split_many (run_there match_hole (run_here split_hole (run_end match_none))) none (unit_left [] tt)) refl
+    at_second : Split Contexts (seq_of_any hole None) (list_of_two the_hole the_hole) second_marked the_hole no_names
+    at_second = split_seq (split_many (run_there match_hole (run_here split_hole (run_end match_none))) none_twice none_left) refl

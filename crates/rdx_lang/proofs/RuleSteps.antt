@@ -8,17 +8,17 @@ use Rattle.rdx_term.specs.Tree.{nil as no_trees}
 use Rattle.rdx_term.specs.Tree.{hole as the_hole}
 use Rattle.rdx_term.specs.Fill.{fill_of}
 use Rattle.rdx_term.specs.Items.{trees_count, put_at}
-use Rattle.rdx_lang.specs.Bindings.{Binding, no_names, one_name}
+use Rattle.rdx_lang.specs.Bindings.{Binding, no_names, one_name, one_differs}
 use Rattle.rdx_lang.specs.Bindings.{one as one_term}
 use Rattle.rdx_lang.specs.Collections.{IsRepetition}
 use Rattle.rdx_lang.specs.Inside.Alternatives.{AnyAlternative, AnySplit}
 use Rattle.rdx_lang.specs.Singles.{are_single}
 use Rattle.rdx_lang.specs.Join.{IsJoin}
 use Rattle.rdx_lang.specs.Names.{names}
-use Rattle.rdx_lang.specs.Patterns.{Pattern, wild, of_kind, except, prefix, hole, lit, nt, named, in_hole, hide_hole, closed, seq, Items, nil, one, many, Language}
+use Rattle.rdx_lang.specs.Patterns.{Pattern, wild, of_kind, except, prefix, hole, lit, nt, named, differ, in_hole, hide_hole, closed, seq, Items, nil, one, many, Language}
 use Rattle.rdx_lang.specs.PatternView.{Slot, just, repeated, items_of}
-use Rattle.rdx_lang.specs.Rules.{Match, MatchItems, MatchRun, match_wild, match_kind, match_except, match_prefix, match_hole, match_lit, match_nt, match_named, match_in_hole, match_hide_hole, match_closed, match_seq, match_none, match_one, match_many, run_end, run_more, is_of_kind, is_one_of}
-use Rattle.rdx_lang.specs.Rules.{Split, SplitItems, SplitRun, split_hole, split_nt, split_named, split_in_hole, split_closed, split_seq, split_here, split_behind, split_many, run_here, run_there, run_behind}
+use Rattle.rdx_lang.specs.Rules.{Match, MatchItems, MatchRun, match_wild, match_kind, match_except, match_prefix, match_hole, match_lit, match_nt, match_named, match_differ, match_in_hole, match_hide_hole, match_closed, match_seq, match_none, match_one, match_many, run_end, run_more, is_of_kind, is_one_of}
+use Rattle.rdx_lang.specs.Rules.{Split, SplitItems, SplitRun, split_hole, split_nt, split_named, split_differ, split_in_hole, split_closed, split_seq, split_here, split_behind, split_many, run_here, run_there, run_behind}
 use Rattle.rdx_lang.specs.declared.pattern.Kind.{Kind}
 use Rattle.rdx_lang.specs.declared.pattern.Ref.{Ref}
 
@@ -40,6 +40,12 @@ pub record NamedParts (L : Language) (x : List ℕ) (q : Pattern) (t : Tree) (b 
   pub inside : Binding
   pub matched : Match L q t inside
   pub joined : IsJoin inside (one_name x (one_term t)) b
+
+-- what q binds at t, joined with the mismatch name x for t, is b
+pub record DifferParts (L : Language) (x : List ℕ) (q : Pattern) (t : Tree) (b : Binding) : Type 0 where
+  pub inside : Binding
+  pub matched : Match L q t inside
+  pub joined : IsJoin inside (one_differs x t) b
 
 -- what p binds at t, joined with what the items ps bind at ts, is b
 pub record ItemParts (L : Language) (p : Pattern) (ps : Items) (t : Tree) (ts : Trees) (b : Binding) : Type 0 where
@@ -83,6 +89,12 @@ pub record NamedSplit (L : Language) (x : List ℕ) (q : Pattern) (t C s : Tree)
   pub inside : Binding
   pub split : Split L q t C s inside
   pub joined : IsJoin inside (one_name x (one_term C)) b
+
+-- q splits t into the context C and the part s, and what it binds, joined with the mismatch name x for C, is b
+pub record DifferSplit (L : Language) (x : List ℕ) (q : Pattern) (t C s : Tree) (b : Binding) : Type 0 where
+  pub inside : Binding
+  pub split : Split L q t C s inside
+  pub joined : IsJoin inside (one_differs x C) b
 
 -- q splits t, r splits the part into a context and s, the one context put into the other is C, and what they bind is b together
 pub record InHoleSplit (L : Language) (q r : Pattern) (t C s : Tree) (b : Binding) : Type 0 where
@@ -167,6 +179,10 @@ module _ {L : Language} where
   -- a pattern with a name
   pub named_inside : {x : List ℕ} {q : Pattern} {t : Tree} {b : Binding} → Match L (named x q) t b → NamedParts L x q t b
   named_inside (match_named {c = c} h j) = record { inside = c; matched = h; joined = j }
+
+  -- a pattern with a mismatch name
+  pub differ_inside : {x : List ℕ} {q : Pattern} {t : Tree} {b : Binding} → Match L (differ x q) t b → DifferParts L x q t b
+  differ_inside (match_differ {c = c} h j) = record { inside = c; matched = h; joined = j }
 
   -- a pattern in the hole of another
   pub in_hole_inside : {q r : Pattern} {t : Tree} {b : Binding} → Match L (in_hole q r) t b → InHoleParts L q r t b
@@ -260,6 +276,10 @@ module _ {L : Language} where
   -- a pattern with a name
   pub named_splits : {x : List ℕ} {q : Pattern} {t C s : Tree} {b : Binding} → Split L (named x q) t C s b → NamedSplit L x q t C s b
   named_splits (split_named {c = c} h j) = record { inside = c; split = h; joined = j }
+
+  -- a pattern with a mismatch name
+  pub differ_splits : {x : List ℕ} {q : Pattern} {t C s : Tree} {b : Binding} → Split L (differ x q) t C s b → DifferSplit L x q t C s b
+  differ_splits (split_differ {c = c} h j) = record { inside = c; split = h; joined = j }
 
   -- a pattern in the hole of another
   pub in_hole_splits : {q r : Pattern} {t C s : Tree} {b : Binding} → Split L (in_hole q r) t C s b → InHoleSplit L q r t C s b

@@ -2,21 +2,21 @@
 use Rattle.std.proofs.Common.{◌≡◌, ◌<◌, ◌≤◌, ℕ, zero, suc, length, ◌⊎◌, inl, inr, List, [], ◌∷◌, refl, sym, ◌∙◌, ap, subst, arith}
 use Rattle.rdx_term.specs.Tree as tree
 use Rattle.rdx_term.specs.Tree.{Tree, Trees, tree_nodes, trees_nodes}
-use Rattle.rdx_lang.specs.Bindings.{Binding}
+use Rattle.rdx_lang.specs.Bindings.{Binding, visible}
 use Rattle.rdx_lang.specs.Decompositions.{Decomposition}
-use Rattle.rdx_lang.specs.Edges.{Edge, edge_nt, edge_named, edge_hide_hole, edge_closed, edge_left, edge_right, Reaches, at_once, further, IsFree}
-use Rattle.rdx_lang.specs.Empty.{IsEmpty, empty_hole, empty_nt, empty_named, empty_closed, empty_in_hole}
+use Rattle.rdx_lang.specs.Edges.{Edge, edge_nt, edge_named, edge_differ, edge_hide_hole, edge_closed, edge_left, edge_right, Reaches, at_once, further, IsFree}
+use Rattle.rdx_lang.specs.Empty.{IsEmpty, empty_hole, empty_nt, empty_named, empty_differ, empty_closed, empty_in_hole}
 use Rattle.rdx_lang.specs.Laws.{HasListing, HasSplitsListing}
-use Rattle.rdx_lang.specs.Listing.{SplitsInto}
+use Rattle.rdx_lang.specs.Listing.{IsSeen, SplitsInto, SplitsVisibly}
 use Rattle.rdx_lang.specs.Members.{In, here, there}
 use Rattle.rdx_lang.specs.Model.TotalOrders.{binding_cmp-total, decomposition_cmp-total}
 use Rattle.rdx_lang.specs.Order.{binding_cmp, decomposition_cmp}
-use Rattle.rdx_lang.specs.Patterns.{Pattern, wild, of_kind, except, prefix, hole, lit, nt, named, in_hole, hide_hole, closed, seq, Items, nil, one, many, Definition, Language}
-use Rattle.rdx_lang.specs.Rules.{Match, IsAlternative, Split, SplitItems, SplitRun, split_hole, split_nt, split_named, split_in_hole, split_closed, split_seq, split_here, split_behind, split_many, run_here, run_there, run_behind}
+use Rattle.rdx_lang.specs.Patterns.{Pattern, wild, of_kind, except, prefix, hole, lit, nt, named, differ, in_hole, hide_hole, closed, seq, Items, nil, one, many, Definition, Language}
+use Rattle.rdx_lang.specs.Rules.{Match, IsAlternative, Split, SplitItems, SplitRun, split_hole, split_nt, split_named, split_differ, split_in_hole, split_closed, split_seq, split_here, split_behind, split_many, run_here, run_there, run_behind}
 use Rattle.rdx_lang.specs.WellFormed.{defined}
 use Rattle.rdx_lang.specs.declared.pattern.Ref.{Ref}
-use Rattle.rdx_lang.proofs.Finite.{sorted, listed}
-use Rattle.rdx_lang.proofs.FinitePatterns.{FinitelyMany, FinitelyManyItems, finite_wild, finite_kind, finite_except, finite_prefix, finite_hole, finite_lit, finite_nt, finite_named, finite_in_hole, finite_hide_hole, finite_closed, finite_no_list, finite_seq, finite_none_left, finite_no_term, finite_no_item, finite_one_more}
+use Rattle.rdx_lang.proofs.Finite.{Finite, IsImage, finite_as, finite_images, sorted, listed}
+use Rattle.rdx_lang.proofs.FinitePatterns.{FinitelyMany, FinitelyManyItems, finite_wild, finite_kind, finite_except, finite_prefix, finite_hole, finite_lit, finite_nt, finite_named, finite_differ, finite_in_hole, finite_hide_hole, finite_closed, finite_no_list, finite_seq, finite_none_left, finite_no_term, finite_no_item, finite_one_more}
 use Rattle.rdx_lang.proofs.FiniteRuns.{FinitelyManyRuns, finite_no_turn, finite_turn_more, finite_many}
 use Rattle.rdx_lang.proofs.MemberLaws.{map-in}
 use Rattle.rdx_lang.proofs.OrderLaws.{binding_cmp-tells, decomposition_cmp-tells}
@@ -45,6 +45,7 @@ mutual
   split_part split_hole = inl (empty_hole, refl)
   split_part (split_nt a h) = elim (split_part h) [ inl e ↦ inl (empty_nt a e.0, e.1) | inr l ↦ inr l ]
   split_part (split_named h j) = elim (split_part h) [ inl e ↦ inl (empty_named e.0, e.1) | inr l ↦ inr l ]
+  split_part (split_differ h j) = elim (split_part h) [ inl e ↦ inl (empty_differ e.0, e.1) | inr l ↦ inr l ]
   split_part (split_in_hole h g e j) = part_of_part (split_part h) (split_part g)
   split_part (split_closed h) = elim (split_part h) [ inl e ↦ inl (empty_closed e.0, e.1) | inr l ↦ inr l ]
   split_part (split_seq h e) = inr (let l = item_part h in omega (arith, l))
@@ -180,6 +181,8 @@ module _ (L : Language) where
         ]
     by_pattern passed rest c f (named x q) r =
         finite_named L x q t (by_pattern passed rest c f q (reached-edge passed (named x q) q r edge_named))
+    by_pattern passed rest c f (differ x q) r =
+        finite_differ L x q t (by_pattern passed rest c f q (reached-edge passed (differ x q) q r edge_differ))
     by_pattern passed rest c f (in_hole q s) r =
         finite_in_hole L q s t (by_pattern passed rest c f q (reached-edge passed (in_hole q s) q r edge_left))
         (at_part q s t (λ u l. smaller u l s) (λ e. by_pattern passed rest c f s (reached-edge passed (in_hole q s) s r (edge_right e))))
@@ -215,20 +218,48 @@ module _ (L : Language) where
   finitely_many : IsFree L → (p : Pattern) (t : Tree) → FinitelyMany L p t
   finitely_many free p t = below_nodes free (suc (tree_nodes t)) t (omega arith) p
 
+  -- what is seen of bindings of which there are finitely many
+  finitely_seen : (p : Pattern) (t : Tree) → FinitelyMany L p t → Finite (IsSeen (Match L p t))
+  finitely_seen p t f = finite_as (IsImage (Match L p t) visible) (IsSeen (Match L p t)) forth back (finite_images (Match L p t) visible f.matches)
+    where
+      forth : (b : Binding) → IsImage (Match L p t) visible b → IsSeen (Match L p t) b
+      forth b i = record { whole = i.from; holds = i.has; seen = i.by }
+
+      back : (b : Binding) → IsSeen (Match L p t) b → IsImage (Match L p t) visible b
+      back b s = record { from = s.whole; has = s.holds; by = s.seen }
+
+  -- the same context and part, with what is seen of the binding
+  abbrev shown : Decomposition → Decomposition
+  shown d = record { context = d.context; part = d.part; binding = visible d.binding }
+
+  -- what is seen of splits of which there are finitely many
+  finitely_split : (p : Pattern) (t : Tree) → FinitelyMany L p t → Finite (SplitsVisibly L p t)
+  finitely_split p t f = finite_as (IsImage (SplitsInto L p t) shown) (SplitsVisibly L p t) forth back (finite_images (SplitsInto L p t) shown f.splits)
+    where
+      forth : (d : Decomposition) → IsImage (SplitsInto L p t) shown d → SplitsVisibly L p t d
+      forth d i = subst (SplitsVisibly L p t) (sym i.by) (record { whole = i.from.binding; holds = i.has; seen = refl })
+
+      back : (d : Decomposition) → SplitsVisibly L p t d → IsImage (SplitsInto L p t) shown d
+      back d s = record {
+        from = record { context = d.context; part = d.part; binding = s.whole };
+        has = s.holds;
+        by = λ i. record { context = d.context; part = d.part; binding = s.seen i };
+      }
+
   -- each pattern has a listing of its bindings
   pub has_listing : IsFree L → (p : Pattern) (t : Tree) → HasListing L p t
   has_listing free p t =
-      let f : FinitelyMany L p t = finitely_many free p t in
+      let f : Finite (IsSeen (Match L p t)) = finitely_seen p t (finitely_many free p t) in
       record {
-        found = sorted binding_cmp binding_cmp-total binding_cmp-tells f.matches.members;
-        listing = listed binding_cmp binding_cmp-total binding_cmp-tells (Match L p t) f.matches;
+        found = sorted binding_cmp binding_cmp-total binding_cmp-tells f.members;
+        listing = listed binding_cmp binding_cmp-total binding_cmp-tells (IsSeen (Match L p t)) f;
       }
 
   -- and one of what it splits the term into
   pub has_splits_listing : IsFree L → (p : Pattern) (t : Tree) → HasSplitsListing L p t
   has_splits_listing free p t =
-      let f : FinitelyMany L p t = finitely_many free p t in
+      let f : Finite (SplitsVisibly L p t) = finitely_split p t (finitely_many free p t) in
       record {
-        found = sorted decomposition_cmp decomposition_cmp-total decomposition_cmp-tells f.splits.members;
-        listing = listed decomposition_cmp decomposition_cmp-total decomposition_cmp-tells (SplitsInto L p t) f.splits;
+        found = sorted decomposition_cmp decomposition_cmp-total decomposition_cmp-tells f.members;
+        listing = listed decomposition_cmp decomposition_cmp-total decomposition_cmp-tells (SplitsVisibly L p t) f;
       }

@@ -12,7 +12,7 @@ use Rattle.rdx_term.proofs.AtPaths.{IsPlace-item, tree_at-item, context_at-item,
 use Rattle.rdx_lang.specs.Bindings.{Binding}
 use Rattle.rdx_lang.specs.Laws.{IsSplitOf, IsAlongPath}
 use Rattle.rdx_lang.specs.Patterns.{Pattern, Items, Language}
-use Rattle.rdx_lang.specs.Rules.{Split, SplitItems, SplitRun, split_hole, split_nt, split_named, split_in_hole, split_closed, split_seq, split_here, split_behind, split_many, run_here, run_there, run_behind}
+use Rattle.rdx_lang.specs.Rules.{Split, SplitItems, SplitRun, split_hole, split_nt, split_named, split_differ, split_in_hole, split_closed, split_seq, split_here, split_behind, split_many, run_here, run_there, run_behind}
 
 -- ---- along a path
 
@@ -70,6 +70,7 @@ mutual
   split-along split_hole = record { inside = tt; context = refl; part = refl }
   split-along (split_nt a h) = split-along h
   split-along (split_named h j) = split-along h
+  split-along (split_differ h j) = split-along h
   split-along (split_in_hole {t = t} {D = D} {E = E} {u = u} {s = s} h g e j) =
       subst (λ (C : Tree). IsAlongPath t C s) (sym e) (along_both t D u E s (split-along h) (split-along g))
   split-along (split_closed h) = split-along h

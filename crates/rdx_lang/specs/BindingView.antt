@@ -1,8 +1,10 @@
 -- The values and bindings that the code's stand for.
-use Rattle.std.specs.Prelude.{ℕ, List, map, Option, Some, None}
+use Rattle.std.specs.Prelude.{ℕ, List, map, Option, Some, None, Vec}
 use Rattle.std.specs.Borrow.{Bor}
+use Rattle.std.specs.declared.alloc.Global.{Global}
 use Rattle.rdx_term.specs.View.{tree_of}
-use Rattle.rdx_lang.specs.Bindings.{Value, one, many, len, values, Pair, Binding}
+use Rattle.rdx_term.specs.declared.term.Term.{Term}
+use Rattle.rdx_lang.specs.Bindings.{Value, one, many, len, values, Pair, Mismatch}
 use Rattle.rdx_lang.specs.declared.binding.Value as code_value
 use Rattle.rdx_lang.specs.declared.binding.Value.TheOpen as layer
 
@@ -21,8 +23,16 @@ abbrev pub pair_of : List ℕ × code_value.Value → Pair
 pair_of p = (p.0, value_of p.1)
 
 -- the pairs that pairs of the code stand for, in their order
-abbrev pub pairs_of : List (List ℕ × code_value.Value) → Binding
+abbrev pub pairs_of : List (List ℕ × code_value.Value) → List Pair
 pairs_of ps = map pair_of ps
+
+-- the mismatch name with its set that one of the code stands for
+abbrev pub mismatch_of : List ℕ × Vec Term Global → Mismatch
+mismatch_of m = (m.0, map tree_of m.1.items)
+
+-- mismatch names with their sets, in their order
+abbrev pub mismatches_of : List (List ℕ × Vec Term Global) → List Mismatch
+mismatches_of ms = map mismatch_of ms
 
 -- what a value found stands for
 abbrev pub found_value : Option (Bor code_value.Value) → Option Value

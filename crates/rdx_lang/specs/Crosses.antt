@@ -2,7 +2,7 @@
 -- context of an e in an e (the Redex reference manual, "Patterns", which leaves open what each of its alternatives is: they are as here).
 use Rattle.std.specs.Prelude.{ℕ, Bool, true, false, List, [], ◌∷◌, ◌++◌, map, flat_map, None, bytes_eq, if◌then◌else◌}
 use Rattle.rdx_lang.specs.Lookup.{alternatives_of}
-use Rattle.rdx_lang.specs.Patterns.{Pattern, wild, of_kind, except, prefix, hole, lit, nt, named, in_hole, hide_hole, closed, seq, Items, nil, one, many, Definition, Language}
+use Rattle.rdx_lang.specs.Patterns.{Pattern, wild, of_kind, except, prefix, hole, lit, nt, named, differ, in_hole, hide_hole, closed, seq, Items, nil, one, many, Definition, Language}
 use Rattle.rdx_lang.specs.References.{is_among}
 use Rattle.rdx_lang.specs.WellFormed.{defined}
 use Rattle.rdx_lang.specs.declared.pattern.Ref.{Ref}
@@ -21,6 +21,7 @@ abbrev mutual
   unnamed (lit u) = lit u
   unnamed (nt x) = nt x
   unnamed (named x q) = unnamed q
+  unnamed (differ x q) = unnamed q
   unnamed (in_hole q r) = in_hole (unnamed q) (unnamed r)
   unnamed (hide_hole q) = hide_hole (unnamed q)
   unnamed (closed q) = closed (unnamed q)
@@ -45,6 +46,7 @@ abbrev mutual
   crossed y (nt (Nt z)) = nt (Cross z y) ∷ []
   crossed y (nt (Cross z w)) = []
   crossed y (named x q) = map (λ r. named x r) (crossed y q)
+  crossed y (differ x q) = map (λ r. differ x r) (crossed y q)
   crossed y (in_hole q r) = []
   crossed y (hide_hole q) = []
   crossed y (closed q) = map closed (crossed y q)
@@ -112,6 +114,7 @@ abbrev mutual
   ways (nt (Nt x)) = []
   ways (nt (Cross x y)) = (x, y) ∷ []
   ways (named x q) = ways q
+  ways (differ x q) = ways q
   ways (in_hole q r) = ways q ++ ways r
   ways (hide_hole q) = ways q
   ways (closed q) = ways q

@@ -3,7 +3,7 @@
 use Rattle.std.specs.Prelude.{ℕ, suc, Bool, true, false, not, ◌&&◌, ◌||◌, List, [], ◌∷◌, ◌++◌, Option, Some, None, bytes_eq, nat_eq, nat_lt}
 use Rattle.std.specs.Bool.{beq}
 use Rattle.std.specs.List.{list_all}
-use Rattle.rdx_lang.specs.Patterns.{Pattern, wild, of_kind, except, prefix, hole, lit, nt, named, in_hole, hide_hole, closed, seq, Items, nil, one, many}
+use Rattle.rdx_lang.specs.Patterns.{Pattern, wild, of_kind, except, prefix, hole, lit, nt, named, differ, in_hole, hide_hole, closed, seq, Items, nil, one, many}
 
 -- one place at which a name is bound: the name, how many repetitions stand around it, and whether it is the length name of one, around which
 -- that one does not count
@@ -33,6 +33,7 @@ abbrev mutual
   uses n (lit u) = []
   uses n (nt x) = []
   uses n (named x q) = name_use n x ∷ uses n q
+  uses n (differ x q) = uses n q
   uses n (in_hole q r) = uses n q ++ uses n r
   uses n (hide_hole q) = uses n q
   uses n (closed q) = []
@@ -76,6 +77,7 @@ abbrev mutual
   closed_parts_fit (lit u) = true
   closed_parts_fit (nt x) = true
   closed_parts_fit (named x q) = closed_parts_fit q
+  closed_parts_fit (differ x q) = closed_parts_fit q
   closed_parts_fit (in_hole q r) = closed_parts_fit q && closed_parts_fit r
   closed_parts_fit (hide_hole q) = closed_parts_fit q
   closed_parts_fit (closed q) = has_one_depth_each q && closed_parts_fit q

@@ -6,7 +6,7 @@
 use Rattle.std.specs.Prelude.{◌≡◌, ℕ, List, ◌∷◌, ◌++◌}
 use Rattle.rdx_lang.specs.Members.{In}
 use Rattle.rdx_lang.specs.Empty.{IsEmpty}
-use Rattle.rdx_lang.specs.Patterns.{Pattern, nt, named, in_hole, hide_hole, closed, Definition, Language}
+use Rattle.rdx_lang.specs.Patterns.{Pattern, nt, named, differ, in_hole, hide_hole, closed, Definition, Language}
 use Rattle.rdx_lang.specs.Rules.{IsAlternative}
 use Rattle.rdx_lang.specs.declared.pattern.Ref.{Ref}
 
@@ -15,6 +15,7 @@ use Rattle.rdx_lang.specs.declared.pattern.Ref.{Ref}
 pub data Edge (L : Language) : Pattern → Pattern → Type 0 where
   edge_nt : {x : Ref} {p : Pattern} → IsAlternative L x p → Edge L (nt x) p
   edge_named : {x : List ℕ} {q : Pattern} → Edge L (named x q) q
+  edge_differ : {x : List ℕ} {q : Pattern} → Edge L (differ x q) q
   edge_hide_hole : {q : Pattern} → Edge L (hide_hole q) q
   edge_closed : {q : Pattern} → Edge L (closed q) q
   edge_left : {q r : Pattern} → Edge L (in_hole q r) q

@@ -5,7 +5,7 @@ use Rattle.std.specs.declared.cmp.Ordering.TheVariants.{Less}
 use Rattle.rdx_term.specs.Tree.{Tree, integer, symbol, list, cons}
 use Rattle.rdx_term.specs.Tree.{nil as no_trees}
 use Rattle.rdx_term.specs.Tree.{hole as the_hole}
-use Rattle.rdx_lang.specs.Bindings.{Binding, no_names, one_name}
+use Rattle.rdx_lang.specs.Bindings.{Binding, of_pairs, no_names, one_name}
 use Rattle.rdx_lang.specs.Bindings.{one as one_term}
 use Rattle.rdx_lang.specs.Decompositions.{Decomposition}
 use Rattle.rdx_lang.specs.Edges.{IsFree, IsFirstRecursive}
@@ -96,7 +96,7 @@ TwoMarks =
 abbrev pub NameAround : Type 0
 NameAround =
     Matches Numbers (named (codes "x") (seq_of_two e_1 (nt e))) (list_of_two (int 1) (int 2))
-    (((codes "e_1", one_term (int 1)) ∷ (codes "x", one_term (list_of_two (int 1) (int 2))) ∷ []) ∷ [])
+    (of_pairs ((codes "e_1", one_term (int 1)) ∷ (codes "x", one_term (list_of_two (int 1) (int 2))) ∷ []) ∷ [])
 
 -- the outer name hides no inner one: `(name x ((name x e)))` does not match `(1)`, since x would be `(1)` and 1
 abbrev pub NameAroundItself : Type 0
@@ -147,8 +147,8 @@ ItemsDecide = binding_cmp (binds (codes "x") (list_of_two (int 1) (int 2))) (bin
 -- x = (1), y = 3 comes before x = (1 2), y = 0, since the first pairs decide
 abbrev pub FirstPairDecides : Type 0
 FirstPairDecides =
-    binding_cmp ((codes "x", one_term (list_of_one (int 1))) ∷ (codes "y", one_term (int 3)) ∷ [])
-    ((codes "x", one_term (list_of_two (int 1) (int 2))) ∷ (codes "y", one_term (int 0)) ∷ []) ≡ Less
+    binding_cmp (of_pairs ((codes "x", one_term (list_of_one (int 1))) ∷ (codes "y", one_term (int 3)) ∷ []))
+    (of_pairs ((codes "x", one_term (list_of_two (int 1) (int 2))) ∷ (codes "y", one_term (int 0)) ∷ [])) ≡ Less
 
 -- ---- left edges
 
@@ -198,7 +198,7 @@ split_into C s b = record { context = C; part = s; binding = b }
 
 -- E_1 stands for a context, and number_1 for a term
 abbrev pub in_place : Tree → Tree → Binding
-in_place C t = (codes "E_1", one_term C) ∷ (codes "number_1", one_term t) ∷ []
+in_place C t = of_pairs ((codes "E_1", one_term C) ∷ (codes "number_1", one_term t) ∷ [])
 
 -- `(in-hole E_1 number_1)` matches `(1 2)` in both places: with E_1 = (hole 2) and number_1 = 1, and with E_1 = (1 hole) and number_1 = 2
 abbrev pub InEachPlace : Type 0

@@ -13,6 +13,7 @@ use Rattle.rdx_lang.specs.Decompositions.{Decomposition}
 use Rattle.rdx_lang.specs.Listing.{Matches, Splits}
 use Rattle.rdx_lang.specs.Empty.{IsEmpty, TellsEmpty}
 use Rattle.rdx_lang.specs.Edges.{Edge, IsFree, IsFirstRecursive}
+use Rattle.rdx_lang.specs.Mismatches.{HasNoDifferAhead}
 use Rattle.rdx_lang.specs.Names.{names}
 use Rattle.rdx_lang.specs.Patterns.{Pattern, Language}
 use Rattle.rdx_lang.specs.Ranks.{AreRanks}
@@ -30,7 +31,7 @@ abbrev pub OneSplitsListing : Type 0
 OneSplitsListing =
     (L : Language) (p : Pattern) (t : Tree) (ds es : List Decomposition) → Splits L p t ds → Splits L p t es → ds ≡ es
 
--- the listing of the bindings by which p matches t
+-- the listing of what is seen of the bindings by which p matches t
 pub record HasListing (L : Language) (p : Pattern) (t : Tree) : Type 0 where
   pub found : List Binding
   pub listing : Matches L p t found
@@ -73,7 +74,7 @@ JoinExists = (a b : Binding) → HasAscendingNames a → HasAscendingNames b →
 abbrev pub NamesAscend : Type 0
 NamesAscend = (p : Pattern) → IsAscending name_cmp (names p)
 
--- a match binds a finite map
+-- a match binds finite maps
 abbrev pub BindsAMap : Type 0
 BindsAMap = (L : Language) (p : Pattern) (t : Tree) (b : Binding) → Match L p t b → HasAscendingNames b
 
@@ -125,9 +126,9 @@ pub record SplitsWhole (L : Language) (p : Pattern) (t : Tree) : Type 0 where
 abbrev pub WholeIsEmpty : Type 0
 WholeIsEmpty = (L : Language) (p : Pattern) (t : Tree) → SplitsWhole L p t → IsEmpty L p
 
--- and a pattern that is Empty splits each term so
+-- and a pattern that is Empty splits each term so, where no mismatch name stands in it or in an alternative that left edges lead to
 abbrev pub EmptySplitsAll : Type 0
-EmptySplitsAll = (L : Language) (p : Pattern) (t : Tree) → IsEmpty L p → SplitsWhole L p t
+EmptySplitsAll = (L : Language) (p : Pattern) (t : Tree) → IsEmpty L p → HasNoDifferAhead L p → SplitsWhole L p t
 
 -- a test for the Empty nonterminals of a language
 pub record HasEmptyTest (L : Language) : Type 0 where

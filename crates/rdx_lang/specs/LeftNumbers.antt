@@ -1,7 +1,7 @@
 -- Numbers of patterns that fall along left edges, from the ranks of a language. A search may count by them.
 use Rattle.std.specs.Prelude.{ℕ, suc, ◌+◌, max, Bool, List, [], ◌∷◌, if◌then◌else◌}
 use Rattle.rdx_lang.specs.Empty.{is_empty}
-use Rattle.rdx_lang.specs.Patterns.{Pattern, wild, of_kind, except, prefix, hole, lit, nt, named, in_hole, hide_hole, closed, seq, Language}
+use Rattle.rdx_lang.specs.Patterns.{Pattern, wild, of_kind, except, prefix, hole, lit, nt, named, differ, in_hole, hide_hole, closed, seq, Language}
 use Rattle.rdx_lang.specs.Ranks.{roots_among}
 use Rattle.rdx_lang.specs.declared.pattern.Ref.{Ref}
 
@@ -25,6 +25,7 @@ left_number E R hole = 0
 left_number E R (lit u) = 0
 left_number E R (nt x) = R x
 left_number E R (named x q) = left_number E R q + 1
+left_number E R (differ x q) = left_number E R q + 1
 left_number E R (in_hole q r) = max (left_number E R q) (if is_empty E q then left_number E R r else 0) + 1
 left_number E R (hide_hole q) = left_number E R q + 1
 left_number E R (closed q) = left_number E R q + 1

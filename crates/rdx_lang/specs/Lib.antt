@@ -29,6 +29,7 @@ pub mod Literals
 pub mod Rules
 pub mod Empty
 pub mod Edges
+pub mod Mismatches
 pub mod Nodes
 pub mod Ranks
 pub mod LeftNumbers

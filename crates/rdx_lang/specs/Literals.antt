@@ -2,7 +2,7 @@
 -- "Patterns").
 use Rattle.std.specs.Prelude.{ℕ, Bool, false, ◌||◌, List, [], ◌∷◌, bytes_eq}
 use Rattle.rdx_term.specs.Tree.{Tree, symbol}
-use Rattle.rdx_lang.specs.Patterns.{Pattern, wild, of_kind, except, prefix, hole, lit, nt, named, in_hole, hide_hole, closed, seq, Items, nil, one, many, Definition, Language}
+use Rattle.rdx_lang.specs.Patterns.{Pattern, wild, of_kind, except, prefix, hole, lit, nt, named, differ, in_hole, hide_hole, closed, seq, Items, nil, one, many, Definition, Language}
 
 -- the term is this symbol
 abbrev pub is_symbol : List ℕ → Tree → Bool
@@ -20,6 +20,7 @@ abbrev mutual
   mentions s (lit u) = is_symbol s u
   mentions s (nt x) = false
   mentions s (named x q) = mentions s q
+  mentions s (differ x q) = mentions s q
   mentions s (in_hole q r) = mentions s q || mentions s r
   mentions s (hide_hole q) = mentions s q
   mentions s (closed q) = mentions s q

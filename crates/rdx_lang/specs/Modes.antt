@@ -2,7 +2,7 @@
 -- of them under an ellipsis.
 use Rattle.std.specs.Prelude.{ℕ, zero, suc, Bool, true, false, ◌&&◌, List, [], ◌∷◌, Option, Some, None, length, nat_eq}
 use Rattle.rdx_lang.specs.Fitting.{Called}
-use Rattle.rdx_lang.specs.Patterns.{Pattern, Items, wild, of_kind, except, prefix, hole, lit, nt, named, in_hole, hide_hole, closed, seq, nil, one, many}
+use Rattle.rdx_lang.specs.Patterns.{Pattern, Items, wild, of_kind, except, prefix, hole, lit, nt, named, differ, in_hole, hide_hole, closed, seq, nil, one, many}
 use Rattle.rdx_lang.specs.Programs.{Mode, Premise, JudgementRule}
 
 -- the mode of the judgement of each name, where there is one
@@ -44,6 +44,7 @@ is_list_of n hole = false
 is_list_of n (lit u) = false
 is_list_of n (nt x) = false
 is_list_of n (named x q) = false
+is_list_of n (differ x q) = false
 is_list_of n (in_hole q r) = false
 is_list_of n (hide_hole q) = false
 is_list_of n (closed q) = false

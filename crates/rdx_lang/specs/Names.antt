@@ -4,7 +4,7 @@ use Rattle.std.specs.Prelude.{ℕ, List, [], ◌∷◌, Option, Some, None}
 use Rattle.std.specs.declared.cmp.Ordering.{Ordering}
 use Rattle.std.specs.declared.cmp.Ordering.TheVariants.{Less, Equal, Greater}
 use Rattle.rdx_lang.specs.Bindings.{name_cmp}
-use Rattle.rdx_lang.specs.Patterns.{Pattern, wild, of_kind, except, prefix, hole, lit, nt, named, in_hole, hide_hole, closed, seq, Items, nil, one, many}
+use Rattle.rdx_lang.specs.Patterns.{Pattern, wild, of_kind, except, prefix, hole, lit, nt, named, differ, in_hole, hide_hole, closed, seq, Items, nil, one, many}
 
 -- ascending names y and ys with x put among them: x compares so to y, and further is ys with x put among them
 abbrev pub placed : Ordering → List ℕ → List ℕ → List (List ℕ) → List (List ℕ) → List (List ℕ)
@@ -38,6 +38,7 @@ abbrev mutual
   names (lit u) = []
   names (nt x) = []
   names (named x q) = add_names (names q) (x ∷ [])
+  names (differ x q) = names q
   names (in_hole q r) = add_names (names q) (names r)
   names (hide_hole q) = names q
   names (closed q) = []

@@ -1,6 +1,6 @@
 -- How many nodes patterns have: a pattern is a node, and so is each pattern inside it.
 use Rattle.std.specs.Prelude.{ℕ, ◌+◌, List, [], ◌∷◌}
-use Rattle.rdx_lang.specs.Patterns.{Pattern, wild, of_kind, except, prefix, hole, lit, nt, named, in_hole, hide_hole, closed, seq, Items, nil, one, many, Definition}
+use Rattle.rdx_lang.specs.Patterns.{Pattern, wild, of_kind, except, prefix, hole, lit, nt, named, differ, in_hole, hide_hole, closed, seq, Items, nil, one, many, Definition}
 
 abbrev mutual
   -- how many nodes a pattern has, with its own
@@ -13,6 +13,7 @@ abbrev mutual
   pattern_nodes (lit u) = 1
   pattern_nodes (nt x) = 1
   pattern_nodes (named x q) = pattern_nodes q + 1
+  pattern_nodes (differ x q) = pattern_nodes q + 1
   pattern_nodes (in_hole q r) = pattern_nodes q + pattern_nodes r + 1
   pattern_nodes (hide_hole q) = pattern_nodes q + 1
   pattern_nodes (closed q) = pattern_nodes q + 1

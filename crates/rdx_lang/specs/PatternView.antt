@@ -1,7 +1,7 @@
 -- The patterns and languages that the code's values stand for.
 use Rattle.std.specs.Prelude.{ℕ, List, [], ◌∷◌, map, Option}
 use Rattle.rdx_term.specs.View.{tree_of}
-use Rattle.rdx_lang.specs.Patterns.{Pattern, wild, of_kind, except, prefix, hole, lit, nt, named, in_hole, hide_hole, closed, seq, Items, nil, one, many, Definition, Language}
+use Rattle.rdx_lang.specs.Patterns.{Pattern, wild, of_kind, except, prefix, hole, lit, nt, named, differ, in_hole, hide_hole, closed, seq, Items, nil, one, many, Definition, Language}
 use Rattle.rdx_lang.specs.declared.language.Language as code_language
 use Rattle.rdx_lang.specs.declared.language.Ranks as code_ranks
 use Rattle.rdx_lang.specs.declared.pattern.Item as code_item
@@ -32,6 +32,7 @@ pattern_step layer.Hole = hole
 pattern_step (layer.Lit u) = lit (tree_of u)
 pattern_step (layer.Nt x) = nt x
 pattern_step (layer.Named x q) = named x q.value
+pattern_step (layer.Differ x q) = differ x q.value
 pattern_step (layer.InHole q r) = in_hole q.value r.value
 pattern_step (layer.HideHole q) = hide_hole q.value
 pattern_step (layer.Closed q) = closed q.value

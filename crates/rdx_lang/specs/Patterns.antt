@@ -16,6 +16,7 @@ mutual
     lit : Tree → Pattern
     nt : Ref → Pattern
     named : List ℕ → Pattern → Pattern
+    differ : List ℕ → Pattern → Pattern
     in_hole : Pattern → Pattern → Pattern
     hide_hole : Pattern → Pattern
     closed : Pattern → Pattern

@@ -5,7 +5,7 @@
 use Rattle.std.specs.Prelude.{◌≡◌, ℕ, ◌<◌, List, [], ◌∷◌, drop, length, if◌then◌else◌}
 use Rattle.rdx_lang.specs.Empty.{IsEmpty}
 use Rattle.rdx_lang.specs.Nodes.{pattern_nodes, patterns_nodes, definitions_nodes}
-use Rattle.rdx_lang.specs.Patterns.{Pattern, wild, of_kind, except, prefix, hole, lit, nt, named, in_hole, hide_hole, closed, seq, Items, nil, one, many, Definition, Language}
+use Rattle.rdx_lang.specs.Patterns.{Pattern, wild, of_kind, except, prefix, hole, lit, nt, named, differ, in_hole, hide_hole, closed, seq, Items, nil, one, many, Definition, Language}
 use Rattle.rdx_lang.specs.References.{is_same}
 use Rattle.rdx_lang.specs.declared.pattern.Ref.{Ref}
 
@@ -40,6 +40,7 @@ abbrev mutual
   FallIn L roots (lit u) ns = Unit {0}
   FallIn L roots (nt x) ns = AreBelow (roots x) (first_rank ns)
   FallIn L roots (named x q) ns = (first_rank (drop 1 ns) < first_rank ns) × FallIn L roots q (drop 1 ns)
+  FallIn L roots (differ x q) ns = (first_rank (drop 1 ns) < first_rank ns) × FallIn L roots q (drop 1 ns)
   FallIn L roots (in_hole q r) ns =
       ((first_rank (drop 1 ns) < first_rank ns) × FallIn L roots q (drop 1 ns))
       × ((IsEmpty L q → first_rank (drop (pattern_nodes q) (drop 1 ns)) < first_rank ns) × FallIn L roots r (drop (pattern_nodes q) (drop 1 ns)))

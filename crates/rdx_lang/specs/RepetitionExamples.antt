@@ -4,7 +4,7 @@ use Rattle.std.specs.Prelude.{ℕ, List, [], ◌∷◌, Option, Some, None, code
 use Rattle.rdx_term.specs.Tree.{Tree, list}
 use Rattle.rdx_term.specs.Tree.{nil as no_trees}
 use Rattle.rdx_term.specs.Tree.{hole as the_hole}
-use Rattle.rdx_lang.specs.Bindings.{Value, many, len, values, Binding, no_names, one_name}
+use Rattle.rdx_lang.specs.Bindings.{Value, many, len, values, Binding, of_pairs, no_names, one_name}
 use Rattle.rdx_lang.specs.Bindings.{one as one_term}
 use Rattle.rdx_lang.specs.Examples.{int, list_of_one, list_of_two, first_marked, second_marked, any, Numbers, Contexts, split_into}
 use Rattle.rdx_lang.specs.Listing.{Matches, Splits}
@@ -37,7 +37,7 @@ in_turns vs = many (values vs)
 
 -- any_1 and any_2 stand for these values
 abbrev pub both_bound : Value → Value → Binding
-both_bound v w = (codes "any_1", v) ∷ (codes "any_2", w) ∷ []
+both_bound v w = of_pairs ((codes "any_1", v) ∷ (codes "any_2", w) ∷ [])
 
 -- ---- what repetitions match
 
@@ -52,13 +52,13 @@ EachDivision =
 abbrev pub NoTurn : Type 0
 NoTurn =
     Matches Numbers (seq_of_any any_1 (Some (codes "..._n"))) empty_list
-    (((codes "..._n", len 0) ∷ (codes "any_1", in_turns []) ∷ []) ∷ [])
+    (of_pairs ((codes "..._n", len 0) ∷ (codes "any_1", in_turns []) ∷ []) ∷ [])
 
 -- one length name means equal lengths: `(any_1 ..._n any_2 ..._n)` matches `(1 2)` with one turn each alone
 abbrev pub EqualLengths : Type 0
 EqualLengths =
     Matches Numbers (seq_of_both any_1 (Some (codes "..._n")) any_2 (Some (codes "..._n"))) (list_of_two (int 1) (int 2))
-    (((codes "..._n", len 1) ∷ both_bound (in_turns (one_term (int 1) ∷ [])) (in_turns (one_term (int 2) ∷ []))) ∷ [])
+    (of_pairs ((codes "..._n", len 1) ∷ (codes "any_1", in_turns (one_term (int 1) ∷ [])) ∷ (codes "any_2", in_turns (one_term (int 2) ∷ [])) ∷ []) ∷ [])
 
 -- a name that stands twice has equal sequences: `(any_1 ... any_1 ...)` matches `(1 1)` with any_1 = (1) alone, and does not match `(1 2)`
 abbrev pub EqualSequences : Type 0

@@ -10,13 +10,13 @@ use Rattle.rdx_term.specs.Bare.{bare}
 use Rattle.rdx_term.specs.Fill.{fill_of}
 use Rattle.rdx_term.specs.Items.{put_at}
 use Rattle.rdx_lang.specs.Members.{In}
-use Rattle.rdx_lang.specs.Bindings.{Binding, no_names, one_name}
+use Rattle.rdx_lang.specs.Bindings.{Binding, no_names, one_name, one_differs}
 use Rattle.rdx_lang.specs.Bindings.{one as one_term}
 use Rattle.rdx_lang.specs.Collections.{IsRepetition}
 use Rattle.rdx_lang.specs.Join.{IsJoin}
 use Rattle.rdx_lang.specs.Literals.{is_mentioned}
 use Rattle.rdx_lang.specs.Names.{names}
-use Rattle.rdx_lang.specs.Patterns.{Pattern, wild, of_kind, except, prefix, hole, lit, nt, named, in_hole, hide_hole, closed, seq, Items, nil, one, many, Language}
+use Rattle.rdx_lang.specs.Patterns.{Pattern, wild, of_kind, except, prefix, hole, lit, nt, named, differ, in_hole, hide_hole, closed, seq, Items, nil, one, many, Language}
 use Rattle.rdx_lang.specs.declared.pattern.Kind.{Kind}
 use Rattle.rdx_lang.specs.declared.pattern.Kind.TheVariants.{Any, Number, Natural, Integer, Real, Text, Boolean, Variable, Unmentioned}
 use Rattle.rdx_lang.specs.declared.pattern.Ref.{Ref}
@@ -84,16 +84,17 @@ AreAlternatives L x ps = (p : Pattern) → (In p ps ↔ IsAlternative L x p)
 
 -- The rules of matching. A literal matches the terms that are equal to it with marks forgotten, and `hole` the hole. A nonterminal matches
 -- what one of its alternatives matches, and binds nothing, whatever the alternative binds. A pattern with a name binds what its part binds,
--- joined with the name for the term; `in-hole` what its left part binds as it splits the term, joined with what its right part binds as it
--- matches what stands in the hole; a list pattern the join of what its items bind. A repetition matches any number of items, one after the
--- other, each by its pattern, and binds each name to the sequence of what the turns bind, and its length name to their number. Where a join
--- does not exist there is no match. The marks of a term count in joins alone.
+-- joined with the name for the term, and one with a mismatch name the same with the set of this term alone; `in-hole` what its left part
+-- binds as it splits the term, joined with what its right part binds as it matches what stands in the hole; a list pattern the join of what
+-- its items bind. A repetition matches any number of items, one after the other, each by its pattern, and binds each name to the sequence of
+-- what the turns bind, each mismatch name to the sets of all turns together, and its length name to their number. Where a join does not exist
+-- there is no match. The marks of a term count in joins alone.
 --
 -- The rules of splitting. `hole` splits each term into the hole and the term. A nonterminal splits it as its alternatives do, and binds
--- nothing. A pattern with a name binds the name to the context. `in-hole` splits what its left part has left in the hole once more, by its
--- right part, and puts the second context into the first. A list pattern splits a list where exactly one of its items splits and all others
--- match, be it by itself or in a turn of a repetition; the context is the list with the item's context in place of the item, marked there.
--- No other pattern splits a term: `hide-hole` does not, whatever its part does.
+-- nothing. A pattern with a name binds the name to the context, and one with a mismatch name has the context in its set. `in-hole` splits
+-- what its left part has left in the hole once more, by its right part, and puts the second context into the first. A list pattern splits a
+-- list where exactly one of its items splits and all others match, be it by itself or in a turn of a repetition; the context is the list with
+-- the item's context in place of the item, marked there. No other pattern splits a term: `hide-hole` does not, whatever its part does.
 mutual
   -- p matches t and binds b
   pub data Match (L : Language) : Pattern → Tree → Binding → Type 0 where
@@ -106,6 +107,8 @@ mutual
     match_nt : {x : Ref} {p : Pattern} {t : Tree} {c : Binding} → IsAlternative L x p → Match L p t c → Match L (nt x) t no_names
     match_named : {x : List ℕ} {q : Pattern} {t : Tree} {c b : Binding} →
         Match L q t c → IsJoin c (one_name x (one_term t)) b → Match L (named x q) t b
+    match_differ : {x : List ℕ} {q : Pattern} {t : Tree} {c b : Binding} →
+        Match L q t c → IsJoin c (one_differs x t) b → Match L (differ x q) t b
     match_in_hole : {q r : Pattern} {t C u : Tree} {c d b : Binding} →
         Split L q t C u c → Match L r u d → IsJoin c d b → Match L (in_hole q r) t b
     match_hide_hole : {q : Pattern} {t : Tree} {b : Binding} → Match L q t b → Match L (hide_hole q) t b
@@ -133,6 +136,8 @@ mutual
     split_nt : {x : Ref} {p : Pattern} {t C s : Tree} {c : Binding} → IsAlternative L x p → Split L p t C s c → Split L (nt x) t C s no_names
     split_named : {x : List ℕ} {q : Pattern} {t C s : Tree} {c b : Binding} →
         Split L q t C s c → IsJoin c (one_name x (one_term C)) b → Split L (named x q) t C s b
+    split_differ : {x : List ℕ} {q : Pattern} {t C s : Tree} {c b : Binding} →
+        Split L q t C s c → IsJoin c (one_differs x C) b → Split L (differ x q) t C s b
     split_in_hole : {q r : Pattern} {t C D E u s : Tree} {c d b : Binding} →
         Split L q t D u c → Split L r u E s d → C ≡ fill_of D E → IsJoin c d b → Split L (in_hole q r) t C s b
     split_closed : {q : Pattern} {t C s : Tree} {c : Binding} → Split L q t C s c → Split L (closed q) t C s no_names

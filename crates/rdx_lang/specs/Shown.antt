@@ -2,14 +2,14 @@
 use Rattle.std.specs.Prelude.{List, map}
 use Rattle.rdx_lang.specs.Bindings as model
 use Rattle.rdx_term.specs.View.{tree_of}
-use Rattle.rdx_lang.specs.BindingView.{pairs_of}
+use Rattle.rdx_lang.specs.BindingView.{pairs_of, mismatches_of}
 use Rattle.rdx_lang.specs.Decompositions.{Decomposition}
 use Rattle.rdx_lang.specs.declared.split.Split.{Split}
 use Rattle.rdx_lang.specs.declared.binding.Binding.{Binding}
 
 -- the binding that a binding of the code stands for
 abbrev pub binding_of : Binding → model.Binding
-binding_of b = pairs_of b.pairs.items
+binding_of b = record { pairs = pairs_of b.pairs.items; differs = mismatches_of b.differs.items }
 
 -- bindings in their order
 abbrev pub bindings_of : List Binding → List model.Binding

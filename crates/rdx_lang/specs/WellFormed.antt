@@ -1,7 +1,7 @@
 -- Which patterns and languages are well formed.
 use Rattle.std.specs.Prelude.{Bool, true, ◌&&◌, IsTrue, List, [], ◌∷◌, map}
 use Rattle.rdx_lang.specs.Depths.{has_fitting_names}
-use Rattle.rdx_lang.specs.Patterns.{Pattern, wild, of_kind, except, prefix, hole, lit, nt, named, in_hole, hide_hole, closed, seq, Items, nil, one, many, Definition, Language}
+use Rattle.rdx_lang.specs.Patterns.{Pattern, wild, of_kind, except, prefix, hole, lit, nt, named, differ, in_hole, hide_hole, closed, seq, Items, nil, one, many, Definition, Language}
 use Rattle.rdx_lang.specs.References.{is_among, are_distinct}
 use Rattle.rdx_lang.specs.declared.pattern.Ref.{Ref}
 
@@ -16,6 +16,7 @@ abbrev mutual
   has_known_nonterminals xs (lit u) = true
   has_known_nonterminals xs (nt x) = is_among x xs
   has_known_nonterminals xs (named x q) = has_known_nonterminals xs q
+  has_known_nonterminals xs (differ x q) = has_known_nonterminals xs q
   has_known_nonterminals xs (in_hole q r) = has_known_nonterminals xs q && has_known_nonterminals xs r
   has_known_nonterminals xs (hide_hole q) = has_known_nonterminals xs q
   has_known_nonterminals xs (closed q) = has_known_nonterminals xs q

@@ -1,8 +1,9 @@
 // What names stand for.
 ghost use Rattle.std.specs.Prelude.{◌≡◌, IfErr, IfNone, IfOk, IfSome, map};
-ghost use Rattle.rdx_lang.specs.Bindings.{HasAscendingNames};
-ghost use Rattle.rdx_lang.specs.Model.AscendingProps.{HasAscendingNames-prop};
-ghost use Rattle.rdx_lang.specs.BindingView.{value_of, pairs_of};
+ghost use Rattle.rdx_term.specs.View.{tree_of};
+ghost use Rattle.rdx_lang.specs.Bindings.{HaveAscendingNames, AreSets};
+ghost use Rattle.rdx_lang.specs.Model.AscendingProps.{HaveAscendingNames-prop, AreSets-prop};
+ghost use Rattle.rdx_lang.specs.BindingView.{value_of, pairs_of, mismatches_of};
 
 use rdx_term::{Name, NoMemory, Term};
 use std::cmp::Ordering;
@@ -45,34 +46,79 @@ fn share_values(values: &Vec<Value>) -> Result<Vec<Value>, NoMemory>
     Ok(shared)
 }
 
-/// A finite map from names to values: pairs, strictly ascending by the bytes of the names.
+// The same terms.
+fn share_terms(terms: &Vec<Term>) -> Result<Vec<Term>, NoMemory>
+    ensures { IfOk result (λ ts. map tree_of ts.items ≡ map tree_of terms.now.items) }
+{
+    let mut shared = Vec::with_capacity(*terms.allocator(), terms.len())?;
+    for term in terms {
+        shared.push(term.share()?)?;
+    }
+    Ok(shared)
+}
+
+// The same mismatch names with the same sets.
+fn share_sets(differs: &Vec<(Name, Vec<Term>)>) -> Result<Vec<(Name, Vec<Term>)>, NoMemory>
+    ensures { IfOk result (λ ms. mismatches_of ms.items ≡ mismatches_of differs.now.items) }
+{
+    let mut shared = Vec::with_capacity(*differs.allocator(), differs.len())?;
+    for (name, terms) in differs {
+        shared.push((name.share()?, share_terms(terms)?))?;
+    }
+    Ok(shared)
+}
+
+/// A finite map from names to values: pairs, strictly ascending by the bytes of the names. Beside it
+/// one from mismatch names to sets of terms: the terms that were matched under each, strictly
+/// ascending.
 #[derive(Drop)]
 pub struct Binding {
     pairs: Vec<(Name, Value)>,
-    pub ghost ascending: { HasAscendingNames (pairs_of pairs.items) } by { HasAscendingNames-prop _ },
+    differs: Vec<(Name, Vec<Term>)>,
+    pub ghost ascending: { HaveAscendingNames (pairs_of pairs.items) } by { HaveAscendingNames-prop _ },
+    pub ghost sets: { AreSets (mismatches_of differs.items) } by { AreSets-prop _ },
 }
 
 impl Binding {
-    ghost use Rattle.rdx_lang.specs.Bindings.{name_cmp, one_name, value_at, IsValueAt};
+    ghost use Rattle.rdx_lang.specs.Bindings.{HasAscendingNames, of_pairs, name_cmp, one_name, value_at, IsValueAt};
     ghost use Rattle.rdx_lang.specs.BindingView.{found_value};
     ghost use Rattle.rdx_lang.specs.Inside.Places.{IsGapFor, IsNameAt};
     ghost use Rattle.rdx_lang.specs.Join.{IsJoin};
     ghost use Rattle.rdx_lang.specs.Shown.{binding_of};
 
-    /// The binding of these pairs.
+    /// The binding of these pairs, without mismatch names.
     pub fn new(pairs: Vec<(Name, Value)>) -> Binding
-        requires { HasAscendingNames (pairs_of pairs.items) }
-        ensures { binding_of result ≡ pairs_of pairs.items }
+        requires { HaveAscendingNames (pairs_of pairs.items) }
+        ensures { binding_of result ≡ of_pairs (pairs_of pairs.items) }
     {
-        Binding { pairs }
+        let differs = Vec::new(*pairs.allocator());
+        Binding { pairs, differs }
+    }
+
+    /// The binding of these pairs and of these mismatch names with their sets.
+    pub fn with_differs(pairs: Vec<(Name, Value)>, differs: Vec<(Name, Vec<Term>)>) -> Binding
+        requires pairs { HaveAscendingNames (pairs_of pairs.items) }
+        requires differs { AreSets (mismatches_of differs.items) }
+        ensures { binding_of result
+            ≡ record { pairs = pairs_of pairs.items; differs = mismatches_of differs.items } }
+    {
+        Binding { pairs, differs }
     }
 
     /// The pairs, in the order of their names.
     pub fn pairs(&self) -> &[(Name, Value)]
-        ensures value { pairs_of result.now ≡ binding_of self.now }
+        ensures value { pairs_of result.now ≡ (binding_of self.now).pairs }
         ensures ascending { HasAscendingNames (binding_of self.now) }
     {
         &self.pairs
+    }
+
+    /// The mismatch names, in their order, each with the set of the terms that were matched under it.
+    pub fn differs(&self) -> &[(Name, Vec<Term>)]
+        ensures value { mismatches_of result.now ≡ (binding_of self.now).differs }
+        ensures sets { AreSets (mismatches_of result.now) }
+    {
+        &self.differs
     }
 
     // The place of the pair with this name; where there is none, the one that it would have.
@@ -114,19 +160,31 @@ impl Binding {
             Err(place) => {
                 let mut pairs = self.pairs;
                 pairs.insert(place, (name.share()?, value.share()?))?;
-                Ok(Some(Binding { pairs }))
+                Ok(Some(Binding {
+                    pairs,
+                    differs: self.differs,
+                }))
             }
         }
+    }
+
+    // The same pairs.
+    fn share_pairs(&self) -> Result<Vec<(Name, Value)>, NoMemory>
+        ensures { IfOk result (λ ps. pairs_of ps.items ≡ (binding_of self.now).pairs) }
+    {
+        let mut pairs = Vec::with_capacity(*self.pairs.allocator(), self.pairs.len())?;
+        for (name, value) in &self.pairs {
+            pairs.push((name.share()?, value.share()?))?;
+        }
+        Ok(pairs)
     }
 
     /// The same binding.
     pub fn share(&self) -> Result<Binding, NoMemory>
         ensures { IfOk result (λ b. binding_of b ≡ binding_of self.now) }
     {
-        let mut pairs = Vec::with_capacity(*self.pairs.allocator(), self.pairs.len())?;
-        for (name, value) in &self.pairs {
-            pairs.push((name.share()?, value.share()?))?;
-        }
-        Ok(Binding { pairs })
+        let pairs = self.share_pairs()?;
+        let differs = share_sets(&self.differs)?;
+        Ok(Binding { pairs, differs })
     }
 }

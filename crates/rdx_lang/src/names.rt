@@ -52,7 +52,7 @@ fn add_names(pat: &Pat, out: &mut BTreeSet<Key>) -> Result<(), NoMemory>
             add_names(left, out)?;
             add_names(right, out)
         }
-        Pat::HideHole(inner) => add_names(inner, out),
+        Pat::Differ(_, inner) | Pat::HideHole(inner) => add_names(inner, out),
         Pat::Seq(items) => add_item_names(items, out),
     }
 }

@@ -1,12 +1,15 @@
 // The order of values, of bindings and of splits.
 ghost use Rattle.std.specs.Prelude.{◌≡◌, map};
 ghost use Rattle.rdx_lang.specs.Bindings.{values};
-ghost use Rattle.rdx_lang.specs.Order.{value_kind, value_cmp, values_cmp, pair_cmp, binding_cmp, decomposition_cmp};
-ghost use Rattle.rdx_lang.specs.BindingView.{value_of, pair_of};
+ghost use Rattle.std.specs.Cmp.Lexicographic.{slice_cmp};
+ghost use Rattle.rdx_term.specs.Order.{tree_cmp};
+ghost use Rattle.rdx_term.specs.View.{tree_of};
+ghost use Rattle.rdx_lang.specs.Order.{value_kind, value_cmp, values_cmp, pair_cmp, pairs_cmp, mismatch_cmp, mismatches_cmp, binding_cmp, decomposition_cmp};
+ghost use Rattle.rdx_lang.specs.BindingView.{value_of, pair_of, pairs_of, mismatch_of, mismatches_of};
 ghost use Rattle.rdx_lang.specs.Shown.{binding_of, decomposition_of};
 
 use crate::{Binding, Split, Value};
-use rdx_term::Name;
+use rdx_term::{Name, Term};
 use std::cmp::Ordering;
 
 // The place of a value's kind in the order.
@@ -59,22 +62,65 @@ fn compare_pairs(a: &(Name, Value), b: &(Name, Value)) -> Ordering
     a.0.text().cmp(b.0.text()).then(a.1.compare(&b.1))
 }
 
+// Pairs compare one by one, a proper prefix first.
+fn compare_all_pairs(a: &[(Name, Value)], b: &[(Name, Value)]) -> Ordering
+    ensures { result ≡ pairs_cmp (pairs_of a.now) (pairs_of b.now) }
+{
+    let shorter = a.len().min(b.len());
+    for i in 0..shorter {
+        let order = compare_pairs(&a[i], &b[i]);
+        if order != Ordering::Equal {
+            return order;
+        }
+    }
+    a.len().cmp(&b.len())
+}
+
+// Terms compare one by one, a proper prefix first.
+fn compare_terms(a: &[Term], b: &[Term]) -> Ordering
+    ensures { result ≡ slice_cmp tree_cmp (map tree_of a.now) (map tree_of b.now) }
+{
+    let shorter = a.len().min(b.len());
+    for i in 0..shorter {
+        let order = a[i].compare(&b[i]);
+        if order != Ordering::Equal {
+            return order;
+        }
+    }
+    a.len().cmp(&b.len())
+}
+
+// Two mismatch names compare by the names, then by their sets, term by term.
+fn compare_sets(a: &(Name, Vec<Term>), b: &(Name, Vec<Term>)) -> Ordering
+    ensures { result ≡ mismatch_cmp (mismatch_of a.now) (mismatch_of b.now) }
+{
+    a.0.text().cmp(b.0.text()).then(compare_terms(&a.1, &b.1))
+}
+
+// Mismatch names with their sets compare one by one, a proper prefix first.
+fn compare_all_sets(a: &[(Name, Vec<Term>)], b: &[(Name, Vec<Term>)]) -> Ordering
+    ensures { result ≡ mismatches_cmp (mismatches_of a.now) (mismatches_of b.now) }
+{
+    let shorter = a.len().min(b.len());
+    for i in 0..shorter {
+        let order = compare_sets(&a[i], &b[i]);
+        if order != Ordering::Equal {
+            return order;
+        }
+    }
+    a.len().cmp(&b.len())
+}
+
 impl Binding {
     /// Bindings compare pair by pair, by the bytes of the name and then by the value, a proper
-    /// prefix first.
+    /// prefix first; then, in the same way, by their mismatch names with their sets.
     pub fn compare(&self, other: &Binding) -> Ordering
         ensures { result ≡ binding_cmp (binding_of self.now) (binding_of other.now) }
     {
-        let pairs = self.pairs();
-        let others = other.pairs();
-        let shorter = pairs.len().min(others.len());
-        for i in 0..shorter {
-            let order = compare_pairs(&pairs[i], &others[i]);
-            if order != Ordering::Equal {
-                return order;
-            }
-        }
-        pairs.len().cmp(&others.len())
+        compare_all_pairs(self.pairs(), other.pairs()).then(compare_all_sets(
+            self.differs(),
+            other.differs(),
+        ))
     }
 }
 

@@ -56,6 +56,9 @@ pub enum Pat {
     /// What the inner pattern matches, or what it splits; the name stands for the term, or for the
     /// context.
     Named(Name, Box<Pat>),
+    /// What the inner pattern matches, or what it splits; all terms, or contexts, under the mismatch
+    /// name differ.
+    Differ(Name, Box<Pat>),
     /// `in-hole`: what the first pattern splits into a context and a part that the second matches.
     InHole(Box<Pat>, Box<Pat>),
     /// `hide-hole`: what the inner pattern matches; it splits nothing.

@@ -48,6 +48,10 @@ impl Pat {
                 let inner = share_boxed(alloc, inner)?;
                 Ok(Pat::Named(name.share()?, inner))
             }
+            Pat::Differ(name, inner) => {
+                let inner = share_boxed(alloc, inner)?;
+                Ok(Pat::Differ(name.share()?, inner))
+            }
             Pat::InHole(left, right) => {
                 let left = share_boxed(alloc, left)?;
                 Ok(Pat::InHole(left, share_boxed(alloc, right)?))

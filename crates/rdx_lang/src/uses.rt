@@ -84,7 +84,7 @@ pub(crate) fn add_uses<'a>(
             add_uses(left, depth, out)?;
             add_uses(right, depth, out)
         }
-        Pat::HideHole(inner) => add_uses(inner, depth, out),
+        Pat::Differ(_, inner) | Pat::HideHole(inner) => add_uses(inner, depth, out),
         Pat::Seq(items) => add_item_uses(items, depth, out),
     }
 }
@@ -149,7 +149,9 @@ fn closed_parts_fit(alloc: Global, pat: &Pat) -> Result<bool, NoMemory>
         | Pat::Hole
         | Pat::Lit(_)
         | Pat::Nt(_) => Ok(true),
-        Pat::Named(_, inner) | Pat::HideHole(inner) => closed_parts_fit(alloc, inner),
+        Pat::Named(_, inner) | Pat::Differ(_, inner) | Pat::HideHole(inner) => {
+            closed_parts_fit(alloc, inner)
+        }
         Pat::InHole(left, right) => {
             Ok(closed_parts_fit(alloc, left)? && closed_parts_fit(alloc, right)?)
         }

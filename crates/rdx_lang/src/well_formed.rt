@@ -20,9 +20,8 @@ fn has_known_nonterminals(language: &Language, pat: &Pat) -> bool
         Pat::Wild | Pat::Kind(_) | Pat::Except(_) | Pat::Prefix(_) | Pat::Hole | Pat::Lit(_) =>
             true,
         Pat::Nt(name) => is_defined(language, name),
-        Pat::Named(_, inner) | Pat::HideHole(inner) | Pat::Closed(inner) => {
-            has_known_nonterminals(language, inner)
-        }
+        Pat::Named(_, inner) | Pat::Differ(_, inner) | Pat::HideHole(inner) | Pat::Closed(inner) =>
+            has_known_nonterminals(language, inner),
         Pat::InHole(left, right) => {
             has_known_nonterminals(language, left) && has_known_nonterminals(language, right)
         }

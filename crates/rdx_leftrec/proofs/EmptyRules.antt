@@ -5,9 +5,9 @@ use Rattle.std.specs.Prelude.{not}
 use Rattle.std.proofs.lemmas.Bool.{and_from}
 use Rattle.rdx_lang.proofs.LookupLaws.{not_true}
 use Rattle.rdx_lang.proofs.MemberLaws.{in-append, append-left, append-right, in-map, map-in}
-use Rattle.rdx_lang.specs.Empty.{IsEmpty, empty_hole, empty_nt, empty_named, empty_closed, empty_in_hole, TellsEmpty}
+use Rattle.rdx_lang.specs.Empty.{IsEmpty, empty_hole, empty_nt, empty_named, empty_differ, empty_closed, empty_in_hole, TellsEmpty}
 use Rattle.rdx_lang.specs.Members.{In, here, there}
-use Rattle.rdx_lang.specs.Patterns.{Pattern, wild, of_kind, except, prefix, hole, lit, nt, named, in_hole, hide_hole, closed, seq, Definition, Language}
+use Rattle.rdx_lang.specs.Patterns.{Pattern, wild, of_kind, except, prefix, hole, lit, nt, named, differ, in_hole, hide_hole, closed, seq, Definition, Language}
 use Rattle.rdx_lang.specs.References.{is_among}
 use Rattle.rdx_lang.specs.Rules.{IsAlternative}
 use Rattle.rdx_lang.specs.WellFormed.{has_known_nonterminals, all_alternatives, defined, IsWellFormed}
@@ -33,6 +33,7 @@ needs-among xs (lit u) z h i = elim i [ ]
 needs-among xs (nt x) z h (here e) = subst (λ (y : Ref). is_among y xs ≡ true) (sym e) h
 needs-among xs (nt x) z h (there i) = elim i [ ]
 needs-among xs (named x q) z h i = needs-among xs q z h i
+needs-among xs (differ x q) z h i = needs-among xs q z h i
 needs-among xs (in_hole q r) z h i = elim (in-append (needs q) (needs r) z i) [
   | inl l ↦ needs-among xs q z (first_so (has_known_nonterminals xs q) (has_known_nonterminals xs r) h) l
   | inr l ↦ needs-among xs r z (second_so (has_known_nonterminals xs q) (has_known_nonterminals xs r) h) l
@@ -51,6 +52,7 @@ needs-enough L hole h f = empty_hole
 needs-enough L (lit u) h f = absurd cc
 needs-enough L (nt x) h f = f x (here refl)
 needs-enough L (named x q) h f = empty_named (needs-enough L q h f)
+needs-enough L (differ x q) h f = empty_differ (needs-enough L q h f)
 needs-enough L (in_hole q r) h f = empty_in_hole
     (needs-enough L q (first_so (may_be_empty q) (may_be_empty r) h) (λ z i. f z (append-left (needs q) (needs r) z i)))
     (needs-enough L r (second_so (may_be_empty q) (may_be_empty r) h) (λ z i. f z (append-right (needs q) (needs r) z i)))
@@ -205,6 +207,7 @@ module _ (L : Language) (w : IsWellFormed L) where
   empty-met empty_hole = record { may = refl; each = λ z i. elim i [ ] }
   empty-met (empty_nt {x = x} {p = p} a h) = nonterminal-met x (met-follows x p a (empty-met h))
   empty-met (empty_named h) = let m = empty-met h in record { may = m.may; each = m.each }
+  empty-met (empty_differ h) = let m = empty-met h in record { may = m.may; each = m.each }
   empty-met (empty_closed h) = let m = empty-met h in record { may = m.may; each = m.each }
   empty-met (empty_in_hole {q = q} {r = r} h k) =
       let m = empty-met h in
@@ -238,6 +241,7 @@ module _ (L : Language) (h : all_alternatives (λ p. not (is_empty_alone p)) L.n
   empty-alone empty_hole = refl
   empty-alone (empty_nt {x = x} {p = p} a e) = absurd (not-alone x p a (empty-alone e))
   empty-alone (empty_named e) = empty-alone e
+  empty-alone (empty_differ e) = empty-alone e
   empty-alone (empty_closed e) = empty-alone e
   empty-alone (empty_in_hole {q = q} {r = r} e f) = and_from (is_empty_alone q) (is_empty_alone r) (empty-alone e) (empty-alone f)
 

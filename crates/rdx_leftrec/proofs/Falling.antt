@@ -4,7 +4,7 @@ use Rattle.std.proofs.lemmas.List.{drop_at}
 use Rattle.rdx_lang.specs.Empty.{IsEmpty, TellsEmpty, is_empty}
 use Rattle.rdx_lang.specs.Lookup.{alternatives_among, alternatives_of}
 use Rattle.rdx_lang.specs.Members.{In, here, there}
-use Rattle.rdx_lang.specs.Patterns.{Pattern, wild, of_kind, except, prefix, hole, lit, nt, named, in_hole, hide_hole, closed, seq, Items, nil, one, many, Definition, Language}
+use Rattle.rdx_lang.specs.Patterns.{Pattern, wild, of_kind, except, prefix, hole, lit, nt, named, differ, in_hole, hide_hole, closed, seq, Items, nil, one, many, Definition, Language}
 use Rattle.rdx_lang.specs.Nodes.{pattern_nodes, items_nodes, patterns_nodes, definitions_nodes}
 use Rattle.rdx_lang.specs.Ranks.{first_rank, root_ranks, roots_among, AreBelow, FallIn, FallInItems, FallInAll, FallAmong, AreRanks}
 use Rattle.rdx_lang.specs.LeftNumbers.{left_number}
@@ -27,6 +27,7 @@ module _ (E : Ref → Bool) (R : Ref → ℕ) where
     length-pattern_ranks (lit u) = refl
     length-pattern_ranks (nt x) = refl
     length-pattern_ranks (named x q) = let k = length-pattern_ranks q in omega arith
+    length-pattern_ranks (differ x q) = let k = length-pattern_ranks q in omega arith
     length-pattern_ranks (in_hole q r) =
         let k = length-pattern_ranks q in
         let l = length-pattern_ranks r in
@@ -73,6 +74,7 @@ module _ (E : Ref → Bool) (R : Ref → ℕ) where
   first-pattern_ranks (lit u) rest = refl
   first-pattern_ranks (nt x) rest = refl
   first-pattern_ranks (named x q) rest = refl
+  first-pattern_ranks (differ x q) rest = refl
   first-pattern_ranks (in_hole q r) rest = refl
   first-pattern_ranks (hide_hole q) rest = refl
   first-pattern_ranks (closed q) rest = refl
@@ -141,6 +143,7 @@ module _ (E : Ref → Bool) (R : Ref → ℕ) where
       falls-pattern (lit u) rest = tt
       falls-pattern (nt x) rest = above x
       falls-pattern (named x q) rest = (let k = first-pattern_ranks q rest in omega arith, falls-pattern q rest)
+      falls-pattern (differ x q) rest = (let k = first-pattern_ranks q rest in omega arith, falls-pattern q rest)
       falls-pattern (in_hole q r) rest = subst parts (sym (append_assoc (pattern_ranks E R q) (pattern_ranks E R r) rest)) (
         (let k = first-pattern_ranks q (pattern_ranks E R r ++ rest) in omega arith, falls-pattern q (pattern_ranks E R r ++ rest)),
         subst right (sym (drop-pattern_ranks q (pattern_ranks E R r ++ rest))) (less, falls-pattern r rest),

@@ -3,10 +3,10 @@ use Rattle.std.proofs.Common.{◌≡◌, ℕ, zero, suc, ◌<◌, Bool, true, Li
 use Rattle.std.specs.Prelude.{Vec}
 use Rattle.std.specs.declared.alloc.Global.{Global}
 use Rattle.std.proofs.lemmas.List.{length-map}
-use Rattle.rdx_lang.specs.Edges.{Edge, edge_nt, edge_named, edge_hide_hole, edge_closed, edge_left, edge_right, Reaches, at_once, further, IsRecursive, IsFirstRecursive}
+use Rattle.rdx_lang.specs.Edges.{Edge, edge_nt, edge_named, edge_differ, edge_hide_hole, edge_closed, edge_left, edge_right, Reaches, at_once, further, IsRecursive, IsFirstRecursive}
 use Rattle.rdx_lang.specs.Empty.{TellsEmpty, is_empty}
 use Rattle.rdx_lang.specs.Members.{In, here, there}
-use Rattle.rdx_lang.specs.Patterns.{Pattern, wild, of_kind, except, prefix, hole, lit, nt, named, in_hole, hide_hole, closed, seq, Definition, Language}
+use Rattle.rdx_lang.specs.Patterns.{Pattern, wild, of_kind, except, prefix, hole, lit, nt, named, differ, in_hole, hide_hole, closed, seq, Definition, Language}
 use Rattle.rdx_lang.specs.Rules.{IsAlternative}
 use Rattle.rdx_lang.specs.WellFormed.{has_known_nonterminals, defined, IsWellFormed}
 use Rattle.rdx_lang.specs.declared.pattern.Ref.{Ref}
@@ -55,6 +55,7 @@ module _ (L : Language) (w : IsWellFormed L) (E : Ref → Bool) (t : TellsEmpty 
   edge-leads q (nt x) z e (here d) = subst (λ (y : Ref). Reaches L q (nt y)) (sym d) (at_once e)
   edge-leads q (nt x) z e (there i) = elim i [ ]
   edge-leads q (named x p) z e i = further e (edge-leads (named x p) p z edge_named i)
+  edge-leads q (differ x p) z e i = further e (edge-leads (differ x p) p z edge_differ i)
   edge-leads q (in_hole p r) z e i = elim (in-append (leads E p) (if is_empty E p then leads E r else []) z i) [
     | inl l ↦ further e (edge-leads (in_hole p r) p z edge_left l)
     | inr l ↦
@@ -124,6 +125,7 @@ module _ (L : Language) (w : IsWellFormed L) (E : Ref → Bool) (t : TellsEmpty 
   Onward (lit u) y = ⊥
   Onward (nt x) y = Path (targets_of E L) (place x (defined L)) (place y (defined L))
   Onward (named x q) y = LeadsOn q y
+  Onward (differ x q) y = LeadsOn q y
   Onward (in_hole q r) y = LeadsOn (in_hole q r) y
   Onward (hide_hole q) y = LeadsOn q y
   Onward (closed q) y = LeadsOn q y
@@ -139,6 +141,7 @@ module _ (L : Language) (w : IsWellFormed L) (E : Ref → Bool) (t : TellsEmpty 
   onward-leads (lit u) y h = absurd h
   onward-leads (nt x) y h = (x, here refl, inr h)
   onward-leads (named x q) y h = h
+  onward-leads (differ x q) y h = h
   onward-leads (in_hole q r) y h = h
   onward-leads (hide_hole q) y h = h
   onward-leads (closed q) y h = h
@@ -151,6 +154,7 @@ module _ (L : Language) (w : IsWellFormed L) (E : Ref → Bool) (t : TellsEmpty 
     | inr d ↦ path-before (targets_of E L) (place x (defined L)) (place l.0 (defined L)) (place y (defined L)) (alternative-step x p l.0 a l.1) d
   ]
   edge-onward y edge_named l = l
+  edge-onward y edge_differ l = l
   edge-onward y edge_hide_hole l = l
   edge-onward y edge_closed l = l
   edge-onward y (edge_left {q = q} {r = r}) l = (l.0, append-left (leads E q) (if is_empty E q then leads E r else []) l.0 l.1, l.2)

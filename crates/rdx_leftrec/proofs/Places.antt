@@ -7,7 +7,7 @@ use Rattle.rdx_lang.proofs.MemberLaws.{in-append, append-left, append-right}
 use Rattle.rdx_lang.specs.Members.{In, here, there}
 use Rattle.rdx_lang.specs.Depths.{has_fitting_names}
 use Rattle.rdx_lang.specs.Empty.{is_empty}
-use Rattle.rdx_lang.specs.Patterns.{Pattern, wild, of_kind, except, prefix, hole, lit, nt, named, in_hole, hide_hole, closed, seq, Definition, Language}
+use Rattle.rdx_lang.specs.Patterns.{Pattern, wild, of_kind, except, prefix, hole, lit, nt, named, differ, in_hole, hide_hole, closed, seq, Definition, Language}
 use Rattle.rdx_lang.specs.References.{is_same, is_among, are_distinct}
 use Rattle.rdx_lang.specs.WellFormed.{has_known_nonterminals, is_well_formed, all_patterns, all_alternatives, defined, IsWellFormed}
 use Rattle.rdx_lang.specs.declared.pattern.Ref.{Ref}
@@ -106,6 +106,7 @@ leads-among E xs (lit u) z h i = elim i [ ]
 leads-among E xs (nt x) z h (here e) = subst (λ (y : Ref). is_among y xs ≡ true) (sym e) h
 leads-among E xs (nt x) z h (there i) = elim i [ ]
 leads-among E xs (named x q) z h i = leads-among E xs q z h i
+leads-among E xs (differ x q) z h i = leads-among E xs q z h i
 leads-among E xs (in_hole q r) z h i = elim (in-append (leads E q) (if is_empty E q then leads E r else []) z i) [
   | inl l ↦ leads-among E xs q z (first_so (has_known_nonterminals xs q) (has_known_nonterminals xs r) h) l
   | inr l ↦

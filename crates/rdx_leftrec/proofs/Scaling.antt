@@ -4,7 +4,7 @@ use Rattle.std.proofs.lemmas.Bool.{cases_lt}
 use Rattle.std.proofs.Math.Nat.{mul-le-mul_right}
 use Rattle.rdx_lang.specs.Empty.{TellsEmpty, is_empty}
 use Rattle.rdx_lang.specs.Members.{In, here, there}
-use Rattle.rdx_lang.specs.Patterns.{Pattern, wild, of_kind, except, prefix, hole, lit, nt, named, in_hole, hide_hole, closed, seq, Definition, Language}
+use Rattle.rdx_lang.specs.Patterns.{Pattern, wild, of_kind, except, prefix, hole, lit, nt, named, differ, in_hole, hide_hole, closed, seq, Definition, Language}
 use Rattle.rdx_lang.specs.LeftNumbers.{left_number}
 use Rattle.rdx_lang.specs.Rules.{IsAlternative}
 use Rattle.rdx_lang.specs.WellFormed.{defined, IsWellFormed}
@@ -66,6 +66,7 @@ module _ (E : Ref → Bool) (R : Ref → ℕ) where
   left_number-over (lit u) = inr (omega arith)
   left_number-over (nt x) = inl (x, here refl, omega arith)
   left_number-over (named x q) = over_more (leads E q) (height q) (left_number E R q) (left_number-over q)
+  left_number-over (differ x q) = over_more (leads E q) (height q) (left_number E R q) (left_number-over q)
   left_number-over (in_hole q r) =
       let right = over_chosen (is_empty E q) (leads E r) (height r) (left_number E R r) (left_number-over r) in
       over_more (leads E q ++ (if is_empty E q then leads E r else [])) (max (height q) (height r)) (max (left_number E R q) (if is_empty E q then left_number E R r else 0))

@@ -35,7 +35,9 @@ fn add_leads(
             found.push(place)?;
             Ok(empty.get(place).copied().unwrap_or(false))
         }
-        Pat::Named(_, inner) | Pat::Closed(inner) => add_leads(nonterminals, empty, inner, found),
+        Pat::Named(_, inner) | Pat::Closed(inner) | Pat::Differ(_, inner) => {
+            add_leads(nonterminals, empty, inner, found)
+        }
         Pat::InHole(left, right) => {
             if add_leads(nonterminals, empty, left, found)? {
                 add_leads(nonterminals, empty, right, found)

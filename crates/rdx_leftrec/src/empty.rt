@@ -40,7 +40,9 @@ fn add_needs(
             found.push(nonterminals.place(name))?;
             Ok(true)
         }
-        Pat::Named(_, inner) | Pat::Closed(inner) => add_needs(nonterminals, inner, found),
+        Pat::Named(_, inner) | Pat::Closed(inner) | Pat::Differ(_, inner) => {
+            add_needs(nonterminals, inner, found)
+        }
         Pat::InHole(left, right) => {
             let left = add_needs(nonterminals, left, found)?;
             let right = add_needs(nonterminals, right, found)?;
@@ -94,7 +96,7 @@ fn is_empty_alone(pat: &Pat) -> bool
 {
     match pat {
         Pat::Hole => true,
-        Pat::Named(_, inner) | Pat::Closed(inner) => is_empty_alone(inner),
+        Pat::Named(_, inner) | Pat::Closed(inner) | Pat::Differ(_, inner) => is_empty_alone(inner),
         Pat::InHole(left, right) => is_empty_alone(left) && is_empty_alone(right),
         Pat::Wild
         | Pat::Kind(_)

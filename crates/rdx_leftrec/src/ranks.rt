@@ -24,9 +24,8 @@ fn height(pat: &Pat) -> Result<usize, NoMemory>
     ensures { IfOk result (λ n. n ≡ height (pattern_of pat.now)) }
 {
     match pat {
-        Pat::Named(_, inner) | Pat::HideHole(inner) | Pat::Closed(inner) => {
-            height(inner)?.checked_add(1).ok_or(NoMemory)
-        }
+        Pat::Named(_, inner) | Pat::Differ(_, inner) | Pat::HideHole(inner) | Pat::Closed(inner) =>
+            { height(inner)?.checked_add(1).ok_or(NoMemory) }
         Pat::InHole(left, right) => {
             let parts = height(left)?.max(height(right)?);
             parts.checked_add(1).ok_or(NoMemory)
@@ -171,7 +170,7 @@ fn rank_nodes(
             let root = nonterminal(nonterminals, empty, numbers, name);
             Ok(write_root(ranks, at, root))
         }
-        Pat::Named(_, inner) | Pat::Closed(inner) => {
+        Pat::Named(_, inner) | Pat::Closed(inner) | Pat::Differ(_, inner) => {
             let part = rank_nodes(nonterminals, empty, numbers, inner, ranks)?;
             let root = part.around(part.empty)?;
             Ok(write_root(ranks, at, root))

@@ -2,6 +2,8 @@
 use crate::room::Room;
 use crate::search::Search;
 use crate::sorting::sorted_splits;
+use rdx_bind::listing;
+use rdx_bind::seen::{all_visible, visible_spots};
 use rdx_lang::{Binding, CheckedLang, CheckedPat, Matcher, Split};
 use rdx_term::{NoMemory, Term};
 use std::alloc::Global;
@@ -26,7 +28,8 @@ impl Matcher for Plain {
         pat: &CheckedPat,
         t: &Term,
     ) -> Result<Vec<Binding>, NoMemory> {
-        Search::new(self.alloc, language).matches(pat.pat(), t, Room::whole())
+        let found = Search::new(self.alloc, language).matches(pat.pat(), t, Room::whole())?;
+        listing(self.alloc, all_visible(self.alloc, found)?)
     }
 
     fn splits(
@@ -36,6 +39,6 @@ impl Matcher for Plain {
         t: &Term,
     ) -> Result<Vec<Split>, NoMemory> {
         let spots = Search::new(self.alloc, language).splits(pat.pat(), t, Room::whole())?;
-        sorted_splits(self.alloc, t, spots)
+        sorted_splits(self.alloc, t, visible_spots(self.alloc, spots)?)
     }
 }

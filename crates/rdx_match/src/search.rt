@@ -3,7 +3,7 @@ ghost use Rattle.std.specs.Prelude.{◌≡◌, ◌↔◌, ◌+◌, ◌≤◌, If
 ghost use Rattle.rdx_term.specs.View.{tree_of, trees_of};
 ghost use Rattle.rdx_lang.specs.Checked.{language_in};
 ghost use Rattle.rdx_lang.specs.Names.{names};
-ghost use Rattle.rdx_lang.specs.Patterns.{named, in_hole, seq, one, many};
+ghost use Rattle.rdx_lang.specs.Patterns.{in_hole, seq, one, many};
 ghost use Rattle.rdx_lang.specs.PatternView.{pattern_of, patterns_of, slot_of, items_of};
 ghost use Rattle.rdx_lang.specs.Rules.{AreAlternatives, Match, MatchItems};
 ghost use Rattle.rdx_bind.specs.Columns.{AreCells, HasAsked, IsColumn, carried};
@@ -11,6 +11,7 @@ ghost use Rattle.rdx_bind.specs.Parts.{part_of, AreSingles, FoundRows, found_row
 ghost use Rattle.rdx_bind.specs.PartRows.{AreRows, IsSearched, HaveSpots, HaveAll, found_split_rows};
 ghost use Rattle.rdx_bind.specs.Rows.{split_row_of, split_rows_of};
 ghost use Rattle.rdx_bind.specs.Combining.{Lists};
+ghost use Rattle.rdx_bind.specs.Namings.{naming_of, under};
 ghost use Rattle.rdx_bind.specs.Searching.{AnyMatches, AnySplits, IsRowOf, found_row};
 ghost use Rattle.rdx_bind.specs.Spots.{ItemsSplitAt, PlacedAt, SplitsAt};
 ghost use Rattle.rdx_bind.specs.Splitting.{Finds};
@@ -25,6 +26,7 @@ use rdx_bind::columns::{
 use rdx_bind::combining::{add_all_joins, empty_where, with_name};
 use rdx_bind::extending::add_going_on;
 use rdx_bind::listing;
+use rdx_bind::naming::Naming;
 use rdx_bind::parts::{Part, parts_of, pattern_in};
 use rdx_bind::repetition::Repetition;
 use rdx_bind::rows::{Row, joins_of_parts, placed, spots_of_parts};
@@ -83,17 +85,18 @@ impl<'a> Search<'a> {
         Ok(false)
     }
 
-    // A pattern with a name: what its part binds, and the name for the term.
+    // A pattern with a name: what its part binds, with what the name alone binds for the term.
     #[cycle(search)]
     #[inline(never)]
     fn match_named(
         &self,
-        name: &Name,
+        name: Naming<'_>,
         part: &Pat,
         t: &Term,
         room: Room,
     ) -> Result<Vec<Binding>, NoMemory>
-        ensures { Lists result (Match (language_in self.now.language.now) (named name.now (pattern_of part.now)) (tree_of t.now)) }
+        ensures { Lists result (Match (language_in self.now.language.now)
+            (under (naming_of name.entry) (pattern_of part.now)) (tree_of t.now)) }
     {
         let firsts = self.matches(part, t, room)?;
         with_name(self.alloc, &firsts, name, t)
@@ -206,7 +209,8 @@ impl<'a> Search<'a> {
                 let any = self.any_matches(self.alternatives(name), t, inside)?;
                 empty_where(self.alloc, any)
             }
-            Pat::Named(name, part) => self.match_named(name, part, t, inside),
+            Pat::Named(name, part) => self.match_named(Naming::Binds(name), part, t, inside),
+            Pat::Differ(name, part) => self.match_named(Naming::Differs(name), part, t, inside),
             Pat::InHole(left, right) => self.match_in_hole(left, right, t, inside),
             Pat::HideHole(part) => self.matches(part, t, inside),
             Pat::Closed(part) => {
@@ -232,18 +236,18 @@ impl<'a> Search<'a> {
         gathered.nameless(self.alloc)
     }
 
-    // A pattern with a name: the spots of its part, with the name for the context.
+    // A pattern with a name: the spots of its part, each with the name for its context.
     #[cycle(search)]
     #[inline(never)]
     fn split_named(
         &self,
-        name: &Name,
+        name: Naming<'_>,
         part: &Pat,
         t: &Term,
         room: Room,
     ) -> Result<Vec<Spot>, NoMemory>
         ensures { Finds result (SplitsAt (language_in self.now.language.now)
-            (named name.now (pattern_of part.now)) (tree_of t.now)) }
+            (under (naming_of name.entry) (pattern_of part.now)) (tree_of t.now)) }
     {
         let spots = self.splits(part, t, room)?;
         with_contexts(self.alloc, spots, name, t)
@@ -641,7 +645,8 @@ impl<'a> Search<'a> {
             | Pat::HideHole(_) => Ok(Vec::new(self.alloc)),
             Pat::Hole => whole(self.alloc),
             Pat::Nt(name) => self.any_splits(self.alternatives(name), t, inside),
-            Pat::Named(name, part) => self.split_named(name, part, t, inside),
+            Pat::Named(name, part) => self.split_named(Naming::Binds(name), part, t, inside),
+            Pat::Differ(name, part) => self.split_named(Naming::Differs(name), part, t, inside),
             Pat::InHole(left, right) => self.split_in_hole(left, right, t, inside),
             Pat::Closed(part) => self.any_splits(from_ref::<Pat>(part), t, inside),
             Pat::Seq(items) => self.split_list(items, t, inside),

@@ -5,11 +5,11 @@ use Rattle.std.specs.Prelude.{◌↔◌}
 use Rattle.rdx_term.specs.Tree.{Tree}
 use Rattle.rdx_lang.specs.Bindings.{Binding}
 use Rattle.rdx_lang.specs.Members.{In, here, there}
-use Rattle.rdx_lang.specs.Patterns.{Pattern, wild, of_kind, except, prefix, hole, lit, nt, named, in_hole, hide_hole, closed, seq, Items, nil, one, many, Language}
+use Rattle.rdx_lang.specs.Patterns.{Pattern, wild, of_kind, except, prefix, hole, lit, nt, named, differ, in_hole, hide_hole, closed, seq, Items, nil, one, many, Language}
 use Rattle.rdx_lang.specs.Rules.{Match, Split}
 use Rattle.rdx_lang.proofs.MemberLaws.{append-left, append-right}
 use Rattle.rdx_lang.proofs.RuleSteps.{SomeMatch, SomeSplit}
-use Rattle.rdx_nodes.specs.Inside.Forgetting.{length_names, binders, item_binders, StandOnce, without_names, ForgetsLength, forgets_no_length, keeps_length, Forgets, ForgetsItems, forgets_wild, forgets_kind, forgets_except, forgets_prefix, forgets_hole, forgets_lit, forgets_nt, keeps_named, forgets_in_hole, forgets_hide_hole, forgets_closed, forgets_seq, forgets_nil, forgets_one, forgets_many}
+use Rattle.rdx_nodes.specs.Inside.Forgetting.{length_names, binders, item_binders, StandOnce, without_names, ForgetsLength, forgets_no_length, keeps_length, Forgets, ForgetsItems, forgets_wild, forgets_kind, forgets_except, forgets_prefix, forgets_hole, forgets_lit, forgets_nt, keeps_named, forgets_differ, forgets_in_hole, forgets_hide_hole, forgets_closed, forgets_seq, forgets_nil, forgets_one, forgets_many}
 use Rattle.rdx_nodes.proofs.ForgettingBack.{match_back, split_back}
 use Rattle.rdx_nodes.proofs.ForgettingBindings.{without_none}
 use Rattle.rdx_nodes.proofs.ForgettingForth.{match_forth, split_forth}
@@ -31,6 +31,7 @@ mutual
   forgets-nothing xs (lit u) f = forgets_lit
   forgets-nothing xs (nt x) f = forgets_nt
   forgets-nothing xs (named x q) f = keeps_named (λ i. f x i (here refl)) (forgets-nothing xs q (λ y i k. f y i (there k)))
+  forgets-nothing xs (differ x q) f = forgets_differ (forgets-nothing xs q f)
   forgets-nothing xs (in_hole q r) f =
       forgets_in_hole (forgets-nothing xs q (λ y i k. f y i (append-left (binders q) (binders r) y k)))
       (forgets-nothing xs r (λ y i k. f y i (append-right (binders q) (binders r) y k)))

@@ -1,21 +1,22 @@
 -- Where a pattern matches without names that stand once in it, it matches with them, and so it splits: what it binds is what was bound
 -- before, and the names.
-use Rattle.std.proofs.Common.{◌≡◌, ◌++◌, ℕ, List, [], ◌∷◌, map, Option, Some, None, refl, sym, ◌∙◌, subst}
+use Rattle.std.proofs.Common.{◌≡◌, ◌++◌, ℕ, List, [], ◌∷◌, map, Option, Some, None, refl, sym, ◌∙◌, ap, subst}
 use Rattle.rdx_term.specs.Tree.{Tree, Trees}
-use Rattle.rdx_lang.specs.Bindings.{Value, Binding, no_names, one_name, bound_names, HasAscendingNames}
+use Rattle.rdx_lang.specs.Bindings.{Value, Binding, no_names, one_name, one_differs, bound_names, HasAscendingNames}
 use Rattle.rdx_lang.specs.Bindings.{one as one_term}
 use Rattle.rdx_lang.specs.Collections.{IsRepetition}
 use Rattle.rdx_lang.specs.Join.{IsJoin}
 use Rattle.rdx_lang.specs.Members.{In, here}
 use Rattle.rdx_lang.specs.Names.{names, item_names}
 use Rattle.rdx_lang.specs.Patterns.{Pattern, Items, many, Language}
-use Rattle.rdx_lang.specs.Rules.{Match, MatchItems, MatchRun, match_wild, match_kind, match_except, match_prefix, match_hole, match_lit, match_nt, match_named, match_in_hole, match_hide_hole, match_closed, match_seq, match_none, match_one, match_many, run_end, run_more}
-use Rattle.rdx_lang.specs.Rules.{Split, SplitItems, SplitRun, split_hole, split_nt, split_named, split_in_hole, split_closed, split_seq, split_here, split_behind, split_many, run_here, run_there, run_behind}
+use Rattle.rdx_lang.specs.Rules.{Match, MatchItems, MatchRun, match_wild, match_kind, match_except, match_prefix, match_hole, match_lit, match_nt, match_named, match_differ, match_in_hole, match_hide_hole, match_closed, match_seq, match_none, match_one, match_many, run_end, run_more}
+use Rattle.rdx_lang.specs.Rules.{Split, SplitItems, SplitRun, split_hole, split_nt, split_named, split_differ, split_in_hole, split_closed, split_seq, split_here, split_behind, split_many, run_here, run_there, run_behind}
 use Rattle.rdx_lang.proofs.CollectionLaws.{AreMaps, BindNames, repetition-ascends, repetition-names}
-use Rattle.rdx_lang.proofs.JoinLaws.{unit_right}
+use Rattle.rdx_lang.proofs.JoinLaws.{unit_right, one_name-ascends, one_differs-ascends}
 use Rattle.rdx_lang.proofs.NameLaws.{names-ascend, match-ascends, match-names, items-ascends, items-names, split-ascends, split-names, split_items-ascends, split_items-names, run-maps, run-ascends, run-names, split_run-maps, split_run-ascends, split_run-names, turn-names, split_turn-names}
-use Rattle.rdx_nodes.specs.Inside.Forgetting.{length_names, binders, item_binders, AreOnce, StandOnce, without_names, ForgetsLength, Forgets, ForgetsItems, forgets_wild, forgets_kind, forgets_except, forgets_prefix, forgets_hole, forgets_lit, forgets_nt, forgets_named, keeps_named, forgets_in_hole, forgets_hide_hole, forgets_closed, forgets_open, forgets_seq, forgets_nil, forgets_one, forgets_many}
-use Rattle.rdx_nodes.proofs.ForgettingBindings.{without-one, without-other, join-back, no_pairs}
+use Rattle.rdx_bind.proofs.NoSets.{match-plain, split-plain, nothing_bound}
+use Rattle.rdx_nodes.specs.Inside.Forgetting.{length_names, binders, item_binders, AreOnce, StandOnce, without_names, ForgetsLength, Forgets, ForgetsItems, forgets_wild, forgets_kind, forgets_except, forgets_prefix, forgets_hole, forgets_lit, forgets_nt, forgets_named, keeps_named, forgets_differ, forgets_in_hole, forgets_hide_hole, forgets_closed, forgets_open, forgets_seq, forgets_nil, forgets_one, forgets_many}
+use Rattle.rdx_nodes.proofs.ForgettingBindings.{without-one, without-other, join-back}
 use Rattle.rdx_nodes.proofs.ForgettingNames.{names-without, name-bound, item_name-bound, repetition-bound, once-left, once-right, once-apart}
 use Rattle.rdx_nodes.proofs.ForgettingRepetitions.{repetition-back}
 
@@ -74,7 +75,13 @@ module _ {xs : List (List ℕ)} where
   name_back : {ys : List (List ℕ)} {x : List ℕ} {v : Value} {c d e : Binding} → AreOnce xs (x ∷ ys) → (a : Part xs ys c)
       → without_names xs (one_name x v) ≡ d → IsJoin c d e → JoinBack xs a.whole (one_name x v) e
   name_back {ys = ys} {x = x} {v = v} {c = c} {d = d} {e = e} o a f j =
-      join-back xs a.whole (one_name x v) c d e a.ascends (tt, tt) (λ y i l m. once-apart xs (x ∷ []) ys o y i m (a.among y l)) a.same f j
+      join-back xs a.whole (one_name x v) c d e a.ascends (one_name-ascends x v) (λ y i l m. once-apart xs (x ∷ []) ys o y i m (a.among y l)) a.same f j
+
+  -- a part and a mismatch name
+  differ_back : {ys : List (List ℕ)} {x : List ℕ} {t : Tree} {c e : Binding} (a : Part xs ys c) → IsJoin c (one_differs x t) e
+      → JoinBack xs a.whole (one_differs x t) e
+  differ_back {x = x} {t = t} {c = c} {e = e} a j =
+      join-back xs a.whole (one_differs x t) c (one_differs x t) e a.ascends (one_differs-ascends x t) (λ y i l m. elim m [ ]) a.same refl j
 
   -- the names of a repetition's pattern, and its length name
   length_apart : (p : Pattern) (n : Option (List ℕ)) → AreOnce xs (binders p ++ length_names n)
@@ -232,6 +239,10 @@ module _ (L : Language) where
         let k = match_back f (once-right xs (x ∷ []) (binders p) o) t c h in
         let b = name_back o (match_part p k.1 k.2) (without-other xs x (one_term t) i) j in
         (b.0, match_named k.1 b.1, b.2)
+    match_back (forgets_differ {p = p} f) o t e (match_differ {c = c} h j) =
+        let k = match_back f o t c h in
+        let b = differ_back (match_part p k.1 k.2) j in
+        (b.0, match_differ k.1 b.1, b.2)
     match_back {xs = xs} (forgets_in_hole {p = p} {r = r} f g) o t e (match_in_hole {C = C} {u = u} {c = c} {d = d} h m j) =
         let k = split_back f (once-left xs (binders p) (binders r) o) t C u c h in
         let l = match_back g (once-right xs (binders p) (binders r) o) u d m in
@@ -239,8 +250,10 @@ module _ (L : Language) where
         (b.0, match_in_hole k.1 l.1 b.1, b.2)
     match_back (forgets_hide_hole f) o t c (match_hide_hole h) = let k = match_back f o t c h in (k.0, match_hide_hole k.1, k.2)
     match_back (forgets_closed i f) o t e (match_closed {c = c} h) = let k = match_back f i t c h in (no_names, match_closed k.1, refl)
-    match_back (forgets_open i f e) o t c h =
-        let k = match_back f i t c h in (no_names, match_closed k.1, sym (no_pairs c (match-names h ∙ e)))
+    match_back (forgets_open i f e d) o t c h =
+        let k = match_back f i t c h in
+        let n : c.differs ≡ [] = ap (λ (a : Binding). a.differs) (sym k.2) ∙ match-plain d k.1 in
+        (no_names, match_closed k.1, sym (nothing_bound c (match-names h ∙ e) n))
     match_back (forgets_seq f) o t c (match_seq {ts = ts} h) = let k = items_back f o ts c h in (k.0, match_seq k.1, k.2)
 
     -- so for items
@@ -273,6 +286,10 @@ module _ (L : Language) where
         let k = split_back f (once-right xs (x ∷ []) (binders p) o) t C s c h in
         let b = name_back o (split_part p k.1 k.2) (without-other xs x (one_term C) i) j in
         (b.0, split_named k.1 b.1, b.2)
+    split_back (forgets_differ {p = p} f) o t C s e (split_differ {c = c} h j) =
+        let k = split_back f o t C s c h in
+        let b = differ_back (split_part p k.1 k.2) j in
+        (b.0, split_differ k.1 b.1, b.2)
     split_back {xs = xs} (forgets_in_hole {p = p} {r = r} f g) o t C s e (split_in_hole {D = D} {E = E} {u = u} {c = c} {d = d} h m i j) =
         let k = split_back f (once-left xs (binders p) (binders r) o) t D u c h in
         let l = split_back g (once-right xs (binders p) (binders r) o) u E s d m in
@@ -280,8 +297,10 @@ module _ (L : Language) where
         (b.0, split_in_hole k.1 l.1 i b.1, b.2)
     split_back (forgets_hide_hole f) o t C s c h = elim h [ ]
     split_back (forgets_closed i f) o t C s e (split_closed {c = c} h) = let k = split_back f i t C s c h in (no_names, split_closed k.1, refl)
-    split_back (forgets_open i f e) o t C s c h =
-        let k = split_back f i t C s c h in (no_names, split_closed k.1, sym (no_pairs c (split-names h ∙ e)))
+    split_back (forgets_open i f e d) o t C s c h =
+        let k = split_back f i t C s c h in
+        let n : c.differs ≡ [] = ap (λ (a : Binding). a.differs) (sym k.2) ∙ split-plain d k.1 in
+        (no_names, split_closed k.1, sym (nothing_bound c (split-names h ∙ e) n))
     split_back (forgets_seq f) o t C s c (split_seq {ts = ts} {k = n} {D = D} h e) =
         let k = split_items_back f o ts n D s c h in (k.0, split_seq k.1 e, k.2)
 

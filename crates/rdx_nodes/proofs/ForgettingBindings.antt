@@ -1,16 +1,17 @@
--- Bindings without some names: their pairs and their names, their joins, and the collections of what several of them bind.
+-- Bindings without some names: their pairs and their names, their joins, and the collections of what several of them bind. Their mismatch
+-- names are those of the whole bindings.
 use Rattle.std.proofs.Common.{◌≡◌, ◌⊎◌, inl, inr, ℕ, Bool, true, false, List, [], ◌∷◌, map, refl, sym, ◌∙◌, ap, subst, if◌then◌else◌}
 use Rattle.std.specs.Cmp.Lexicographic.{bytes_decides}
 use Rattle.std.specs.Prelude.{◌||◌, bytes_eq}
 use Rattle.rdx_lang.specs.Ascending.{IsBelow, IsAscending}
-use Rattle.rdx_lang.specs.Bindings.{Value, Values, Pair, Binding, no_names, one_name, name_cmp, bound_names, HasAscendingNames}
-use Rattle.rdx_lang.specs.Collections.{AreValuesOf, of_none, of_more, IsSequenceOf, IsCollection}
-use Rattle.rdx_lang.specs.Join.{IsJoin, Agree}
+use Rattle.rdx_lang.specs.Bindings.{Value, Values, Pair, Mismatch, Binding, of_pairs, no_names, one_name, name_cmp, pair_names, bound_names, HasAscendingNames}
+use Rattle.rdx_lang.specs.Collections.{AreValuesOf, of_none, of_more, IsSequenceOf, AreSetsOf, sets_of_none, sets_of_more, IsCollection}
+use Rattle.rdx_lang.specs.Join.{PairsAgree, IsJoin, Agree}
 use Rattle.rdx_lang.specs.Members.{In, here, there}
 use Rattle.rdx_lang.specs.Rules.{is_one_of}
-use Rattle.rdx_lang.proofs.JoinLaws.{unit_right-only, one_join, join_agrees, bound_names-member}
+use Rattle.rdx_lang.proofs.JoinLaws.{unit_right-only, one_join, join_ascends, join_agrees, bound_names-member}
 use Rattle.rdx_lang.proofs.Joins.{join_exists}
-use Rattle.rdx_nodes.specs.Inside.Forgetting.{without_names}
+use Rattle.rdx_nodes.specs.Inside.Forgetting.{pairs_without, without_names}
 
 -- ---- whether a name is one of some
 
@@ -55,27 +56,27 @@ other-among xs x f = by_test (is_one_of xs x) refl
 
 -- ---- the pairs that stay
 
--- a pair that stays is one of the binding, and its name none of xs
-pub without-sound : (xs : List (List ℕ)) (b : Binding) (p : Pair) → In p (without_names xs b) → In p b × (In p.0 xs → ⊥)
+-- a pair that stays is one of them, and its name none of xs
+pub without-sound : (xs : List (List ℕ)) (ps : List Pair) (p : Pair) → In p (pairs_without xs ps) → In p ps × (In p.0 xs → ⊥)
 without-sound xs [] p h = elim h [ ]
-without-sound xs (q ∷ b) p h = by_test (is_one_of xs q.0) refl h (without-sound xs b p)
+without-sound xs (q ∷ ps) p h = by_test (is_one_of xs q.0) refl h (without-sound xs ps p)
   where
-    deeper : In p b × (In p.0 xs → ⊥) → In p (q ∷ b) × (In p.0 xs → ⊥)
+    deeper : In p ps × (In p.0 xs → ⊥) → In p (q ∷ ps) × (In p.0 xs → ⊥)
     deeper k = (there k.0, k.1)
 
-    by_test : (t : Bool) → is_one_of xs q.0 ≡ t → In p (if t then without_names xs b else q ∷ without_names xs b)
-        → (In p (without_names xs b) → In p b × (In p.0 xs → ⊥)) → In p (q ∷ b) × (In p.0 xs → ⊥)
+    by_test : (t : Bool) → is_one_of xs q.0 ≡ t → In p (if t then pairs_without xs ps else q ∷ pairs_without xs ps)
+        → (In p (pairs_without xs ps) → In p ps × (In p.0 xs → ⊥)) → In p (q ∷ ps) × (In p.0 xs → ⊥)
     by_test true e i f = deeper (f i)
     by_test false e (here d) f = (here d, λ k. among-other xs q.0 e (subst (λ (r : Pair). In r.0 xs) d k))
     by_test false e (there i) f = deeper (f i)
 
 -- a pair whose name is none of xs stays
-pub without-complete : (xs : List (List ℕ)) (b : Binding) (p : Pair) → In p b → (In p.0 xs → ⊥) → In p (without_names xs b)
+pub without-complete : (xs : List (List ℕ)) (ps : List Pair) (p : Pair) → In p ps → (In p.0 xs → ⊥) → In p (pairs_without xs ps)
 without-complete xs [] p h g = elim h [ ]
-without-complete xs (q ∷ b) p h g = by_test (is_one_of xs q.0) refl h (λ i. without-complete xs b p i g)
+without-complete xs (q ∷ ps) p h g = by_test (is_one_of xs q.0) refl h (λ i. without-complete xs ps p i g)
   where
-    by_test : (t : Bool) → is_one_of xs q.0 ≡ t → In p (q ∷ b) → (In p b → In p (without_names xs b))
-        → In p (if t then without_names xs b else q ∷ without_names xs b)
+    by_test : (t : Bool) → is_one_of xs q.0 ≡ t → In p (q ∷ ps) → (In p ps → In p (pairs_without xs ps))
+        → In p (if t then pairs_without xs ps else q ∷ pairs_without xs ps)
     by_test true e (here d) f = absurd (g (subst (λ (r : Pair). In r.0 xs) (sym d) (among-member xs q.0 e)))
     by_test true e (there i) f = f i
     by_test false e (here d) f = here d
@@ -83,16 +84,19 @@ without-complete xs (q ∷ b) p h g = by_test (is_one_of xs q.0) refl h (λ i. w
 
 -- a binding without no names is that binding
 pub without_none : (b : Binding) → without_names [] b ≡ b
-without_none [] = refl
-without_none (p ∷ b) = λ i. p ∷ without_none b i
+without_none b = λ i. record { pairs = all_stay b.pairs i; differs = b.differs }
+  where
+    all_stay : (ps : List Pair) → pairs_without [] ps ≡ ps
+    all_stay [] = refl
+    all_stay (p ∷ ps) = λ i. p ∷ all_stay ps i
 
 -- one name that is one of xs
 pub without-one : (xs : List (List ℕ)) (x : List ℕ) (v : Value) → In x xs → without_names xs (one_name x v) ≡ no_names
-without-one xs x v h = ap (λ (t : Bool). if t then no_names else one_name x v) (member-among xs x h)
+without-one xs x v h = ap (λ (t : Bool). of_pairs (if t then [] else (x, v) ∷ [])) (member-among xs x h)
 
 -- one name that is none of them
 pub without-other : (xs : List (List ℕ)) (x : List ℕ) (v : Value) → (In x xs → ⊥) → without_names xs (one_name x v) ≡ one_name x v
-without-other xs x v f = ap (λ (t : Bool). if t then no_names else one_name x v) (other-among xs x f)
+without-other xs x v f = ap (λ (t : Bool). of_pairs (if t then [] else (x, v) ∷ [])) (other-among xs x f)
 
 -- ---- the names that stay
 
@@ -128,26 +132,25 @@ other_names-one xs x h = ap (λ (t : Bool). if t then [] else x ∷ []) (member-
 pub other_names-other : (xs : List (List ℕ)) (x : List ℕ) → (In x xs → ⊥) → other_names xs (x ∷ []) ≡ x ∷ []
 other_names-other xs x f = ap (λ (t : Bool). if t then [] else x ∷ []) (other-among xs x f)
 
--- a binding without names binds its other names
-pub bound_names-without : (xs : List (List ℕ)) (b : Binding) → bound_names (without_names xs b) ≡ other_names xs (bound_names b)
-bound_names-without xs [] = refl
-bound_names-without xs (q ∷ b) = by_test (is_one_of xs q.0) (bound_names-without xs b)
+-- pairs without names have the other names
+pair_names-without : (xs : List (List ℕ)) (ps : List Pair) → pair_names (pairs_without xs ps) ≡ other_names xs (pair_names ps)
+pair_names-without xs [] = refl
+pair_names-without xs (q ∷ ps) = by_test (is_one_of xs q.0) (pair_names-without xs ps)
   where
-    by_test : (t : Bool) → bound_names (without_names xs b) ≡ other_names xs (bound_names b)
-        → bound_names (if t then without_names xs b else q ∷ without_names xs b)
-        ≡ (if t then other_names xs (bound_names b) else q.0 ∷ other_names xs (bound_names b))
+    by_test : (t : Bool) → pair_names (pairs_without xs ps) ≡ other_names xs (pair_names ps)
+        → pair_names (if t then pairs_without xs ps else q ∷ pairs_without xs ps)
+        ≡ (if t then other_names xs (pair_names ps) else q.0 ∷ other_names xs (pair_names ps))
     by_test true e = e
     by_test false e = ap (λ ys. q.0 ∷ ys) e
+
+-- a binding without names binds its other names
+pub bound_names-without : (xs : List (List ℕ)) (b : Binding) → bound_names (without_names xs b) ≡ other_names xs (bound_names b)
+bound_names-without xs b = pair_names-without xs b.pairs
 
 -- a finite map stays one
 pub without-ascends : (xs : List (List ℕ)) (b : Binding) → HasAscendingNames b → HasAscendingNames (without_names xs b)
 without-ascends xs b a =
-    subst (λ (ys : List (List ℕ)). IsAscending name_cmp ys) (sym (bound_names-without xs b)) (other_names-ascend xs (bound_names b) a)
-
--- where no name is bound there is no pair
-pub no_pairs : (b : Binding) → bound_names b ≡ [] → b ≡ no_names
-no_pairs [] e = refl
-no_pairs (p ∷ b) e = absurd cc
+    (subst (λ (ys : List (List ℕ)). IsAscending name_cmp ys) (sym (bound_names-without xs b)) (other_names-ascend xs (bound_names b) a.0), a.1)
 
 -- ---- joins
 
@@ -155,17 +158,21 @@ no_pairs (p ∷ b) e = absurd cc
 pub without-join : (xs : List (List ℕ)) (a b c : Binding) → IsJoin a b c
     → IsJoin (without_names xs a) (without_names xs b) (without_names xs c)
 without-join xs a b c j = record {
-  map = without-ascends xs c j.map;
-  sound = λ p i. from (without-sound xs c p i);
-  left = λ p i. to (j.left p (without-sound xs a p i).0) (without-sound xs a p i).1;
-  right = λ p i. to (j.right p (without-sound xs b p i).0) (without-sound xs b p i).1;
+  pairs = record {
+    map = (without-ascends xs c (join_ascends j)).0;
+    sound = λ p i. from (without-sound xs c.pairs p i);
+    left = λ p i. to (j.pairs.left p (without-sound xs a.pairs p i).0) (without-sound xs a.pairs p i).1;
+    right = λ p i. to (j.pairs.right p (without-sound xs b.pairs p i).0) (without-sound xs b.pairs p i).1;
+  };
+  differs = j.differs;
 }
   where
-    from : {p : Pair} → In p c × (In p.0 xs → ⊥) → In p (without_names xs a) ⊎ In p (without_names xs b)
-    from {p = p} k = elim (j.sound p k.0) [ inl l ↦ inl (without-complete xs a p l k.1) | inr r ↦ inr (without-complete xs b p r k.1) ]
+    from : {p : Pair} → In p c.pairs × (In p.0 xs → ⊥) → In p (pairs_without xs a.pairs) ⊎ In p (pairs_without xs b.pairs)
+    from {p = p} k =
+        elim (j.pairs.sound p k.0) [ inl l ↦ inl (without-complete xs a.pairs p l k.1) | inr r ↦ inr (without-complete xs b.pairs p r k.1) ]
 
-    to : {p : Pair} → In p c → (In p.0 xs → ⊥) → In p (without_names xs c)
-    to {p = p} i f = without-complete xs c p i f
+    to : {p : Pair} → In p c.pairs → (In p.0 xs → ⊥) → In p (pairs_without xs c.pairs)
+    to {p = p} i f = without-complete xs c.pairs p i f
 
 -- a name that is one of xs adds nothing that stays
 pub join-forgotten : (xs : List (List ℕ)) (x : List ℕ) (v : Value) (c b : Binding) → In x xs → HasAscendingNames c
@@ -191,14 +198,17 @@ join-back xs a b c d e h k apart f g j =
     other =
         subst (λ (y : Binding). IsJoin y (without_names xs b) e) (sym f) (subst (λ (y : Binding). IsJoin c y e) (sym g) j)
 
-    agree : Agree a b
+    rest_agrees : Agree (without_names xs a) (without_names xs b)
+    rest_agrees = join_agrees (without_names xs a) (without_names xs b) e other
+
+    agree : PairsAgree a.pairs b.pairs
     agree x v w i l = elim (one_or_not xs x) [
       | inl m ↦ absurd (apart x m (bound_names-member (x, v) a i) (bound_names-member (x, w) b l))
-      | inr n ↦ join_agrees (without_names xs a) (without_names xs b) e other x v w (without-complete xs a (x, v) i n) (without-complete xs b (x, w) l n)
+      | inr n ↦ rest_agrees.pairs x v w (without-complete xs a.pairs (x, v) i n) (without-complete xs b.pairs (x, w) l n)
     ]
 
     r : (r : Binding) × IsJoin a b r
-    r = join_exists a b h k agree
+    r = join_exists a b h k (record { pairs = agree; differs = rest_agrees.differs })
 
 -- ---- collections
 
@@ -206,17 +216,28 @@ join-back xs a b c d e h k apart f g j =
 without-values : {xs : List (List ℕ)} {x : List ℕ} {cs : List Binding} {vs : Values} → (In x xs → ⊥) → AreValuesOf x cs vs
     → AreValuesOf x (map (without_names xs) cs) vs
 without-values f of_none = of_none
-without-values {xs = xs} {x = x} f (of_more {b = b} {v = v} i h) = of_more (without-complete xs b (x, v) i f) (without-values f h)
+without-values {xs = xs} {x = x} f (of_more {b = b} {v = v} i h) = of_more (without-complete xs b.pairs (x, v) i f) (without-values f h)
+
+-- bindings have the same sets together without names
+sets-without : (xs : List (List ℕ)) {cs : List Binding} {ms : List Mismatch} → AreSetsOf cs ms → AreSetsOf (map (without_names xs) cs) ms
+sets-without xs sets_of_none = sets_of_none
+sets-without xs (sets_of_more s j) = sets_of_more (sets-without xs s) j
+
+-- and with them
+pub sets-with : (xs : List (List ℕ)) (cs : List Binding) {ms : List Mismatch} → AreSetsOf (map (without_names xs) cs) ms → AreSetsOf cs ms
+sets-with xs [] sets_of_none = sets_of_none
+sets-with xs (c ∷ cs) (sets_of_more s j) = sets_of_more (sets-with xs cs s) j
 
 -- the collection of several bindings, without names
 pub without-collection : (xs ys : List (List ℕ)) (cs : List Binding) (c : Binding) → IsCollection ys cs c
     → IsCollection (other_names xs ys) (map (without_names xs) cs) (without_names xs c)
 without-collection xs ys cs c h = record {
   names = bound_names-without xs c ∙ ap (other_names xs) h.names;
-  sequences = λ x v i. sequence x v (without-sound xs c (x, v) i);
+  sequences = λ x v i. sequence x v (without-sound xs c.pairs (x, v) i);
+  differs = sets-without xs h.differs;
 }
   where
-    sequence : (x : List ℕ) (v : Value) → In (x, v) c × (In x xs → ⊥) → IsSequenceOf x (map (without_names xs) cs) v
+    sequence : (x : List ℕ) (v : Value) → In (x, v) c.pairs × (In x xs → ⊥) → IsSequenceOf x (map (without_names xs) cs) v
     sequence x v k =
         let s : IsSequenceOf x cs v = h.sequences x v k.0 in
         record { sequence = s.sequence; same = s.same; values = without-values k.1 s.values }

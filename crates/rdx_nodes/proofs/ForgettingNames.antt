@@ -5,34 +5,38 @@ use Rattle.std.proofs.lemmas.List.Sorted.{sum_by-IsPermutation}
 use Rattle.std.proofs.lemmas.List.Sums.{sum_by-append, sum_by-cons}
 use Rattle.std.specs.Prelude.{◌↔◌, IsPermutation, bytes_eq, cond, count_by}
 use Rattle.rdx_lang.specs.Ascending.{IsAscending}
-use Rattle.rdx_lang.specs.Bindings.{len, Pair, Binding, name_cmp, bound_names, HasAscendingNames}
+use Rattle.rdx_lang.specs.Bindings.{len, Pair, Binding, of_pairs, name_cmp, pair_names, bound_names, HasAscendingNames}
 use Rattle.rdx_lang.specs.Join.{IsJoin, Agree}
 use Rattle.rdx_lang.specs.Members.{In, here, there}
 use Rattle.rdx_lang.specs.Names.{add_names, with_length_name, names, item_names}
-use Rattle.rdx_lang.specs.Patterns.{Pattern, wild, of_kind, except, prefix, hole, lit, nt, named, in_hole, hide_hole, closed, seq, Items, nil, one, many}
+use Rattle.rdx_lang.specs.Patterns.{Pattern, wild, of_kind, except, prefix, hole, lit, nt, named, differ, in_hole, hide_hole, closed, seq, Items, nil, one, many}
 use Rattle.rdx_lang.proofs.JoinLaws.{bound_names-member}
 use Rattle.rdx_lang.proofs.Joins.{join_exists}
 use Rattle.rdx_lang.proofs.MemberLaws.{in-map, in-append, append-left, append-right}
 use Rattle.rdx_lang.proofs.NameLaws.{names-ascend}
 use Rattle.rdx_lang.proofs.NameLists.{bound_names-join, with_length_name-ascends}
 use Rattle.rdx_lang.proofs.NameSets.{names-alone}
-use Rattle.rdx_nodes.specs.Inside.Forgetting.{length_names, binders, item_binders, AreOnce, without_names, ForgetsLength, forgets_no_length, forgets_length, keeps_length, Forgets, ForgetsItems, forgets_wild, forgets_kind, forgets_except, forgets_prefix, forgets_hole, forgets_lit, forgets_nt, forgets_named, keeps_named, forgets_in_hole, forgets_hide_hole, forgets_closed, forgets_open, forgets_seq, forgets_nil, forgets_one, forgets_many}
+use Rattle.rdx_nodes.specs.Inside.Forgetting.{length_names, binders, item_binders, AreOnce, without_names, ForgetsLength, forgets_no_length, forgets_length, keeps_length, Forgets, ForgetsItems, forgets_wild, forgets_kind, forgets_except, forgets_prefix, forgets_hole, forgets_lit, forgets_nt, forgets_named, keeps_named, forgets_differ, forgets_in_hole, forgets_hide_hole, forgets_closed, forgets_open, forgets_seq, forgets_nil, forgets_one, forgets_many}
 use Rattle.rdx_nodes.proofs.ForgettingBindings.{other_names, without-ascends, bound_names-without, without-join, other_names-one, other_names-other}
 
 -- ---- the names of two lists
 
+-- these names, all with one value
+abbrev pairs_alike : List (List ℕ) → List Pair
+pairs_alike [] = []
+pairs_alike (x ∷ xs) = (x, len 0) ∷ pairs_alike xs
+
 -- these names, all bound to one value
 abbrev bound_alike : List (List ℕ) → Binding
-bound_alike [] = []
-bound_alike (x ∷ xs) = (x, len 0) ∷ bound_alike xs
+bound_alike xs = of_pairs (pairs_alike xs)
 
 -- these are the names that are bound
-names_alike : (xs : List (List ℕ)) → bound_names (bound_alike xs) ≡ xs
+names_alike : (xs : List (List ℕ)) → pair_names (pairs_alike xs) ≡ xs
 names_alike [] = refl
 names_alike (x ∷ xs) = ap (λ ys. x ∷ ys) (names_alike xs)
 
 -- this is the value of each
-value_alike : (xs : List (List ℕ)) (p : Pair) → In p (bound_alike xs) → p.1 ≡ len 0
+value_alike : (xs : List (List ℕ)) (p : Pair) → In p (pairs_alike xs) → p.1 ≡ len 0
 value_alike [] p h = elim h [ ]
 value_alike (x ∷ xs) p (here e) = ap (λ (r : Pair). r.1) e
 value_alike (x ∷ xs) p (there h) = value_alike xs p h
@@ -46,12 +50,13 @@ record HasBoth (xs ys : List (List ℕ)) : Type 0 where
 module _ (xs ys : List (List ℕ)) (a : IsAscending name_cmp xs) (b : IsAscending name_cmp ys) where
   -- names that ascend are those of a finite map
   alike_ascends : (zs : List (List ℕ)) → IsAscending name_cmp zs → HasAscendingNames (bound_alike zs)
-  alike_ascends zs c = subst (λ (ws : List (List ℕ)). IsAscending name_cmp ws) (sym (names_alike zs)) c
+  alike_ascends zs c = (subst (λ (ws : List (List ℕ)). IsAscending name_cmp ws) (sym (names_alike zs)) c, (tt, tt))
 
   -- there is one
   has_both : HasBoth xs ys
   has_both =
-      let agree : Agree (bound_alike xs) (bound_alike ys) = λ x v w i k. value_alike xs (x, v) i ∙ sym (value_alike ys (x, w) k) in
+      let agree : Agree (bound_alike xs) (bound_alike ys) =
+      record { pairs = λ x v w i k. value_alike xs (x, v) i ∙ sym (value_alike ys (x, w) k); differs = λ u i k. elim i [ ] } in
       let c = join_exists (bound_alike xs) (bound_alike ys) (alike_ascends xs a) (alike_ascends ys b) agree in
       record {
         both = c.0;
@@ -63,15 +68,15 @@ module _ (xs ys : List (List ℕ)) (a : IsAscending name_cmp xs) (b : IsAscendin
   -- each name of both lists together is one of either
   pub add_names-either : (z : List ℕ) → In z (add_names xs ys) → In z xs ⊎ In z ys
   add_names-either z h =
-      let k = in-map (λ (p : Pair). p.0) has_both.both z (subst (λ (ws : List (List ℕ)). In z ws) (sym has_both.named) h) in
-      by_side k.0 k.2 (has_both.join.sound k.0 k.1)
+      let k = in-map (λ (p : Pair). p.0) has_both.both.pairs z (subst (λ (ws : List (List ℕ)). In z ws) (sym has_both.named) h) in
+      by_side k.0 k.2 (has_both.join.pairs.sound k.0 k.1)
     where
-      moved : (zs : List (List ℕ)) (p : Pair) → z ≡ p.0 → In p (bound_alike zs) → In z zs
+      moved : (zs : List (List ℕ)) (p : Pair) → z ≡ p.0 → In p (pairs_alike zs) → In z zs
       moved zs p e i =
           let n : In p.0 zs = subst (λ (ws : List (List ℕ)). In p.0 ws) (names_alike zs) (bound_names-member p (bound_alike zs) i) in
           subst (λ (y : List ℕ). In y zs) (sym e) n
 
-      by_side : (p : Pair) → z ≡ p.0 → In p (bound_alike xs) ⊎ In p (bound_alike ys) → In z xs ⊎ In z ys
+      by_side : (p : Pair) → z ≡ p.0 → In p (pairs_alike xs) ⊎ In p (pairs_alike ys) → In z xs ⊎ In z ys
       by_side p e (inl l) = inl (moved xs p e l)
       by_side p e (inr r) = inr (moved ys p e r)
 
@@ -79,14 +84,14 @@ module _ (xs ys : List (List ℕ)) (a : IsAscending name_cmp xs) (b : IsAscendin
   add_names-both : (z : List ℕ) → In z xs ⊎ In z ys → In z (add_names xs ys)
   add_names-both z h = subst (λ (ws : List (List ℕ)). In z ws) has_both.named (by_side h)
     where
-      bound : (zs : List (List ℕ)) → ((p : Pair) → In p (bound_alike zs) → In p has_both.both) → In z zs → In z (bound_names has_both.both)
+      bound : (zs : List (List ℕ)) → ((p : Pair) → In p (pairs_alike zs) → In p has_both.both.pairs) → In z zs → In z (bound_names has_both.both)
       bound zs f i =
-          let k = in-map (λ (p : Pair). p.0) (bound_alike zs) z (subst (λ (ws : List (List ℕ)). In z ws) (sym (names_alike zs)) i) in
+          let k = in-map (λ (p : Pair). p.0) (pairs_alike zs) z (subst (λ (ws : List (List ℕ)). In z ws) (sym (names_alike zs)) i) in
           subst (λ (y : List ℕ). In y (bound_names has_both.both)) (sym k.2) (bound_names-member k.0 has_both.both (f k.0 k.1))
 
       by_side : In z xs ⊎ In z ys → In z (bound_names has_both.both)
-      by_side (inl l) = bound xs has_both.join.left l
-      by_side (inr r) = bound ys has_both.join.right r
+      by_side (inl l) = bound xs has_both.join.pairs.left l
+      by_side (inr r) = bound ys has_both.join.pairs.right r
 
   -- the other names of both together are those of each together
   pub other_names-add : (zs : List (List ℕ)) → other_names zs (add_names xs ys) ≡ add_names (other_names zs xs) (other_names zs ys)
@@ -131,11 +136,12 @@ mutual
   names-without {xs = xs} (forgets_named {x = x} {p = p} {q = q} h f) =
       named-forgotten xs x (names p) (names q) h (names-ascend p) (names-alone q) (names-without f)
   names-without {xs = xs} (keeps_named {x = x} {p = p} {q = q} h f) = named-kept xs x (names p) (names q) h (names-ascend p) (names-without f)
+  names-without (forgets_differ f) = names-without f
   names-without {xs = xs} (forgets_in_hole {p = p} {r = r} f g) =
       (λ i. add_names (names-without f i) (names-without g i)) ∙ sym (other_names-add (names p) (names r) (names-ascend p) (names-ascend r) xs)
   names-without (forgets_hide_hole f) = names-without f
   names-without (forgets_closed o f) = refl
-  names-without (forgets_open o f e) = e
+  names-without (forgets_open o f e d) = e
   names-without (forgets_seq f) = item_names-without f
 
   -- so do items
@@ -177,6 +183,7 @@ mutual
       at_name : In z (x ∷ []) → In z (x ∷ binders q)
       at_name (here e) = here e
       at_name (there i) = elim i [ ]
+  name-bound (differ x q) z h = name-bound q z h
   name-bound (in_hole q r) z h = elim (add_names-either (names q) (names r) (names-ascend q) (names-ascend r) z h) [
     | inl l ↦ append-left (binders q) (binders r) z (name-bound q z l)
     | inr i ↦ append-right (binders q) (binders r) z (name-bound r z i)
@@ -217,6 +224,7 @@ mutual
   bound-name (nt x) z h = h
   bound-name (named x q) z (here e) = add_names-both (names q) (x ∷ []) (names-ascend q) (tt, tt) z (inr (here e))
   bound-name (named x q) z (there h) = add_names-both (names q) (x ∷ []) (names-ascend q) (tt, tt) z (inl (bound-name q z h))
+  bound-name (differ x q) z h = bound-name q z h
   bound-name (in_hole q r) z h =
       add_names-both (names q) (names r) (names-ascend q) (names-ascend r) z (elim (in-append (binders q) (binders r) z h) [
         | inl l ↦ inl (bound-name q z l)

@@ -7,10 +7,10 @@ use Rattle.rdx_lang.specs.Collections.{IsCollection, IsRepetition, without_lengt
 use Rattle.rdx_lang.specs.Join.{IsJoin}
 use Rattle.rdx_lang.specs.Members.{In, here, there}
 use Rattle.rdx_lang.proofs.CollectionLaws.{AreMaps, BindNames, collection-ascends, one_collection, some_collection}
-use Rattle.rdx_lang.proofs.JoinLaws.{unit_right}
+use Rattle.rdx_lang.proofs.JoinLaws.{unit_right, one_name-ascends}
 use Rattle.rdx_lang.proofs.MemberLaws.{in-map}
 use Rattle.rdx_nodes.specs.Inside.Forgetting.{without_names, ForgetsLength, forgets_no_length, forgets_length, keeps_length}
-use Rattle.rdx_nodes.proofs.ForgettingBindings.{other_names, other_names-ascend, without-ascends, without-one, without-other, join-forgotten, join-kept, join-back, without-collection}
+use Rattle.rdx_nodes.proofs.ForgettingBindings.{other_names, other_names-ascend, without-ascends, without-one, without-other, join-forgotten, join-kept, join-back, sets-with, without-collection}
 
 -- finite maps stay finite maps
 maps-without : (xs : List (List ℕ)) (cs : List Binding) → AreMaps cs → AreMaps (map (without_names xs) cs)
@@ -47,7 +47,7 @@ module _ (xs ys zs : List (List ℕ)) (a : IsAscending name_cmp ys) (e : zs ≡ 
     -- the collection
     collection-back : (c : Binding) → IsCollection zs (map (without_names xs) cs) c → (d : Binding) × IsCollection ys cs d × (without_names xs d ≡ c)
     collection-back c h =
-        let d = some_collection ys cs bind in
+        let d = some_collection ys cs bind c.differs (sets-with xs cs h.differs) in
         (d.0, d.1, one_collection zs (map (without_names xs) cs) (without_names xs d.0) c zs_ascend (maps-without xs cs maps) (stays cs d.0 d.1) h)
 
     -- the collection and the length name, where that is none of the names of a turn that are left out
@@ -55,7 +55,8 @@ module _ (xs ys zs : List (List ℕ)) (a : IsAscending name_cmp ys) (e : zs ≡ 
         → without_names xs (one_name x (len (length cs))) ≡ d → IsJoin c d e → RepetitionBack cs (Some x) e
     with_back x c d e apart h f j =
         let k = collection-back c h in
-        let r = join-back xs k.0 (one_name x (len (length cs))) c d e (collection-ascends ys cs k.0 a k.1) (tt, tt) (no_other k.0 k.1.names) k.2 f j in
+        let r = join-back xs k.0 (one_name x (len (length cs))) c d e (collection-ascends ys cs k.0 a k.1) (one_name-ascends x (len (length cs)))
+        (no_other k.0 k.1.names) k.2 f j in
         (r.0, with_length k.1 r.1, r.2)
       where
         no_other : (b : Binding) → bound_names b ≡ ys → (y : List ℕ) → In y xs → In y (bound_names b) → In y (x ∷ []) → ⊥

@@ -1,10 +1,11 @@
 -- The pattern of a number that was made for a pattern.
-use Rattle.std.proofs.Common.{◌≡◌, ◌<◌, ◌++◌, ◌⊎◌, inl, inr, ℕ, List, [], ◌∷◌, Bool, true, Result, Ok, Err, IfOk, length, refl, sym, ◌∙◌, ap, subst, arith, append_assoc, HashMap, Bor}
+use Rattle.std.proofs.Common.{◌≡◌, ◌<◌, ◌++◌, ◌⊎◌, inl, inr, ℕ, List, [], ◌∷◌, Bool, true, false, Result, Ok, Err, IfOk, length, refl, sym, ◌∙◌, ap, subst, arith, append_assoc, HashMap, Bor}
 use Rattle.std.specs.Prelude.{◌↔◌}
 use Rattle.std.proofs.lemmas.List.{map-append}
 use Rattle.rdx_term.specs.Tree.{Tree}
 use Rattle.rdx_lang.specs.Bindings.{Binding}
 use Rattle.rdx_lang.specs.Members.{In, here}
+use Rattle.rdx_lang.specs.Mismatches.{has_differ}
 use Rattle.rdx_lang.specs.Patterns.{Pattern, closed, Items, Language}
 use Rattle.rdx_lang.specs.PatternView.{Slot, items_of}
 use Rattle.rdx_lang.specs.Rules.{Match}
@@ -50,15 +51,15 @@ pub left-anyhow : {S E : Type 0} (m : HashMap (Bor (List ℕ)) Bool S) (r : Resu
 left-anyhow m (Ok n) ps p q e f = λ xs t. subst (λ (z : Pattern). Forgets xs z (pattern_at ps n)) (sym e) (f xs)
 left-anyhow m (Err e) ps p q f h = tt
 
--- a closed pattern all of whose names stand once is what is left of its part
+-- a closed pattern all of whose names stand once, and that has no mismatch names, is what is left of its part
 pub left-open : {S E : Type 0} (k : HashMap (Bor (List ℕ)) Bool S) (r : Result ℕ E) (ps : List Pattern) (p : Pattern)
-    → Tells k (binders p) → ((x : List ℕ) → In x (binders p) → is_once k x ≡ true) → IfOk r (IsLeft k ps p)
+    → Tells k (binders p) → ((x : List ℕ) → In x (binders p) → is_once k x ≡ true) → has_differ p ≡ false → IfOk r (IsLeft k ps p)
     → IfOk r (λ n. (xs : List (List ℕ)) → Forgets xs (closed p) (pattern_at ps n))
-left-open k (Ok n) ps p t all g = λ xs.
+left-open k (Ok n) ps p t all plain g = λ xs.
     let told_once = once_among-told k (binders p) t in
     let f = g (once_among k (binders p)) told_once in
-    forgets_open (once_among-once k (binders p) t) f (no_names-left k (once_among k (binders p)) told_once p (pattern_at ps n) f all)
-left-open k (Err e) ps p t all g = tt
+    forgets_open (once_among-once k (binders p) t) f (no_names-left k (once_among k (binders p)) told_once p (pattern_at ps n) f all) plain
+left-open k (Err e) ps p t all plain g = tt
 
 -- another one is what is left of its part, closed
 pub left-closed : {S E : Type 0} (k : HashMap (Bor (List ℕ)) Bool S) (r : Result ℕ E) (ps : List Pattern) (p q : Pattern)

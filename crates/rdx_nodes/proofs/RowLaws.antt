@@ -5,7 +5,7 @@ use Rattle.rdx_term.specs.Tree.{Tree}
 use Rattle.rdx_term.specs.Tree.{hole as the_hole}
 use Rattle.rdx_lang.specs.Bindings.{Binding, no_names}
 use Rattle.rdx_lang.specs.Collecting.{HasExactly}
-use Rattle.rdx_lang.specs.Listing.{Matches}
+use Rattle.rdx_lang.specs.Listing.{AllMatches}
 use Rattle.rdx_lang.specs.Patterns.{Pattern, hole, Language}
 use Rattle.rdx_lang.specs.Rules.{Match}
 use Rattle.rdx_bind.specs.Columns.{HasAsked, has_matches, has_splits}
@@ -50,7 +50,7 @@ row_same {L} {t = t} {row} splits e h = subst (λ (p : Pattern). HasAsked (Match
 
 -- the row of a pattern that splits nothing, which matches where something holds
 pub row_where : {L : Language} {p q : Pattern} {t : Tree} {row : SplitRow} (splits holds : Bool) → q ≡ p
-    → ((bs : List Binding) → bs ≡ (if holds then no_names ∷ [] else []) → Matches L p t bs) → ((s : Spot) → SplitsAt L p t s → ⊥)
+    → ((bs : List Binding) → bs ≡ (if holds then no_names ∷ [] else []) → AllMatches L p t bs) → ((s : Spot) → SplitsAt L p t s → ⊥)
     → row ≡ plain_row holds
     → HasAsked (Match L q t) (SplitsAt L q t) (asked_where splits) row
 row_where {L} {p} {q} {t} {row} splits holds e f n r =

@@ -4,9 +4,10 @@ use Rattle.std.specs.declared.alloc.Global.{Global}
 use Rattle.rdx_term.specs.Tree.{Tree}
 use Rattle.rdx_term.specs.View.{tree_of}
 use Rattle.rdx_lang.specs.Names.{names}
-use Rattle.rdx_lang.specs.Patterns.{Pattern, wild, of_kind, except, prefix, hole, lit, nt, named, in_hole, hide_hole, closed, seq, Language}
+use Rattle.rdx_lang.specs.Patterns.{Pattern, wild, of_kind, except, prefix, hole, lit, nt, in_hole, hide_hole, closed, seq, Language}
 use Rattle.rdx_lang.specs.PatternView.{Slot, just, repeated, patterns_of, items_of}
 use Rattle.rdx_lang.specs.Rules.{AreAlternatives}
+use Rattle.rdx_bind.specs.Namings.{naming_of, under}
 use Rattle.rdx_bind.specs.Searching.{AnyMatches, AnySplits}
 use Rattle.rdx_bind.specs.Spots.{Spot}
 use Rattle.rdx_nodes.specs.declared.node.Entry.{Entry}
@@ -42,7 +43,7 @@ pattern_by ps (form.Prefix r) = prefix r.now
 pattern_by ps form.Hole = hole
 pattern_by ps (form.Lit u) = lit (tree_of u.now)
 pattern_by ps (form.Nt x) = nt x.name.now
-pattern_by ps (form.Named x n) = named x.now (pattern_at ps n)
+pattern_by ps (form.Named x n) = under (naming_of x) (pattern_at ps n)
 pattern_by ps (form.InHole m n) = in_hole (pattern_at ps m) (pattern_at ps n)
 pattern_by ps (form.HideHole n) = hide_hole (pattern_at ps n)
 pattern_by ps (form.Closed n) = closed (pattern_at ps n)

@@ -1,4 +1,5 @@
 // The nodes of patterns: a pattern by the numbers of the nodes of its parts.
+use rdx_bind::naming::Naming;
 use rdx_lang::{Kind, Pat, Ref};
 use rdx_term::{Name, Term};
 
@@ -50,8 +51,8 @@ pub enum Form<'a> {
     Lit(&'a Term),
     /// A nonterminal.
     Nt(Nonterminal<'a>),
-    /// A pattern with a name.
-    Named(&'a Name, usize),
+    /// A pattern with a name, or with a mismatch name.
+    Named(Naming<'a>, usize),
     /// A pattern in the hole of another, which comes first.
     InHole(usize, usize),
     /// A pattern that splits nothing.

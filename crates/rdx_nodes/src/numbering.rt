@@ -23,6 +23,7 @@ use crate::node::{Entry, Form, Node, Nonterminal, Turns};
 use crate::once::{Once, places_of};
 use crate::places::alternatives_at;
 use crate::setting::Setting;
+use rdx_bind::naming::{Naming, has_differ};
 use rdx_lang::{Item, Pat, Ref};
 use rdx_term::{Name, NoMemory};
 
@@ -64,7 +65,7 @@ impl<'a> Setting<'a> {
     }
 
     /// Adds the nodes of a pattern, each behind those of its parts, and gives the number of its own.
-    /// Names that stand once are left out.
+    /// Names that stand once are left out; mismatch names stay.
     #[cycle(numbering)]
     pub(crate) fn number(
         &mut self,
@@ -88,6 +89,10 @@ impl<'a> Setting<'a> {
             Pat::Lit(term) => self.push(Form::Lit(term), kept),
             Pat::Nt(name) => self.nonterminal(name),
             Pat::Named(name, inner) => self.number_named(name, inner, once, kept),
+            Pat::Differ(name, inner) => {
+                let part = self.number(inner, once, false)?;
+                self.push(Form::Named(Naming::Differs(name), part), kept)
+            }
             Pat::InHole(left, right) => {
                 let left = self.number(left, once, false)?;
                 let right = self.number(right, once, true)?;
@@ -127,11 +132,12 @@ impl<'a> Setting<'a> {
             return self.number(inner, once, kept);
         }
         let part = self.number(inner, once, false)?;
-        self.push(Form::Named(name, part), kept)
+        self.push(Form::Named(Naming::Binds(name), part), kept)
     }
 
     // Adds the nodes of a closed pattern with this part, in which names that stand once are left
-    // out, and gives its number: that of the part itself, where no names are left.
+    // out, and gives its number: that of the part itself, where no names are left and no mismatch
+    // name stands in it.
     #[cycle(numbering)]
     fn number_closed(&mut self, inner: &'a Pat, kept: bool) -> Result<usize, NoMemory>
         requires ready { IsReady self.old }
@@ -143,7 +149,7 @@ impl<'a> Setting<'a> {
     {
         let places = places_of(self.alloc, inner)?;
         let once = Once::among(self.alloc, &places)?;
-        if once.has_all(&places) {
+        if once.has_all(&places) && !has_differ(inner) {
             return self.number(inner, &once, kept);
         }
         let part = self.number(inner, &once, false)?;

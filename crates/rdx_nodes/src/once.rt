@@ -48,7 +48,7 @@ fn add_places<'a>(pat: &'a Pat, out: &mut Vec<&'a str>) -> Result<(), NoMemory>
             add_places(left, out)?;
             add_places(right, out)
         }
-        Pat::HideHole(inner) => add_places(inner, out),
+        Pat::Differ(_, inner) | Pat::HideHole(inner) => add_places(inner, out),
         Pat::Seq(items) => add_item_places(items, out),
     }
 }

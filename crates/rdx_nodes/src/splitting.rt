@@ -7,6 +7,7 @@ ghost use Rattle.rdx_lang.specs.Order.{decomposition_cmp};
 ghost use Rattle.rdx_lang.specs.Shown.{decomposition_of, decompositions_of};
 ghost use Rattle.rdx_term.specs.AtPaths.{IsPlace, tree_at};
 ghost use Rattle.rdx_term.specs.View.{tree_of};
+ghost use Rattle.rdx_bind.specs.Namings.{naming_of};
 ghost use Rattle.rdx_bind.specs.Spots.{spot_of, spots_of};
 ghost use Rattle.rdx_bind.specs.Splitting.{split_of, Finds, IsSplitAt, NamesContext};
 ghost use Rattle.rdx_bind.specs.Trails.{trail_of};
@@ -14,12 +15,13 @@ ghost use Rattle.rdx_store.specs.Stored.{tree_by_id};
 
 use rdx_bind::extending::add_with_context;
 use rdx_bind::listing_splits;
+use rdx_bind::naming::Naming;
 use rdx_bind::spots::Spot;
 use rdx_bind::trail::Trail;
 use rdx_fill::{context_around, part_at};
 use rdx_lang::Split;
 use rdx_store::{Store, TermId};
-use rdx_term::{Name, NoMemory, Term};
+use rdx_term::{NoMemory, Term};
 use std::alloc::Global;
 
 /// The id of what stands in the term where the path leads.
@@ -43,12 +45,12 @@ pub fn part_id(store: &Store, id: TermId, trail: &Trail) -> TermId
 fn add_named(
     alloc: Global,
     spot: Spot,
-    name: &Name,
+    name: Naming<'_>,
     t: &Term,
     found: &mut Vec<Spot>,
 ) -> Result<(), NoMemory>
     requires { IsPlace (tree_of t.now) (spot_of spot).path }
-    ensures { OnOk result (Adds (NamesContext name.now (tree_of t.now) (spot_of spot))
+    ensures { OnOk result (Adds (NamesContext (naming_of name.entry) (tree_of t.now) (spot_of spot))
         (spots_of found.old.items) (spots_of found.new.items)) }
 {
     let path = spot.trail.places(alloc)?;
@@ -60,12 +62,12 @@ fn add_named(
 pub fn with_contexts(
     alloc: Global,
     spots: Vec<Spot>,
-    name: &Name,
+    name: Naming<'_>,
     t: &Term,
 ) -> Result<Vec<Spot>, NoMemory>
     requires { (s : _) → In s (spots_of spots.items) → IsPlace (tree_of t.now) s.path }
     ensures { Finds result
-        (Arises (NamesContext name.now (tree_of t.now)) (spots_of spots.items)) }
+        (Arises (NamesContext (naming_of name.entry) (tree_of t.now)) (spots_of spots.items)) }
 {
     let mut rest = spots;
     let mut found = Vec::new(alloc);

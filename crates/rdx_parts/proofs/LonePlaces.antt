@@ -2,7 +2,7 @@
 use Rattle.std.proofs.Common.{◌≡◌, ℕ, List, refl}
 use Rattle.std.specs.Prelude.{not}
 use Rattle.rdx_patterns.specs.Kinds.{is_among}
-use Rattle.rdx_patterns.specs.Names.{is_bad_name}
+use Rattle.rdx_patterns.specs.Names.{is_bad_bound}
 use Rattle.rdx_patterns.specs.Occurrences.{Occurrence, key, binder, single, repeats, excepted, across, malformed, escape}
 use Rattle.rdx_patterns.specs.Parts.{text_of}
 use Rattle.rdx_patterns.specs.PatternChecks.{bad_binder, bad_occurrence, is_bad_symbol, is_bad_excepted, crossed_name}
@@ -13,7 +13,7 @@ use Rattle.rdx_templates.proofs.EarliestPlaces.{earliest-when}
 -- a name that is bound and may not be
 pub bad_binder_alone : (o : Occurrence) → earliest start (bad_binder o) ≡ first (bad_binder o)
 bad_binder_alone (key d) = refl
-bad_binder_alone (binder n d) = earliest-when start (is_bad_name (text_of d)) d
+bad_binder_alone (binder n d) = earliest-when start (is_bad_bound (text_of d)) d
 bad_binder_alone (single n d) = refl
 bad_binder_alone (repeats n d) = refl
 bad_binder_alone (excepted d) = refl

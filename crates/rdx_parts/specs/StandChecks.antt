@@ -5,7 +5,7 @@ use Rattle.std.specs.List.{list_any}
 use Rattle.rdx_base.specs.declared.place.Place.{Place}
 use Rattle.rdx_sexp.specs.Sexp.{integer, truth, text, symbol, keyword, Sexp, leaf, list, span_of}
 use Rattle.rdx_term.specs.Text.{label_text}
-use Rattle.rdx_patterns.specs.Names.{is_one_of, begins_with_dots, is_bad_name}
+use Rattle.rdx_patterns.specs.Names.{is_one_of, begins_with_dots, is_bad_name, is_bad_bound}
 use Rattle.rdx_patterns.specs.Parts.{is_word, text_of}
 use Rattle.rdx_patterns.specs.PatternChecks as patterns
 use Rattle.rdx_patterns.specs.PatternChecks.{when, keyword_faults, bad_binders, bad_occurrences}
@@ -124,7 +124,7 @@ bad_name (template bs t) = []
 bad_name (condition bs h) = []
 bad_name (plain os) = []
 bad_name (misfit d n) = []
-bad_name (fresh bs d) = when (is_bad_name (text_of d)) d
+bad_name (fresh bs d) = when (is_bad_bound (text_of d)) d
 bad_name (named again d) = []
 bad_name (repeated d) = []
 

@@ -8,12 +8,12 @@ use Rattle.rdx_sexp.specs.Sexp.{Sexp, Sexps, leaf, list, nil, cons, integer, tru
 use Rattle.rdx_term.specs.Spelling.{is_name}
 use Rattle.rdx_term.specs.Tree as tree
 use Rattle.rdx_lang.specs.Depths.{Use, length_use, uses, item_uses, closed_parts_fit, closed_items_fit}
-use Rattle.rdx_lang.specs.Patterns.{Pattern, wild, hole, lit, nt, named, in_hole, Items}
+use Rattle.rdx_lang.specs.Patterns.{Pattern, wild, hole, lit, nt, named, differ, in_hole, Items}
 use Rattle.rdx_lang.specs.declared.pattern.Kind.{Kind}
 use Rattle.rdx_lang.specs.declared.pattern.Ref.TheVariants.{Nt}
 use Rattle.rdx_patterns.specs.Heads.{Head, naming, avoiding, prefixing, splitting, hiding, crossing, escaping, plain, Role, word, bound, spelt, pattern, ellipsis, unread, Roles, every, patterns, repeatable, roles_of, head_among, is_ellipsis_symbol, next, is_of_ellipsis, is_repeated, fits, is_shaped}
 use Rattle.rdx_patterns.specs.Kinds.{kind_of, is_among, is_base}
-use Rattle.rdx_patterns.specs.Names.{begins_with_dots, has_suffix, front}
+use Rattle.rdx_patterns.specs.Names.{begins_with_dots, has_suffix, front, is_mismatch}
 use Rattle.rdx_patterns.specs.Occurrences.{Occurrence, malformed, keys, keys_in, role_occurrences, deeper, head_occurrences, occurrences, occurrences_among}
 use Rattle.rdx_patterns.specs.Parts.{text_of, is_symbol, is_word}
 use Rattle.rdx_patterns.specs.PatternChecks.{Bound, binds_itself, binds, bound_when, bound_by, all_bound}
@@ -113,24 +113,28 @@ module _ (ns : List (List ℕ)) where
     abbrev here_if : Bool → List Bound
     here_if b = bound_when b n d ++ []
 
-    -- what stands before a suffix, where there is one
-    suffixed-makes : (o : Option Pattern) → BindsNothing o → Makes n (suffixed (text_of d) o) (here_if (is_some o))
+    -- a symbol with a suffix, by what stands before it, where that is something: a mismatch name binds nothing
+    suffixed-makes : (o : Option Pattern) → BindsNothing o → Makes n (suffixed (text_of d) o) (here_if (is_some o && not (is_mismatch (text_of d))))
     suffixed-makes None h = (refl, refl)
-    suffixed-makes (Some p) h = named-makes n d p [] dots (h n)
+    suffixed-makes (Some p) h = by_test (is_mismatch (text_of d))
+      where
+        by_test : (b : Bool) → Makes n (if b then differ (text_of d) p else named (text_of d) p) (here_if (not b))
+        by_test true = h n
+        by_test false = named-makes n d p [] dots (h n)
 
     -- a symbol that is neither a built-in name nor a nonterminal
-    other-makes : Makes n (other_symbol ns (text_of d)) (here_if (has_suffix (text_of d) && is_base ns (front (text_of d))))
+    other-makes : Makes n (other_symbol ns (text_of d)) (here_if (has_suffix (text_of d) && (is_base ns (front (text_of d)) && not (is_mismatch (text_of d)))))
     other-makes =
-        subst (λ (c : Bool). Makes n (other_symbol ns (text_of d)) (here_if (has_suffix (text_of d) && c))) (base-there (front (text_of d))) (by_test (has_suffix (text_of d)))
+        subst (λ (c : Bool). Makes n (other_symbol ns (text_of d)) (here_if (has_suffix (text_of d) && (c && not (is_mismatch (text_of d)))))) (base-there (front (text_of d))) (by_test (has_suffix (text_of d)))
       where
         by_test : (b : Bool)
-            → Makes n (if b then suffixed (text_of d) (base ns (front (text_of d))) else lit (tree.symbol (text_of d))) (here_if (b && is_some (base ns (front (text_of d)))))
+            → Makes n (if b then suffixed (text_of d) (base ns (front (text_of d))) else lit (tree.symbol (text_of d))) (here_if (b && (is_some (base ns (front (text_of d))) && not (is_mismatch (text_of d)))))
         by_test true = suffixed-makes (base ns (front (text_of d))) (base-nothing (front (text_of d)))
         by_test false = (refl, refl)
 
     -- one that may be
     name-makes : (pos : Position) (o : Option Pattern) → BindsNothing o
-        → Makes n (by_base ns pos (text_of d) o) (here_if (if is_some o then binds_itself pos else (has_suffix (text_of d) && is_base ns (front (text_of d)))))
+        → Makes n (by_base ns pos (text_of d) o) (here_if (if is_some o then binds_itself pos else (has_suffix (text_of d) && (is_base ns (front (text_of d)) && not (is_mismatch (text_of d))))))
     name-makes pos None h = other-makes
     name-makes Grammar (Some p) h = h n
     name-makes Query (Some p) h = named-makes n d p [] dots (h n)
@@ -139,16 +143,16 @@ module _ (ns : List (List ℕ)) where
     symbol-makes : (pos : Position) → (bytes_eq (text_of d) (codes "hole") ≡ false → is_name (text_of d) ≡ true)
         → Makes n (symbol_reading ns pos (text_of d)) (here_if (binds ns pos (text_of d)))
     symbol-makes pos h =
-        subst (λ (c : Bool). Makes n (symbol_reading ns pos (text_of d)) (here_if (not (bytes_eq (text_of d) (codes "_") || bytes_eq (text_of d) (codes "hole")) && (if c then binds_itself pos else (has_suffix (text_of d) && is_base ns (front (text_of d)))))))
+        subst (λ (c : Bool). Makes n (symbol_reading ns pos (text_of d)) (here_if (not (bytes_eq (text_of d) (codes "_") || bytes_eq (text_of d) (codes "hole")) && (if c then binds_itself pos else (has_suffix (text_of d) && (is_base ns (front (text_of d)) && not (is_mismatch (text_of d))))))))
         (base-there (text_of d)) (by_tests (bytes_eq (text_of d) (codes "_")) (bytes_eq (text_of d) (codes "hole")) h)
       where
         by_name : (b : Bool) → b ≡ true
-            → Makes n (if b then by_base ns pos (text_of d) (base ns (text_of d)) else wild) (here_if (if is_some (base ns (text_of d)) then binds_itself pos else (has_suffix (text_of d) && is_base ns (front (text_of d)))))
+            → Makes n (if b then by_base ns pos (text_of d) (base ns (text_of d)) else wild) (here_if (if is_some (base ns (text_of d)) then binds_itself pos else (has_suffix (text_of d) && (is_base ns (front (text_of d)) && not (is_mismatch (text_of d))))))
         by_name true e = name-makes pos (base ns (text_of d)) (base-nothing (text_of d))
         by_name false e = absurd cc
 
         by_tests : (a b : Bool) → (b ≡ false → is_name (text_of d) ≡ true)
-            → Makes n (if a then wild else if b then hole else if is_name (text_of d) then by_base ns pos (text_of d) (base ns (text_of d)) else wild) (here_if (not (a || b) && (if is_some (base ns (text_of d)) then binds_itself pos else (has_suffix (text_of d) && is_base ns (front (text_of d))))))
+            → Makes n (if a then wild else if b then hole else if is_name (text_of d) then by_base ns pos (text_of d) (base ns (text_of d)) else wild) (here_if (not (a || b) && (if is_some (base ns (text_of d)) then binds_itself pos else (has_suffix (text_of d) && (is_base ns (front (text_of d)) && not (is_mismatch (text_of d)))))))
         by_tests true b f = (refl, refl)
         by_tests false true f = (refl, refl)
         by_tests false false f = by_name (is_name (text_of d)) (f refl)

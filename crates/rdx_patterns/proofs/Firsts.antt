@@ -1,12 +1,19 @@
 -- The first of several lists put together, and where there is none.
-use Rattle.std.proofs.Common.{◌≡◌, ◌++◌, Bool, true, false, List, [], ◌∷◌, Option, Some, None, refl, if◌then◌else◌}
-use Rattle.std.specs.Prelude.{option_map}
+use Rattle.std.proofs.Common.{◌≡◌, ◌++◌, ◌∙◌, ◌<◌, ℕ, ◌+◌, Bool, true, false, List, [], ◌∷◌, length, drop, get_or, map, Option, Some, None, refl, ap, if◌then◌else◌}
+use Rattle.std.specs.Prelude.{option_map, flat_map}
+use Rattle.rdx_lang.proofs.Rest.{rest_at}
 use Rattle.rdx_patterns.specs.Refusal.{Refusal, first, or_else, first_refusal}
 
 -- the first of both is that of the one list, or else of the other
 pub first-append : {A : Type 0} (xs ys : List A) → first (xs ++ ys) ≡ or_else (first xs) (first ys)
 first-append [] ys = refl
 first-append (x ∷ xs) ys = refl
+
+-- of what comes of all that a loop has before it, the first comes of the next element, or else of those behind that
+pub first-next : {A B C : Type 0} (f : A → B) (g : B → List C) (xs : List A) (i : ℕ) (x : A) → i < length xs → x ≡ get_or xs i x
+    → first (flat_map g (map f (drop i xs))) ≡ or_else (first (g (f x))) (first (flat_map g (map f (drop (i + 1) xs))))
+first-next f g xs i x h e =
+    ap (λ ys. first (flat_map g ys)) (rest_at f xs i x h e) ∙ first-append (g (f x)) (flat_map g (map f (drop (i + 1) xs)))
 
 -- no first one is found where there is none
 pub nothing : {A B : Type 0} (f : A → B) (xs : List A) → option_map f (first xs) ≡ None → xs ≡ []

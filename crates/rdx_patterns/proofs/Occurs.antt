@@ -5,7 +5,7 @@ use Rattle.std.specs.List.{starts_with}
 use Rattle.std.specs.Str.Iter.{HasSubslice}
 use Rattle.std.proofs.lemmas.Bool.Decides.{Decides-eqb}
 use Rattle.std.proofs.lemmas.Slice.Eq.{starts_is}
-use Rattle.rdx_patterns.specs.Unbuilt.{occurs_in}
+use Rattle.rdx_patterns.specs.Names.{occurs_in}
 use Rattle.rdx_patterns.proofs.Tests.{either_way, or_left, or_right}
 
 -- where y stands first it stands in the text

@@ -11,13 +11,13 @@ use Rattle.rdx_patterns.specs.Heads.{Head, naming, avoiding, prefixing, splittin
 use Rattle.rdx_patterns.specs.AreNames.{AreNames}
 use Rattle.rdx_patterns.specs.BoundNames.{bound_names}
 use Rattle.rdx_patterns.specs.Kinds.{is_base}
-use Rattle.rdx_patterns.specs.Names.{is_bad_name, begins_with_dots, is_ellipsis, has_suffix, front}
+use Rattle.rdx_patterns.specs.Names.{is_bad_bound, begins_with_dots, is_ellipsis, has_suffix, front}
 use Rattle.rdx_patterns.specs.Occurrences.{Occurrence, key, binder, single, repeats, excepted, across, malformed, escape, keys, keys_in, role_occurrences, deeper, head_occurrences, occurrences, occurrences_among}
 use Rattle.rdx_patterns.specs.Parts.{text_of, is_symbol, is_word}
 use Rattle.rdx_patterns.specs.PatternChecks.{Bound, when, bad_binder, bad_binders, is_bad_symbol, bad_occurrence, bad_occurrences, binds, bound_when, all_bound}
 use Rattle.rdx_patterns.specs.declared.patterns.position.Position.{Position}
 use Rattle.rdx_patterns.proofs.Booleans.{or_false, or_true, and_true, and_both, not_and_true, unless_true, not_either_way}
-use Rattle.rdx_patterns.proofs.SpelledNames.{symbol-spelled, name-spelled, language-not_hole}
+use Rattle.rdx_patterns.proofs.SpelledNames.{symbol-spelled, name-spelled, bound-not_bad, language-not_hole}
 use Rattle.rdx_patterns.proofs.Firsts.{none_both}
 
 -- ---- what stands in a pattern, below this depth
@@ -261,16 +261,17 @@ ArePassed-both [] qs h = (tt, h)
 ArePassed-both (o ∷ os) qs h = let k = ArePassed-both os qs h.1 in ((h.0, k.0), k.1)
 
 -- a name that may be bound
-bound-passed : (d : Sexp) → IsTrue (is_symbol_spelling (text_of d)) → is_bad_name (text_of d) ≡ false
+bound-passed : (d : Sexp) → IsTrue (is_symbol_spelling (text_of d)) → is_bad_bound (text_of d) ≡ false
     → (is_name (text_of d) ≡ true) × (begins_with_dots (text_of d) ≡ false)
 bound-passed d h e =
-    (name-spelled (text_of d) h (language-not_hole (text_of d) e), (or_false (bytes_eq (text_of d) (codes "hole") || bytes_eq (text_of d) (codes "_")) (begins_with_dots (text_of d)) e).1)
+    let f = bound-not_bad (text_of d) e in
+    (name-spelled (text_of d) h (language-not_hole (text_of d) f), (or_false (bytes_eq (text_of d) (codes "hole") || bytes_eq (text_of d) (codes "_")) (begins_with_dots (text_of d)) f).1)
 
 module _ (ns : List (List ℕ)) (m : ℕ) where
   -- one that is written and that no check refuses
   written-passed : (o : Occurrence) → IsWritten m o → bad_binder o ≡ [] → bad_occurrence ns o ≡ [] → IsPassed o
   written-passed (key d) h e f = tt
-  written-passed (binder n d) h e f = bound-passed d h.1 (when-none (is_bad_name (text_of d)) d e)
+  written-passed (binder n d) h e f = bound-passed d h.1 (when-none (is_bad_bound (text_of d)) d e)
   written-passed (single n d) h e f =
       (name-spelled (text_of d) h.1, (or_false (begins_with_dots (text_of d)) (not (bytes_eq (text_of d) (codes "_")) && (has_suffix (text_of d) && not (is_base ns (front (text_of d))))) (when-none (is_bad_symbol ns (text_of d)) d f)).0)
   written-passed (repeats n d) h e f = (h.1.1, (ellipsis-name d h.1.0 h.1.1, ellipsis-dots (text_of d) (and_true (is_symbol d) (is_ellipsis (text_of d)) h.1.1).1))
@@ -311,7 +312,7 @@ module _ (ns : List (List ℕ)) (pos : Position) (m : ℕ) where
   bound-are-names (key d ∷ os) h e = bound-are-names os h.1 e
   bound-are-names (binder n d ∷ os) h e =
       let k = none_both (bad_binder (binder n d)) (bad_binders os) e in
-      ((h.0.0, (bound-passed d h.0.1 (when-none (is_bad_name (text_of d)) d k.0)).0), bound-are-names os h.1 k.1)
+      ((h.0.0, (bound-passed d h.0.1 (when-none (is_bad_bound (text_of d)) d k.0)).0), bound-are-names os h.1 k.1)
   bound-are-names (single n d ∷ os) h e =
       when-names (binds ns pos (text_of d)) n d (all_bound ns pos os) h.0.0 (λ f. name-spelled (text_of d) h.0.1 (binds-not_hole (text_of d) f)) (bound-are-names os h.1 e)
   bound-are-names (repeats n d ∷ os) h e =

@@ -6,7 +6,7 @@ use Rattle.rdx_sexp.specs.Sexp.{Sexp, leaf, list, integer, truth, text, symbol, 
 use Rattle.rdx_sexp.specs.Size.{IsSpelledSexp}
 use Rattle.rdx_patterns.specs.Parts.{text_of, is_symbol}
 use Rattle.std.specs.Cmp.Lexicographic.{pointwise}
-use Rattle.rdx_patterns.specs.Names.{is_bad_name, begins_with_dots}
+use Rattle.rdx_patterns.specs.Names.{is_bad_name, begins_with_dots, occurs_in, is_bad_bound}
 use Rattle.rdx_patterns.proofs.Booleans.{or_false, and_not_both}
 
 -- a symbol
@@ -21,6 +21,10 @@ symbol-spelled (list ds s) e h = absurd cc
 -- a spelling other than `hole` is a name
 pub name-spelled : (x : List ℕ) → IsTrue (is_symbol_spelling x) → bytes_eq x (codes "hole") ≡ false → IsTrue (is_name x)
 name-spelled x h e = and_not_both (is_symbol_spelling x) (pointwise nat_eq x (codes "hole")) h e
+
+-- what may be bound by this name may be defined by it
+pub bound-not_bad : (x : List ℕ) → is_bad_bound x ≡ false → is_bad_name x ≡ false
+bound-not_bad x e = (or_false (is_bad_name x) (occurs_in (codes "_!_") x) e).0
 
 -- a name that a language may have, or that may be bound, is no `hole`
 pub language-not_hole : (x : List ℕ) → is_bad_name x ≡ false → bytes_eq x (codes "hole") ≡ false

@@ -8,7 +8,7 @@ use Rattle.rdx_term.specs.Spelling.{is_name}
 use Rattle.rdx_term.specs.Tree as tree
 use Rattle.rdx_lang.proofs.MemberLaws.{append-left, append-right}
 use Rattle.rdx_lang.specs.Members.{In, here}
-use Rattle.rdx_lang.specs.Patterns.{Pattern, wild, hole, nt, lit, Items}
+use Rattle.rdx_lang.specs.Patterns.{Pattern, wild, hole, nt, lit, named, differ, Items}
 use Rattle.rdx_lang.specs.Patterns as model
 use Rattle.rdx_lang.specs.References.{is_among as is_defined_among}
 use Rattle.rdx_lang.specs.WellFormed.{has_known_nonterminals, have_known_nonterminals}
@@ -18,7 +18,7 @@ use Rattle.rdx_lang.specs.declared.pattern.Ref.TheVariants.{Nt, Cross}
 use Rattle.rdx_patterns.specs.Ends.{end_of, ends_in, ends_among}
 use Rattle.rdx_patterns.specs.Heads.{Head, naming, avoiding, prefixing, splitting, hiding, crossing, escaping, plain, Role, word, bound, spelt, pattern, ellipsis, unread, Roles, roles_of, head_among, next, rest, is_repeated, fits, is_shaped}
 use Rattle.rdx_patterns.specs.Kinds.{kind_of, is_among}
-use Rattle.rdx_patterns.specs.Names.{has_suffix, front}
+use Rattle.rdx_patterns.specs.Names.{has_suffix, front, is_mismatch}
 use Rattle.rdx_patterns.specs.Occurrences.{Occurrence, across, malformed, keys_in, role_occurrences, deeper, head_occurrences, occurrences, occurrences_among}
 use Rattle.rdx_patterns.specs.Parts.{text_of, is_symbol, is_word}
 use Rattle.rdx_patterns.specs.PatternChecks.{when, bad_occurrence, bad_occurrences}
@@ -99,7 +99,11 @@ module _ (ns : List (List ℕ)) (pos : Position) (ys : List Ref) (Ends : List �
   -- one with a suffix
   suffixed_known : (x : List ℕ) (o : Option Pattern) → Passes o → is_known (suffixed x o) ≡ true
   suffixed_known x None h = refl
-  suffixed_known x (Some p) h = h
+  suffixed_known x (Some p) h = by_test (is_mismatch x)
+    where
+      by_test : (b : Bool) → is_known (if b then differ x p else named x p) ≡ true
+      by_test true = h
+      by_test false = h
 
   -- one that is neither a built-in name nor a nonterminal
   other_known : (x : List ℕ) → is_known (other_symbol ns x) ≡ true

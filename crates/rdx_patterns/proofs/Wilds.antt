@@ -6,25 +6,26 @@ use Rattle.rdx_sexp.specs.Sexp.{Sexp, Sexps, leaf, list, nil, cons, integer, tru
 use Rattle.rdx_sexp.specs.Size.{IsSpelledSexp, AreSpelled}
 use Rattle.rdx_term.specs.Spelling.{is_name, is_symbol_spelling}
 use Rattle.rdx_term.specs.Tree as tree
-use Rattle.rdx_lang.specs.Patterns.{Pattern, wild, hole, lit, nt, Items}
+use Rattle.rdx_lang.specs.Patterns.{Pattern, wild, hole, lit, nt, named, differ, Items}
 use Rattle.rdx_lang.specs.declared.pattern.Kind.{Kind}
 use Rattle.rdx_lang.specs.declared.pattern.Ref.TheVariants.{Nt}
 use Rattle.rdx_patterns.specs.Heads.{Head, naming, avoiding, prefixing, splitting, hiding, crossing, escaping, plain, Role, word, bound, spelt, pattern, ellipsis, unread, Roles, every, roles_of, head_among, next, rest, is_repeated, fits, is_shaped}
 use Rattle.rdx_patterns.specs.Kinds.{kind_of, is_among, is_base}
 use Rattle.rdx_patterns.specs.Laws.{wilds, item_wilds, underscores, WildsAreWritten}
-use Rattle.rdx_patterns.specs.Names.{is_bad_name, begins_with_dots, has_suffix, front}
+use Rattle.rdx_patterns.specs.Names.{is_bad_bound, begins_with_dots, has_suffix, front, is_mismatch}
 use Rattle.rdx_patterns.specs.Occurrences.{Occurrence, malformed, keys, keys_in, role_occurrences, deeper, head_occurrences, occurrences, occurrences_among}
 use Rattle.rdx_patterns.specs.Parts.{text_of, is_symbol, is_word}
 use Rattle.rdx_patterns.specs.PatternChecks.{keyword_fault, keyword_faults, bad_binder, bad_binders, bad_occurrence, bad_occurrences, is_bad_symbol, escape_in, escapes}
 use Rattle.rdx_patterns.specs.PatternRefusal.{keyword_at, bad_binder_at, bad_occurrence_at, depth_clash_at, escape_at}
 use Rattle.rdx_patterns.specs.Reading.{base, base_of, suffixed, other_symbol, by_base, symbol_reading, name_in, only, bound_to, prefixed, across_itself, names_among, ellipsis_behind, item_slot, with_item, role_items, assembled, reading, items_among}
-use Rattle.rdx_patterns.specs.Refusal.{unnamed, named}
+use Rattle.rdx_patterns.specs.Refusal.{unnamed}
+use Rattle.rdx_patterns.specs.Refusal as refusing
 use Rattle.rdx_patterns.specs.Unbuilt.{unbuilt_at}
 use Rattle.rdx_patterns.specs.declared.patterns.position.Position.{Position}
 use Rattle.rdx_patterns.specs.declared.patterns.position.Position.TheVariants.{Grammar, Query}
 use Rattle.rdx_patterns.specs.declared.shape.fault.DefKind.TheVariants.{Shape, BadName, BadPattern, RacketEscape}
 use Rattle.rdx_patterns.proofs.Booleans.{or_false, and_true, second-false, not_true}
-use Rattle.rdx_patterns.proofs.SpelledNames.{symbol-spelled, name-spelled, language-not_hole}
+use Rattle.rdx_patterns.proofs.SpelledNames.{symbol-spelled, name-spelled, bound-not_bad, language-not_hole}
 use Rattle.rdx_patterns.proofs.Firsts.{nothing, none_both, none_or, none_first}
 use Rattle.rdx_patterns.proofs.RoleItems.{named-once}
 
@@ -44,8 +45,8 @@ spelt-name (leaf (keyword k) s) e h = absurd cc
 spelt-name (list ds s) e h = absurd cc
 
 -- one that may be bound has one
-bound-name : (d : Sexp) → is_symbol d ≡ true → IsSpelledSexp d → is_bad_name (text_of d) ≡ false → HasName d
-bound-name d e h f = name-spelled (text_of d) (symbol-spelled d e h) (language-not_hole (text_of d) f)
+bound-name : (d : Sexp) → is_symbol d ≡ true → IsSpelledSexp d → is_bad_bound (text_of d) ≡ false → HasName d
+bound-name d e h f = name-spelled (text_of d) (symbol-spelled d e h) (language-not_hole (text_of d) (bound-not_bad (text_of d) f))
 
 module _ (ns : List (List ℕ)) (pos : Position) where
   -- ---- symbols
@@ -81,7 +82,11 @@ module _ (ns : List (List ℕ)) (pos : Position) where
   -- what stands before a suffix is a base
   suffixed-no_wild : (x : List ℕ) (o : Option Pattern) → HasNoWild o → (o ≡ None → ⊥) → wilds (suffixed x o) ≡ 0
   suffixed-no_wild x None h f = absurd (f refl)
-  suffixed-no_wild x (Some p) h f = h
+  suffixed-no_wild x (Some p) h f = by_test (is_mismatch x)
+    where
+      by_test : (b : Bool) → wilds (if b then differ x p else named x p) ≡ 0
+      by_test true = h
+      by_test false = h
 
   -- a symbol with a suffix behind a base, or a literal
   other-no_wild : (x : List ℕ) → (has_suffix x && not (is_base ns (front x))) ≡ false → wilds (other_symbol ns x) ≡ 0
@@ -219,7 +224,7 @@ module _ (ns : List (List ℕ)) (pos : Position) where
   list-wilds n naming whole (cons w (cons x nil)) e h f p = second-false (is_symbol x) _ (and_true (is_symbol w) (is_symbol x && false) f).1
   list-wilds n naming whole (cons w (cons x (cons d nil))) e h f p =
       let g = and_true (is_symbol x) true (and_true (is_symbol w) (is_symbol x && true) f).1 in
-      let b = none_first (is_bad_name (text_of x)) x (bad_binders (occurrences n d ++ [])) p in
+      let b = none_first (is_bad_bound (text_of x)) x (bad_binders (occurrences n d ++ [])) p in
       bound-wilds (name_in x) (text_of x) (reading ns pos d) (named-once x (bound-name x g.0 h.1.0 b.0)) ∙ sym (plus-zero (wilds (reading ns pos d)))
   list-wilds n naming whole (cons w (cons x (cons d (cons c ds)))) e h f p = second-false (is_symbol x) _ (and_true (is_symbol w) (is_symbol x && false) f).1
   list-wilds n avoiding whole nil e h f p = refl
@@ -293,7 +298,7 @@ wilds_are_written ns pos d h e =
     let l = none_or (bad_binder_at os) _ k.1 in
     let m = none_or (bad_occurrence_at ns os) _ l.1 in
     let keys = nothing (unnamed Shape) (keyword_faults os) k.0 in
-    let binders = nothing (named BadName) (bad_binders os) l.0 in
+    let binders = nothing (refusing.named BadName) (bad_binders os) l.0 in
     let others = nothing (unnamed BadPattern) (bad_occurrences ns os) m.0 in
     let c = none_or (depth_clash_at ns os) _ m.1 in
     let asking = nothing (unnamed RacketEscape) (escapes os) (none_or (escape_at os) None c.1).0 in

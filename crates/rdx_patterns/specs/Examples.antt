@@ -1,14 +1,14 @@
--- Worked examples: the refusal of a list that would ask Racket, and contexts from a nonterminal to itself.
+-- Worked examples: the refusal of a list that would ask Racket, contexts from a nonterminal to itself, and mismatch names.
 use Rattle.std.specs.Prelude.{◌≡◌, ℕ, ◌+◌, List, [], ◌∷◌, Some, None, codes}
 use Rattle.rdx_base.specs.declared.place.Span.{Span}
 use Rattle.rdx_sexp.specs.Sexp.{symbol, Sexp, leaf, list, sexps}
-use Rattle.rdx_lang.specs.Patterns.{nt, named, in_hole}
+use Rattle.rdx_lang.specs.Patterns.{nt, named, differ, in_hole}
 use Rattle.rdx_lang.specs.declared.pattern.Ref.TheVariants.{Nt, Cross}
 use Rattle.rdx_patterns.specs.PatternRefusal.{pattern_refusal}
 use Rattle.rdx_patterns.specs.Reading.{reading}
 use Rattle.rdx_patterns.specs.Refusal.{Refusal}
 use Rattle.rdx_patterns.specs.declared.patterns.position.Position.TheVariants.{Query}
-use Rattle.rdx_patterns.specs.declared.shape.fault.DefKind.TheVariants.{BadPattern, RacketEscape}
+use Rattle.rdx_patterns.specs.declared.shape.fault.DefKind.TheVariants.{BadName, BadPattern, RacketEscape}
 
 -- a symbol, and a list
 abbrev pub word : Span → List ℕ → Sexp
@@ -55,3 +55,43 @@ abbrev pub NoSuchEnd : Type 0
 NoSuchEnd =
     pattern_refusal (codes "e" ∷ []) (split_across 1 (codes "f"))
     ≡ Some (record { kind = BadPattern; place = record { line = 1; column = 10 }; name = None })
+
+-- ---- mismatch names
+
+-- the symbol of this text is refused as a pattern over a nonterminal `n`, where it is the whole line
+abbrev pub means_nothing : List ℕ → Type 0
+means_nothing x =
+    pattern_refusal (codes "n" ∷ []) (word (columns 1 9) x) ≡ Some (record { kind = BadPattern; place = record { line = 1; column = 1 }; name = None })
+
+-- Over a nonterminal `n`, all terms that are matched under `n_!_` have to differ.
+abbrev pub ReadsMismatch : Type 0
+ReadsMismatch = reading (codes "n" ∷ []) Query (word (columns 1 5) (codes "n_!_")) ≡ differ (codes "n_!_") (nt (Nt (codes "n")))
+
+-- So have all those under `n_!_1`, which is another name.
+abbrev pub ReadsOtherMismatch : Type 0
+ReadsOtherMismatch = reading (codes "n" ∷ []) Query (word (columns 1 6) (codes "n_!_1")) ≡ differ (codes "n_!_1") (nt (Nt (codes "n")))
+
+-- In `n_1_!_` the first `_` begins another suffix, so it is a name like `n_1`.
+abbrev pub ReadsLaterMark : Type 0
+ReadsLaterMark = reading (codes "n" ∷ []) Query (word (columns 1 7) (codes "n_1_!_")) ≡ named (codes "n_1_!_") (nt (Nt (codes "n")))
+
+-- `foo_!_` means nothing there, as `foo_1` doesn't.
+abbrev pub NoSuchMismatch : Type 0
+NoSuchMismatch = means_nothing (codes "foo_!_") × means_nothing (codes "foo_1")
+
+-- And `..._!_` is no ellipsis, and means nothing.
+abbrev pub NoMismatchEllipsis : Type 0
+NoMismatchEllipsis = means_nothing (codes "..._!_")
+
+-- `(name x n)`, for a name x
+abbrev pub naming_it : List ℕ → Sexp
+naming_it x =
+    group (columns 1 17) (word (columns 2 6) (codes "name") ∷ word (columns 7 14) x ∷ word (columns 15 16) (codes "n") ∷ [])
+
+-- this name may not be bound so
+abbrev pub may_not_be : List ℕ → Type 0
+may_not_be x = pattern_refusal (codes "n" ∷ []) (naming_it x) ≡ Some (record { kind = BadName; place = record { line = 1; column = 7 }; name = Some x })
+
+-- Nothing with `_!_` in it is bound by `name`, wherever that stands.
+abbrev pub NoMismatchBound : Type 0
+NoMismatchBound = may_not_be (codes "n_!_") × may_not_be (codes "n_1_!_")

@@ -3,7 +3,7 @@ use Rattle.std.specs.Prelude.{◌≡◌, ◌⊎◌, ℕ, ◌+◌, List, [], ◌�
 use Rattle.rdx_sexp.specs.Sexp.{Sexp, Sexps, leaf, list, nil, cons}
 use Rattle.rdx_sexp.specs.Size.{IsSpelledSexp}
 use Rattle.rdx_lang.specs.Checked.{pattern_in}
-use Rattle.rdx_lang.specs.Patterns.{Pattern, wild, of_kind, except, prefix, hole, lit, nt, named, in_hole, hide_hole, closed, seq, Items}
+use Rattle.rdx_lang.specs.Patterns.{Pattern, wild, of_kind, except, prefix, hole, lit, nt, named, differ, in_hole, hide_hole, closed, seq, Items}
 use Rattle.rdx_lang.specs.Patterns as model
 use Rattle.rdx_lang.specs.declared.checked.CheckedPat.{CheckedPat}
 use Rattle.rdx_patterns.specs.Answers.{ReadsPattern}
@@ -81,6 +81,7 @@ abbrev mutual
   wilds (lit u) = 0
   wilds (nt x) = 0
   wilds (named x p) = wilds p
+  wilds (differ x p) = wilds p
   wilds (in_hole p q) = wilds p + wilds q
   wilds (hide_hole p) = wilds p
   wilds (closed p) = wilds p

@@ -3,7 +3,7 @@ use Rattle.std.specs.Prelude.{ℕ, Bool, true, false, not, ◌&&◌, ◌||◌, L
 use Rattle.std.specs.List.{list_any}
 use Rattle.rdx_sexp.specs.Sexp.{Sexp, Sexps, leaf, list, nil, cons}
 use Rattle.rdx_patterns.specs.Kinds.{is_among, is_base}
-use Rattle.rdx_patterns.specs.Names.{is_bad_name, begins_with_dots, is_ellipsis, has_suffix, front}
+use Rattle.rdx_patterns.specs.Names.{is_bad_bound, begins_with_dots, is_ellipsis, has_suffix, front, is_mismatch}
 use Rattle.rdx_patterns.specs.Occurrences.{Occurrence, key, binder, single, repeats, excepted, across, malformed, escape}
 use Rattle.rdx_patterns.specs.Parts.{text_of, is_word}
 use Rattle.rdx_patterns.specs.declared.patterns.position.Position.{Position}
@@ -35,7 +35,7 @@ keyword_faults os = flat_map keyword_fault os
 -- the symbol, where it is bound and its name may not be
 abbrev pub bad_binder : Occurrence → List Sexp
 bad_binder (key d) = []
-bad_binder (binder n d) = when (is_bad_name (text_of d)) d
+bad_binder (binder n d) = when (is_bad_bound (text_of d)) d
 bad_binder (single n d) = []
 bad_binder (repeats n d) = []
 bad_binder (excepted d) = []
@@ -95,11 +95,11 @@ abbrev pub binds_itself : Position → Bool
 binds_itself Grammar = false
 binds_itself Query = true
 
--- the symbol binds its text as a pattern, over these nonterminals: one that has a suffix behind a built-in name or a nonterminal does
+-- the symbol binds its text as a pattern, over these nonterminals: one that has a suffix behind a built-in name or a nonterminal does, but for a mismatch name
 abbrev pub binds : List (List ℕ) → Position → List ℕ → Bool
 binds ns pos x =
     not (bytes_eq x (codes "_") || bytes_eq x (codes "hole"))
-    && (if is_base ns x then binds_itself pos else (has_suffix x && is_base ns (front x)))
+    && (if is_base ns x then binds_itself pos else (has_suffix x && (is_base ns (front x) && not (is_mismatch x))))
 
 -- the symbol with its depth, where this holds
 abbrev pub bound_when : Bool → ℕ → Sexp → List Bound

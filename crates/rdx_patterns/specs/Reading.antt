@@ -5,14 +5,14 @@ use Rattle.std.specs.Bool.{then_some}
 use Rattle.rdx_sexp.specs.Sexp.{Atom, integer, truth, text, symbol, keyword, Sexp, Sexps, leaf, list, nil, cons}
 use Rattle.rdx_term.specs.Spelling.{is_name}
 use Rattle.rdx_term.specs.Tree as tree
-use Rattle.rdx_lang.specs.Patterns.{Pattern, wild, of_kind, except, prefix, hole, lit, nt, named, in_hole, hide_hole, seq, Items}
+use Rattle.rdx_lang.specs.Patterns.{Pattern, wild, of_kind, except, prefix, hole, lit, nt, named, differ, in_hole, hide_hole, seq, Items}
 use Rattle.rdx_lang.specs.PatternView.{Slot, just, repeated}
 use Rattle.rdx_lang.specs.Patterns as model
 use Rattle.rdx_lang.specs.declared.pattern.Kind.{Kind}
 use Rattle.rdx_lang.specs.declared.pattern.Ref.TheVariants.{Nt, Cross}
 use Rattle.rdx_patterns.specs.Heads.{Head, naming, avoiding, prefixing, splitting, hiding, crossing, escaping, plain, Role, word, bound, spelt, pattern, ellipsis, unread, Roles, roles_of, head_among, next, rest, is_shaped}
 use Rattle.rdx_patterns.specs.Kinds.{kind_of, is_among}
-use Rattle.rdx_patterns.specs.Names.{has_suffix, front}
+use Rattle.rdx_patterns.specs.Names.{has_suffix, front, is_mismatch}
 use Rattle.rdx_patterns.specs.Parts.{text_of}
 use Rattle.rdx_patterns.specs.declared.patterns.position.Position.{Position}
 use Rattle.rdx_patterns.specs.declared.patterns.position.Position.TheVariants.{Grammar, Query}
@@ -33,10 +33,10 @@ abbrev pub unsuffixed : Position → List ℕ → Pattern → Pattern
 unsuffixed Grammar x p = p
 unsuffixed Query x p = named x p
 
--- what `x` with its suffix stands for, by what stands before the suffix: it binds all of x
+-- what `x` with its suffix stands for, by what stands before the suffix: it binds all of x, or all of x is a mismatch name
 abbrev pub suffixed : List ℕ → Option Pattern → Pattern
 suffixed x None = wild
-suffixed x (Some p) = named x p
+suffixed x (Some p) = if is_mismatch x then differ x p else named x p
 
 -- a symbol that is neither: one with a suffix, or a literal
 abbrev pub other_symbol : List (List ℕ) → List ℕ → Pattern

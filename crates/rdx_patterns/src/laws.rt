@@ -1,5 +1,6 @@
 //! Laws of the definitions: functions that do nothing, whose contracts are the laws.
 ghost use Rattle.rdx_patterns.specs.Examples.{AsksInside, ReadsAcross, NoSuchEnd};
+ghost use Rattle.rdx_patterns.specs.Examples.{ReadsMismatch, ReadsOtherMismatch, ReadsLaterMark, NoSuchMismatch, NoMismatchEllipsis, NoMismatchBound};
 ghost use Rattle.rdx_patterns.specs.Laws.{OnePattern, OnePatternRefusal, NeverBothPattern, NeverNeitherPattern, InOrder, WildsAreWritten};
 
 /// A datum is one pattern over given nonterminals at most, or has one refusal at most, and always one of both.
@@ -25,4 +26,14 @@ pub fn worked_examples()
     ensures asks_inside { AsksInside }
     ensures reads_across { ReadsAcross }
     ensures no_such_end { NoSuchEnd }
+{}
+
+/// Worked examples: what is a mismatch name, what is none, and what means nothing.
+pub fn mismatch_examples()
+    ensures reads_mismatch { ReadsMismatch }
+    ensures reads_other_mismatch { ReadsOtherMismatch }
+    ensures reads_later_mark { ReadsLaterMark }
+    ensures no_such_mismatch { NoSuchMismatch }
+    ensures no_mismatch_ellipsis { NoMismatchEllipsis }
+    ensures no_mismatch_bound { NoMismatchBound }
 {}

@@ -1,17 +1,17 @@
 -- The worked examples hold.
-use Rattle.std.proofs.Common.{◌≡◌, ◌⊎◌, ℕ, pos, List, [], ◌∷◌, ◌++◌, Some, None, map, inl, inr, refl, ap, sym, ◌∙◌, subst, codes, arith}
+use Rattle.std.proofs.Common.{◌≡◌, ℕ, pos, List, [], ◌∷◌, ◌++◌, Some, None, map, refl, ap, sym, ◌∙◌, subst, codes, arith}
 use Rattle.std.specs.Str.{chars}
 use Rattle.std.specs.Prelude.{true, false}
 use Rattle.rdx_base.specs.declared.place.Span.{Span}
 use Rattle.std.specs.declared.cmp.Ordering.{Ordering}
 use Rattle.rdx_term.specs.Items.{put_at}
 use Rattle.rdx_term.specs.Tree as tree
-use Rattle.rdx_lang.specs.Bindings.{Pair, Binding}
+use Rattle.rdx_lang.specs.Bindings.{Binding, of_pairs, no_names, one_name}
 use Rattle.rdx_lang.specs.Bindings.{one as one_term}
 use Rattle.rdx_lang.specs.Decompositions.{Decomposition}
 use Rattle.rdx_lang.specs.Edges.{Reaches, at_once, further, edge_nt, IsFree, IsFirstRecursive}
 use Rattle.rdx_lang.specs.Join.{IsJoin}
-use Rattle.rdx_lang.proofs.JoinLaws.{one_join}
+use Rattle.rdx_lang.proofs.JoinLaws.{one_join, turned_join, unit_left, unit_right, one_name-ascends, none_left, none_left-only, one_left-only, one_right-only}
 use Rattle.rdx_lang.specs.Listing.{IsListing, Matches, SplitsInto, Splits}
 use Rattle.rdx_lang.specs.Members.{In, here, there}
 use Rattle.rdx_lang.specs.Patterns.{Pattern, of_kind, hole, lit, nt, named, seq, nil, one, Definition, Language}
@@ -23,7 +23,8 @@ use Rattle.rdx_lang.specs.Programs.{Clause, JudgementRule, Metafunction, Mode, P
 use Rattle.rdx_lang.specs.Templates as template
 use Rattle.rdx_lang.specs.Templates.{Host, term, apply, more, none}
 use Rattle.rdx_lang.specs.declared.operation.HostOp.TheVariants.{Add}
-use Rattle.rdx_lang.proofs.Examples.{listed as listing}
+use Rattle.rdx_lang.proofs.Examples.{listed as listing, two_pairs}
+use Rattle.rdx_lang.proofs.SeenListings.{matches_listed, splits_listed}
 use Rattle.rdx_eval.specs.Answers.{value, goes, lists, not_context}
 use Rattle.rdx_eval.specs.Calls.{Calls}
 use Rattle.rdx_eval.specs.Extending.{Matched, matched, joins_none, joins_more}
@@ -116,11 +117,11 @@ one_alone {R = R} b r only = record {
 
 -- the binding of one name
 abbrev binds : List ℕ → ℕ → Binding
-binds x n = (x, one_term (tree.integer (pos n))) ∷ []
+binds x n = one_name x (one_term (tree.integer (pos n)))
 
 -- any_x = 2, any_y = 1
 abbrev both : Binding
-both = (codes "any_x", one_term (tree.integer (pos 2))) ∷ binds (codes "any_y") 1
+both = of_pairs ((codes "any_x", one_term (tree.integer (pos 2))) ∷ (codes "any_y", one_term (tree.integer (pos 1))) ∷ [])
 
 -- the pattern and the term
 abbrev pattern : Pattern
@@ -130,28 +131,22 @@ abbrev pair : tree.Tree
 pair = tree.list None (tree.cons (tree.integer (pos 1)) (tree.cons (tree.integer (pos 2)) tree.nil))
 
 -- a binding joined with nothing
-with_nothing : (x : List ℕ) (n : ℕ) → IsJoin [] (binds x n) (binds x n)
-with_nothing x n = record { map = (tt, tt); sound = λ p i. inr i; left = λ p i. elim i [ ]; right = λ p i. i }
+with_nothing : (x : List ℕ) (n : ℕ) → IsJoin no_names (binds x n) (binds x n)
+with_nothing x n = unit_left (binds x n) (one_name-ascends x (one_term (tree.integer (pos n))))
 
 -- and with nothing behind it
-nothing_behind : (x : List ℕ) (n : ℕ) → IsJoin (binds x n) [] (binds x n)
-nothing_behind x n = record { map = (tt, tt); sound = λ p i. inl i; left = λ p i. i; right = λ p i. elim i [ ] }
+nothing_behind : (x : List ℕ) (n : ℕ) → IsJoin (binds x n) no_names (binds x n)
+nothing_behind x n = unit_right (binds x n) (one_name-ascends x (one_term (tree.integer (pos n))))
 
 -- the two bindings joined
-sound_in_both : (p : Pair) → In p both → In p (binds (codes "any_y") 1) ⊎ In p (binds (codes "any_x") 2)
-sound_in_both p (here e) = inr (here e)
-sound_in_both p (there i) = inl i
-
-right_in_both : (p : Pair) → In p (binds (codes "any_x") 2) → In p both
-right_in_both p (here e) = here e
-right_in_both p (there i) = elim i [ ]
-
 joined : IsJoin (binds (codes "any_y") 1) (binds (codes "any_x") 2) both
-joined = record { map = ((refl, tt), (tt, tt)); sound = sound_in_both; left = λ p i. there i; right = right_in_both }
+joined =
+    turned_join (binds (codes "any_x") 2) (binds (codes "any_y") 1) both
+    (two_pairs (codes "any_x", one_term (tree.integer (pos 2))) (codes "any_y", one_term (tree.integer (pos 1))) refl)
 
 -- a named built-in name binds its name alone
 named_binds : (x : List ℕ) (n : ℕ) (b : Binding) → Match L (named x (of_kind Any)) (tree.integer (pos n)) b → b ≡ binds x n
-named_binds x n b (match_named (match_kind h) j) = one_join [] (binds x n) b (binds x n) j (with_nothing x n)
+named_binds x n b (match_named (match_kind h) j) = one_left-only j
 
 named_matches : (x : List ℕ) (n : ℕ) → Match L (named x (of_kind Any)) (tree.integer (pos n)) (binds x n)
 named_matches x n = match_named (match_kind refl) (with_nothing x n)
@@ -161,24 +156,25 @@ only_both : (b : Binding) → Match L pattern pair b → b ≡ both
 only_both b (match_seq (match_one {c = c} g (match_one {c = d} {d = n} {b = e} h match_none k) j)) =
     let y : c ≡ binds (codes "any_y") 1 = named_binds (codes "any_y") 1 c g in
     let x : d ≡ binds (codes "any_x") 2 = named_binds (codes "any_x") 2 d h in
-    let z : e ≡ binds (codes "any_x") 2 = one_join (binds (codes "any_x") 2) [] e (binds (codes "any_x") 2) (subst (λ (a : Binding). IsJoin a [] e) x k) (nothing_behind (codes "any_x") 2) in
+    let z : e ≡ binds (codes "any_x") 2 = one_right-only (subst (λ (a : Binding). IsJoin a no_names e) x k) in
     one_join (binds (codes "any_y") 1) (binds (codes "any_x") 2) b both
     (subst (λ (a : Binding). IsJoin (binds (codes "any_y") 1) a b) z (subst (λ (a : Binding). IsJoin a e b) y j)) joined
 
 first_listing : Matches L pattern pair (both ∷ [])
 first_listing =
-    one_alone both
+    matches_listed (refl, tt)
+    (one_alone both
     (match_seq (match_one (named_matches (codes "any_y") 1) (match_one (named_matches (codes "any_x") 2) match_none (nothing_behind (codes "any_x") 2)) joined))
-    only_both
+    only_both)
 
 -- ---- the second query
 
 -- a literal binds nothing
-only_nothing : (b : Binding) → Match L (lit (tree.integer (pos 1))) (tree.integer (pos 1)) b → b ≡ []
+only_nothing : (b : Binding) → Match L (lit (tree.integer (pos 1))) (tree.integer (pos 1)) b → b ≡ no_names
 only_nothing b (match_lit e) = refl
 
-second_listing : Matches L (lit (tree.integer (pos 1))) (tree.integer (pos 1)) ([] ∷ [])
-second_listing = one_alone [] (match_lit refl) only_nothing
+second_listing : Matches L (lit (tree.integer (pos 1))) (tree.integer (pos 1)) (no_names ∷ [])
+second_listing = matches_listed (refl, tt) (one_alone no_names (match_lit refl) only_nothing)
 
 -- ---- the queries for e
 
@@ -189,12 +185,13 @@ named_e = named (codes "e") (nt (Nt (codes "e")))
 -- it matches 1 with one binding
 e_listing : (x : List ℕ) → Matches (literal_language x (1 ∷ [])) named_e (tree.integer (pos 1)) (binds (codes "e") 1 ∷ [])
 e_listing x =
-    one_alone (binds (codes "e") 1)
+    matches_listed (refl, tt)
+    (one_alone (binds (codes "e") 1)
     (match_named (match_nt (record { all = literals (1 ∷ []); defined = here refl; among = here refl }) (match_lit refl)) (with_nothing (codes "e") 1))
-    only
+    only)
   where
     only : (b : Binding) → Match (literal_language x (1 ∷ [])) named_e (tree.integer (pos 1)) b → b ≡ binds (codes "e") 1
-    only b (match_named (match_nt a h) j) = one_join [] (binds (codes "e") 1) b (binds (codes "e") 1) j (with_nothing (codes "e") 1)
+    only b (match_named (match_nt a h) j) = one_left-only j
 
 -- a literal matches no other
 other_literal : (c : Binding) → Match L (lit (tree.integer (pos 1))) (tree.integer (pos 2)) c → ⊥
@@ -205,7 +202,7 @@ no_match : (p : Pattern) (c : Binding) → p ≡ lit (tree.integer (pos 1)) → 
 no_match p c e h = other_literal c (subst (λ (q : Pattern). Match L q (tree.integer (pos 2)) c) e h)
 
 none_listing : Matches L named_e (tree.integer (pos 2)) []
-none_listing = record { ascending = tt; sound = λ b i. elim i [ ]; complete = λ b h. absurd (none b h) }
+none_listing = matches_listed tt (record { ascending = tt; sound = λ b i. elim i [ ]; complete = λ b h. absurd (none b h) })
   where
     none : (b : Binding) → Match L named_e (tree.integer (pos 2)) b → ⊥
     none b (match_named (match_nt {x = y} {p = p} {c = c} a h) j) =
@@ -222,24 +219,24 @@ split_term = marked_pair (Some 1) (tree.integer (pos 1)) tree.hole
 
 -- any = hole
 abbrev binds_hole : Binding
-binds_hole = (codes "any", one_term tree.hole) ∷ []
+binds_hole = one_name (codes "any") (one_term tree.hole)
 
 -- the split
 abbrev split : Decomposition
 split = record { context = marked_pair (Some 0) tree.hole tree.hole; part = tree.integer (pos 1); binding = binds_hole }
 
 -- a binding of one name joined with nothing, on either side
-nothing_before : IsJoin [] binds_hole binds_hole
-nothing_before = record { map = (tt, tt); sound = λ p i. inr i; left = λ p i. elim i [ ]; right = λ p i. i }
+nothing_before : IsJoin no_names binds_hole binds_hole
+nothing_before = unit_left binds_hole (one_name-ascends (codes "any") (one_term tree.hole))
 
-nothing_after : IsJoin binds_hole [] binds_hole
-nothing_after = record { map = (tt, tt); sound = λ p i. inl i; left = λ p i. i; right = λ p i. elim i [ ] }
+nothing_after : IsJoin binds_hole no_names binds_hole
+nothing_after = unit_right binds_hole (one_name-ascends (codes "any") (one_term tree.hole))
 
 -- `any` binds the second item
 only_second : (b : Binding) → MatchItems L (one (named (codes "any") (of_kind Any)) nil) (tree.cons tree.hole tree.nil) b → b ≡ binds_hole
 only_second b (match_one {c = c} (match_named (match_kind h) k) match_none j) =
-    let e : c ≡ binds_hole = one_join [] binds_hole c binds_hole k nothing_before in
-    one_join binds_hole [] b binds_hole (subst (λ (a : Binding). IsJoin a [] b) e j) nothing_after
+    let e : c ≡ binds_hole = one_left-only k in
+    one_right-only (subst (λ (a : Binding). IsJoin a no_names b) e j)
 
 -- the first item alone splits, since `hole` does not match the first
 record IsOnlySplit (k : ℕ) (D s : tree.Tree) (b : Binding) : Type 0 where
@@ -257,7 +254,7 @@ only_item k D s b (split_here {d = d} split_hole m j) = record {
   place = refl;
   context = refl;
   part = refl;
-  binding = one_join [] binds_hole b binds_hole (subst (λ (a : Binding). IsJoin [] a b) (only_second d m) j) nothing_before;
+  binding = one_left-only (subst (λ (a : Binding). IsJoin no_names a b) (only_second d m) j);
 }
 only_item k D s b (split_behind {c = c} m r j) = absurd (no_hole c m)
 
@@ -270,8 +267,9 @@ only_split d (split_seq {k = k} {D = D} h e) =
 
 split_listing : Splits L split_pattern split_term (split ∷ [])
 split_listing =
-    one_alone split
-    (split_seq (split_here split_hole (match_one (match_named (match_kind refl) nothing_before) match_none nothing_after) nothing_before) refl) only_split
+    splits_listed (refl, tt)
+    (one_alone split
+    (split_seq (split_here split_hole (match_one (match_named (match_kind refl) nothing_before) match_none nothing_after) nothing_before) refl) only_split)
 
 -- ---- what is printed
 
@@ -279,7 +277,7 @@ first_printed : codes "match 1\n  any_x = 2, any_y = 1\n" ≡ matches_text (both
 first_printed = λ i. codes "match" ++ codes " " ++ digit_1 i ++ codes "\n"
     ++ (codes "  " ++ ((codes "any_x" ++ codes " = " ++ digit_2 i ++ []) ++ (codes ", " ++ (codes "any_y" ++ codes " = " ++ digit_1 i ++ []) ++ [])) ++ codes "\n" ++ [])
 
-second_printed : codes "match 1\n  -\n" ≡ matches_text ([] ∷ [])
+second_printed : codes "match 1\n  -\n" ≡ matches_text (no_names ∷ [])
 second_printed = λ i. codes "match" ++ codes " " ++ digit_1 i ++ codes "\n" ++ (codes "  " ++ codes "-" ++ codes "\n" ++ [])
 
 split_printed : codes "splits 1\n  (hole hole) at [0] is 1 with any = hole\n" ≡ splits_text (split ∷ [])
@@ -382,7 +380,7 @@ answers_in_order s = record {
       (record { found = both ∷ []; finds = record { language = L; known = refl; listing = first_listing }; printed = first_printed; is_met = refl }))
       (more_answers (codes "match 1\n  -\n") [] true true
       (over_value (tree.integer (pos 1)) refl
-      (record { found = [] ∷ []; finds = record { language = L; known = refl; listing = second_listing }; printed = second_printed; is_met = refl })) no_answers);
+      (record { found = no_names ∷ []; finds = record { language = L; known = refl; listing = second_listing }; printed = second_printed; is_met = refl })) no_answers);
 }
 
 pub first_refused_form : FirstRefusedForm
@@ -542,16 +540,12 @@ call_of_f = term (template.call (codes "f") (template.one (template.lit (tree.in
 abbrev arguments_of_f : tree.Tree
 arguments_of_f = tree.list None (tree.cons (tree.integer (pos 1)) tree.nil)
 
--- nothing joined with nothing
-nothing_at_all : IsJoin [] [] []
-nothing_at_all = record { map = tt; sound = λ p i. inl i; left = λ p i. i; right = λ p i. i }
-
 -- they are taken by no name
-only_no_names : (b : Binding) → Match L clause_of_f.arguments arguments_of_f b → b ≡ []
-only_no_names b (match_seq (match_one (match_lit e) match_none j)) = one_join [] [] b [] j nothing_at_all
+only_no_names : (b : Binding) → Match L clause_of_f.arguments arguments_of_f b → b ≡ no_names
+only_no_names b (match_seq (match_one (match_lit e) match_none j)) = none_left-only j
 
-taken_by_f : Matches L clause_of_f.arguments arguments_of_f ([] ∷ [])
-taken_by_f = one_alone [] (match_seq (match_one (match_lit refl) match_none nothing_at_all)) only_no_names
+taken_by_f : Matches L clause_of_f.arguments arguments_of_f (no_names ∷ [])
+taken_by_f = matches_listed (refl, tt) (one_alone no_names (match_seq (match_one (match_lit refl) match_none none_left)) only_no_names)
 
 -- its value is 2
 value_of_f : HostValue program_f call_of_f (value (tree.integer (pos 2)))
@@ -596,7 +590,7 @@ program_J m rs = record {
 abbrev input_of_J : List template.Template
 input_of_J = template.lit (tree.integer (pos 1)) ∷ []
 
-input_made : (C : Calls) → MakeList C [] input_of_J (value arguments_of_f)
+input_made : (C : Calls) → MakeList C no_names input_of_J (value arguments_of_f)
 input_made C = goes (goes (goes refl refl) (goes refl refl)) (listed (record { shallow = omega arith; small = omega arith }))
 
 -- ---- J without outputs
@@ -611,11 +605,11 @@ given_none C =
     goes (goes (lists taken_by_f) refl) (goes (goes (goes refl (listed (record { shallow = omega arith; small = omega arith }))) refl) (goes refl refl))
 
 -- it matches with no names
-only_empty : (b : Binding) → Match L (seq nil) no_outputs b → b ≡ []
+only_empty : (b : Binding) → Match L (seq nil) no_outputs b → b ≡ no_names
 only_empty b (match_seq match_none) = refl
 
-empty_listing : Matches L (seq nil) no_outputs ([] ∷ [])
-empty_listing = one_alone [] (match_seq match_none) only_empty
+empty_listing : Matches L (seq nil) no_outputs (no_names ∷ [])
+empty_listing = matches_listed (refl, tt) (one_alone no_names (match_seq match_none) only_empty)
 
 -- so the premise is met
 abbrev program_met : Program
@@ -624,7 +618,7 @@ program_met = program_J (true ∷ []) (rule_of_J [] ∷ [])
 abbrev premise_met_by : Premise
 premise_met_by = record { judgement = codes "J"; inputs = input_of_J; outputs = seq nil }
 
-met_once : FindsMet program_met premise_met_by (value ([] ∷ []))
+met_once : FindsMet program_met premise_met_by (value (no_names ∷ []))
 unfolding calls_at
 met_once = record {
   judgement = record { name = codes "J"; language = codes "L"; mode = true ∷ []; contract = None; rules = rule_of_J [] ∷ [] };
@@ -636,8 +630,8 @@ met_once = record {
       (goes
       (goes (input_made (calls_at program_met height))
       (goes (goes (given_none (calls_at program_met 399)) (goes refl refl)) (lists (one_alone no_outputs (here refl) (λ t i. only_member t no_outputs i)))))
-      (goes (matched empty_listing (joins_more nothing_at_all joins_none)) (goes refl refl)))
-      (lists (one_alone [] (here refl) (λ b i. only_member b [] i)));
+      (goes (matched empty_listing (joins_more none_left joins_none)) (goes refl refl)))
+      (lists (one_alone no_names (here refl) (λ b i. only_member b no_names i)));
 }
 
 pub premise_met : PremiseMet
@@ -649,7 +643,7 @@ premise_met s = record {
       accepts_definition (defines _ _ _ s)
       (accepts_definition (record { passes = refl; means = refl; sound = tt; passes_late = refl }) (accepts_query (record { passes = refl; means = refl }) accepts_none));
   answers =
-      more_answers (codes "holds #t\n") [] true true (record { found = value ([] ∷ []); finds = met_once; written = whether_found refl refl }) no_answers;
+      more_answers (codes "holds #t\n") [] true true (record { found = value (no_names ∷ []); finds = met_once; written = whether_found refl refl }) no_answers;
 }
 
 -- ---- J with an output
@@ -670,14 +664,14 @@ output_pattern = seq (one (named (codes "any") (of_kind Any)) nil)
 
 only_output : (n : ℕ) (b : Binding) → Match L output_pattern (output n) b → b ≡ binds (codes "any") n
 only_output n b (match_seq (match_one {c = c} g match_none k)) =
-    one_join (binds (codes "any") n) [] b (binds (codes "any") n) (subst (λ (a : Binding). IsJoin a [] b) (named_binds (codes "any") n c g) k)
-    (nothing_behind (codes "any") n)
+    one_right-only (subst (λ (a : Binding). IsJoin a no_names b) (named_binds (codes "any") n c g) k)
 
 output_listing : (n : ℕ) → Matches L output_pattern (output n) (binds (codes "any") n ∷ [])
 output_listing n =
-    one_alone (binds (codes "any") n) (match_seq (match_one (named_matches (codes "any") n) match_none (nothing_behind (codes "any") n))) (only_output n)
+    matches_listed (refl, tt)
+    (one_alone (binds (codes "any") n) (match_seq (match_one (named_matches (codes "any") n) match_none (nothing_behind (codes "any") n))) (only_output n))
 
-output_matched : (n : ℕ) → Matched L output_pattern [] (output n) (value (binds (codes "any") n ∷ []))
+output_matched : (n : ℕ) → Matched L output_pattern no_names (output n) (value (binds (codes "any") n ∷ []))
 output_matched n = matched (output_listing n) (joins_more (with_nothing (codes "any") n) joins_none)
 
 -- 3 and 2 are listed the other way round

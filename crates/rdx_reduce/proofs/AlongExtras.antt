@@ -9,6 +9,7 @@ use Rattle.rdx_lang.specs.Bindings.{one as one_term}
 use Rattle.rdx_lang.specs.Depths.{Use, uses}
 use Rattle.rdx_lang.specs.Fitting.{fits}
 use Rattle.rdx_lang.specs.Join.{IsJoin}
+use Rattle.rdx_lang.specs.Listing.{IsSeen}
 use Rattle.rdx_lang.specs.Members.{In, here, there}
 use Rattle.rdx_lang.specs.Modes.{Callable, fits_mode}
 use Rattle.rdx_lang.specs.Patterns.{Pattern, Language}
@@ -21,7 +22,8 @@ use Rattle.rdx_lang.specs.WellFormed.{is_well_formed_in}
 use Rattle.rdx_lang.proofs.Collecting.{only}
 use Rattle.rdx_lang.proofs.JoinLaws.{bound_names-member}
 use Rattle.rdx_lang.proofs.MemberLaws.{in-append}
-use Rattle.rdx_lang.proofs.NameLaws.{match-ascends, match-names}
+use Rattle.rdx_lang.proofs.NameLaws.{match-ascends}
+use Rattle.rdx_lang.proofs.SeenListings.{seen-ascends, seen-names}
 use Rattle.rdx_eval.specs.Answers.{Answer, value, fault, Fault, Then, stops, goes}
 use Rattle.rdx_eval.specs.Calls.{Calls}
 use Rattle.rdx_eval.specs.Extending.{Joins, joins_none, joins_more, joins_skip, joined, Matched, matched, MatchedEach, By, unless_false}
@@ -38,7 +40,7 @@ use Rattle.rdx_reduce.proofs.SameTemplates.{inst-same, host-same, list-same}
 -- a finite map that does not bind x
 pub record IsWithout (x : List ℕ) (b : Binding) : Type 0 where
   pub map : HasAscendingNames b
-  pub free : (w : Value) → In (x, w) b → ⊥
+  pub free : (w : Value) → In (x, w) b.pairs → ⊥
 
 -- T holds of the bindings of two lists, one by one
 pub data Along (T : Binding → Binding → Type 0) : List Binding → List Binding → Type 0 where
@@ -59,11 +61,12 @@ along-in (a ∷ bs) [] b h i = elim h [ ]
 along-in {T} (a ∷ bs) (c ∷ cs) b (along_more t h) (here e) = (c, here refl, subst (λ (d : Binding). T d c) (sym e) t)
 along-in (a ∷ bs) (c ∷ cs) b (along_more t h) (there i) = let k = along-in bs cs b h i in (k.0, there k.1, k.2)
 
--- what a pattern binds that does not have x is without it
-match-without : (L : Language) (x : List ℕ) (p : Pattern) (t : Tree) (b : Binding) → (IsUsed x (uses 0 p) → ⊥) → Match L p t b → IsWithout x b
+-- what is seen of what a pattern binds that does not have x is without it
+match-without : (L : Language) (x : List ℕ) (p : Pattern) (t : Tree) (b : Binding) → (IsUsed x (uses 0 p) → ⊥) → IsSeen (Match L p t) b
+    → IsWithout x b
 match-without L x p t b n m = record {
-  map = match-ascends m;
-  free = λ w i. n (names-used x 0 p (subst (λ (ys : List (List ℕ)). In x ys) (match-names m) (bound_names-member (x, w) b i)));
+  map = seen-ascends (λ c h. match-ascends h) m;
+  free = λ w i. n (names-used x 0 p (subst (λ (ys : List (List ℕ)). In x ys) (seen-names m) (bound_names-member (x, w) b i)));
 }
 
 -- a name that an extra does not have is none of those that stand for fresh symbols behind it
@@ -169,12 +172,12 @@ module _ (x : List ℕ) (T : Binding → Binding → Type 0) (differs : Differs 
       by-along a (fresh y) ds n f v (joined j) =
           let e : freshly a b y ≡ freshly a c y =
           ap (λ ss. one_name y (one_term (symbol (first_variant y (symbols a.whole ++ ss))))) (symbols-same a.names f) in
-          let m : IsWithout x (freshly a c y) = record { map = (tt, tt); free = λ w i. n (only_name i) } in
+          let m : IsWithout x (freshly a c y) = record { map = ((tt, tt), (tt, tt)); free = λ w i. n (only_name i) } in
           let k = joins-along b c (freshly a c y ∷ []) ds t (λ d i. subst (λ (g : Binding). IsWithout x g) (sym (only i)) m)
           (subst (λ (g : Binding). Joins b (g ∷ []) ds) e j) in
           (k.0, joined k.1, k.2)
         where
-          only_name : {w : Value} → In (x, w) (freshly a c y) → In x (y ∷ [])
+          only_name : {w : Value} → In (x, w) (freshly a c y).pairs → In x (y ∷ [])
           only_name (here d) = here (ap (λ (p : Pair). p.0) d)
           only_name (there i) = elim i [ ]
 

@@ -6,29 +6,31 @@ use Rattle.rdx_term.specs.Fill.{fill_of}
 use Rattle.rdx_term.specs.Limits.{KeepsLimits}
 use Rattle.rdx_term.specs.Tree.{Tree}
 use Rattle.rdx_term.specs.Tree.{hole as the_hole}
-use Rattle.rdx_lang.specs.Bindings.{Value, Binding, one_name, value_at}
+use Rattle.rdx_lang.specs.Bindings.{Value, Binding, one_name, value_at, visible}
 use Rattle.rdx_lang.specs.Bindings.{one as one_term}
 use Rattle.rdx_lang.specs.Closures.{context_name, closed_rule}
 use Rattle.rdx_lang.specs.Depths.{uses}
-use Rattle.rdx_lang.specs.Empty.{IsEmpty}
 use Rattle.rdx_lang.specs.Fitting.{fits}
 use Rattle.rdx_lang.specs.Join.{IsJoin}
+use Rattle.rdx_lang.specs.Laws.{SplitsWhole}
+use Rattle.rdx_lang.specs.Listing.{IsSeen}
 use Rattle.rdx_lang.specs.Members.{In, here, there}
 use Rattle.rdx_lang.specs.Modes.{Callable}
 use Rattle.rdx_lang.specs.Patterns.{Pattern, Language, named, in_hole, closed}
 use Rattle.rdx_lang.specs.Programs.{Rule}
-use Rattle.rdx_lang.specs.Rules.{Match, match_in_hole, split_named, split_closed}
+use Rattle.rdx_lang.specs.Rules.{Match, match_in_hole, Split, split_named, split_closed}
 use Rattle.rdx_lang.specs.Scopes.{bound_by, case_uses, extras_uses}
 use Rattle.rdx_lang.specs.Templates.{Template, var, fill}
 use Rattle.rdx_lang.specs.Valid.{are_valid_extras, is_valid_rule}
 use Rattle.rdx_lang.specs.WellFormed.{is_well_formed_in}
 use Rattle.rdx_lang.proofs.Collecting.{listing_of}
-use Rattle.rdx_lang.proofs.Emptiness.{empty_splits_all}
-use Rattle.rdx_lang.proofs.JoinLaws.{one_join, unit_left, unit_left-only}
+use Rattle.rdx_lang.proofs.JoinLaws.{one_join, join_ascends, unit_left, unit_left-only}
 use Rattle.rdx_lang.proofs.Joins.{joined_first, joined_last}
 use Rattle.rdx_lang.proofs.NameLaws.{match-ascends}
 use Rattle.rdx_lang.proofs.Passing.{member_passes}
 use Rattle.rdx_lang.proofs.RuleSteps.{in_hole_inside, named_splits, closed_splits}
+use Rattle.rdx_lang.proofs.SeenListings.{seen-ascends}
+use Rattle.rdx_lang.proofs.SetJoins.{no_sets_left}
 use Rattle.rdx_lang.proofs.SplitLaws.{split-along, split-fills}
 use Rattle.rdx_eval.specs.Answers.{Answer, value, fault, Fault, Then, stops, goes}
 use Rattle.rdx_eval.specs.Calls.{Calls}
@@ -59,7 +61,7 @@ inside L q x p t b h =
     let n = named_splits k.split in
     let c = closed_splits n.split in
     let name : Binding = one_name x (one_term k.context) in
-    let e : k.outer ≡ name = unit_left-only (tt, tt) (subst (λ (a : Binding). IsJoin a name k.outer) c.1 n.joined) in
+    let e : k.outer ≡ name = unit_left-only ((tt, tt), (tt, tt)) (subst (λ (a : Binding). IsJoin a name k.outer) c.1 n.joined) in
     record {
       context = k.context;
       part = k.part;
@@ -74,14 +76,66 @@ inside L q x p t b h =
 outside : (L : Language) (q : Pattern) (x : List ℕ) (p : Pattern) (t : Tree) (b : Binding) → MatchesInside L q x p t b
     → Match L (in_hole (named x (closed q)) p) t b
 outside L q x p t b m =
-    match_in_hole (split_named (split_closed m.split) (unit_left (one_name x (one_term m.context)) (tt, tt))) m.matched m.joined
+    match_in_hole (split_named (split_closed m.split) (unit_left (one_name x (one_term m.context)) ((tt, tt), (tt, tt)))) m.matched m.joined
 
 pub matches_in_context : MatchesInContext
 matches_in_context L q r t b = (inside L q (context_name r) r.pattern t b, outside L q (context_name r) r.pattern t b)
 
 pub context_is_joined : ContextIsJoined
 context_is_joined L r C s b leaves m =
-    join_with_name (context_name r) (one_term C) b (match-ascends m) (λ v i. context-unbound r leaves L s b v m i)
+    join_with_name (context_name r) (one_term C) b (match-ascends m)
+    (λ v i. context-unbound r leaves L s (visible b) v (record { whole = b; holds = m; seen = refl }) i)
+
+-- ---- what is seen of matches in a context
+
+-- what is seen of a join is the join of what is seen of both
+seen_join : {a b c : Binding} → IsJoin a b c → IsJoin (visible a) (visible b) (visible c)
+seen_join j = record { pairs = j.pairs; differs = no_sets_left [] (tt, tt) }
+
+-- what is seen of what the rule's pattern binds is without the name of the context
+seen_without : (L : Language) (r : Rule) (t : Tree) (b : Binding) → LeavesAName r → IsSeen (Match L r.pattern t) b → IsWithout (context_name r) b
+seen_without L r t b leaves m = record {
+  map = seen-ascends (λ c h. match-ascends h) m;
+  free = λ v i. context-unbound r leaves L t b v m i;
+}
+
+-- q splits t into a context and a part, and b is what is seen of what p binds there, joined with the name x for the context
+record SeenInside (L : Language) (q : Pattern) (x : List ℕ) (p : Pattern) (t : Tree) (b : Binding) : Type 0 where
+  context : Tree
+  part : Tree
+  forgotten : Binding
+  inner : Binding
+  split : Split L q t context part forgotten
+  matched : IsSeen (Match L p part) inner
+  joined : IsJoin (one_name x (one_term context)) inner b
+
+-- so is what is seen of a match in a named context
+seen_inside : (L : Language) (q : Pattern) (x : List ℕ) (p : Pattern) (t : Tree) (b : Binding) → IsSeen (Match L (in_hole (named x (closed q)) p) t) b
+    → SeenInside L q x p t b
+seen_inside L q x p t b s =
+    let m = inside L q x p t s.whole s.holds in
+    record {
+      context = m.context;
+      part = m.part;
+      forgotten = m.forgotten;
+      inner = visible m.inner;
+      split = m.split;
+      matched = record { whole = m.inner; holds = m.matched; seen = refl };
+      joined = subst (λ (c : Binding). IsJoin (one_name x (one_term m.context)) (visible m.inner) c) (sym s.seen) (seen_join m.joined);
+    }
+
+-- and where q splits t so and the rule's pattern matches the part, there is such a match
+seen_outside : (L : Language) (q : Pattern) (r : Rule) (t C s : Tree) (c b : Binding) → LeavesAName r → Split L q t C s c
+    → IsSeen (Match L r.pattern s) b
+    → (d : Binding) × IsJoin (one_name (context_name r) (one_term C)) b d × IsSeen (Match L (closed_rule q r).pattern t) d
+seen_outside L q r t C s c b leaves split m =
+    let j = context_is_joined L r C s m.whole leaves m.holds in
+    let h = outside L q (context_name r) r.pattern t j.0
+    (record { context = C; part = s; forgotten = c; inner = m.whole; split = split; matched = m.holds; joined = j.1 }) in (
+      visible j.0,
+      subst (λ (a : Binding). IsJoin (one_name (context_name r) (one_term C)) a (visible j.0)) (sym m.seen) (seen_join j.1),
+      record { whole = j.0; holds = h; seen = refl },
+    )
 
 -- ---- one name more
 
@@ -94,14 +148,14 @@ module _ (x : List ℕ) (v : Value) where
   -- two bindings that don't bind x have no join that does
   join_without : (b m d : Binding) → IsWithout x b → IsWithout x m → IsJoin b m d → IsWithout x d
   join_without b m d k l j =
-      record { map = j.map; free = λ w i. elim (j.sound (x, w) i) [ inl p ↦ k.free w p | inr q ↦ l.free w q ] }
+      record { map = join_ascends j; free = λ w i. elim (j.pairs.sound (x, w) i) [ inl p ↦ k.free w p | inr q ↦ l.free w q ] }
 
   -- the join of b with m and one name more is that of c with m
   join_wider : (b c m d : Binding) → IsWider x v b c → IsWithout x m → IsJoin b m d → (e : Binding) × IsWider x v d e × IsJoin c m e
   join_wider b c m d h k j =
       let less = join_without b m d h.less k j in
       let e = join_with_name x v d less.map less.free in
-      let f = joined_first (one_name x v) b m d e.0 (tt, tt) h.less.map j e.1 in (
+      let f = joined_first (one_name x v) b m d e.0 ((tt, tt), (tt, tt)) h.less.map j e.1 in (
         e.0,
         record { less = less; joined = e.1 },
         subst (λ (g : Binding). IsJoin g m e.0) (one_join (one_name x v) b f.0 c f.1 h.joined) f.2,
@@ -198,11 +252,9 @@ module _ (L : Language) (C : Calls) (F : Callable) (q : Pattern) (r : Rule) (w t
   step_inside : (u : Tree) → TakesStep L C w (closed_rule q r) t u → TakesStepInside L C w q r t u
   step_inside u h =
       let x : List ℕ = context_name r in
-      let m = inside L q x r.pattern t h.first h.matched in
-      let wider : IsWider x (one_term m.context) m.inner h.first = record {
-        less = record { map = match-ascends m.matched; free = λ v i. context-unbound r leaves L m.part m.inner v m.matched i };
-        joined = m.joined;
-      } in
+      let m = seen_inside L q x r.pattern t h.first h.matched in
+      let wider : IsWider x (one_term m.context) m.inner h.first =
+      record { less = seen_without L r m.part m.inner leaves m.matched; joined = m.joined } in
       let e =
       leads-alike (λ c b. IsWider x (one_term m.context) b c) (narrower_differs x (one_term m.context)) h.first m.inner h.last wider h.extended in
       let k = result_parts C h.last x r.result u h.made in
@@ -229,11 +281,8 @@ module _ (L : Language) (C : Calls) (F : Callable) (q : Pattern) (r : Rule) (w t
   step_outside u h =
       let x : List ℕ = context_name r in
       let b : Binding = h.taken.first in
-      let j = context_is_joined L r h.context h.part b leaves h.taken.matched in
-      let wider : IsWider x (one_term h.context) b j.0 = record {
-        less = record { map = match-ascends h.taken.matched; free = λ v i. context-unbound r leaves L h.part b v h.taken.matched i };
-        joined = j.1;
-      } in
+      let j = seen_outside L q r t h.context h.part h.forgotten b leaves h.split h.taken.matched in
+      let wider : IsWider x (one_term h.context) b j.0 = record { less = seen_without L r h.part b leaves h.taken.matched; joined = j.1 } in
       let e = leads-alike (IsWider x (one_term h.context)) (wider_differs x (one_term h.context)) b j.0 h.taken.last wider h.taken.extended in
       let made : Makes C e.0 r.result (value h.reduct) =
       subst (λ (R : Answer Tree → Type 0). R (value h.reduct)) (sym (makes-same (one_term h.context) h.taken.last e.0 e.2)) h.taken.made in
@@ -243,15 +292,7 @@ module _ (L : Language) (C : Calls) (F : Callable) (q : Pattern) (r : Rule) (w t
       record {
         first = j.0;
         last = e.0;
-        matched = outside L q x r.pattern t j.0 (record {
-          context = h.context;
-          part = h.part;
-          forgotten = h.forgotten;
-          inner = b;
-          split = h.split;
-          matched = h.taken.matched;
-          joined = j.1;
-        });
+        matched = j.2;
         extended = e.1;
         made = goes (ap value (sym (stands-for h.context h.taken.last e.0 e.2))) (goes made full);
       }
@@ -285,11 +326,9 @@ module _ (L : Language) (C : Calls) (F : Callable) (q : Pattern) (r : Rule) (w t
   fault_inside : (n : ℕ) (b : Binding) (f : Fault) → MeetsFault L C w t (closed_rule q r) n b f → MeetsFaultInside L C w q t r n b f
   fault_inside n b f h =
       let x : List ℕ = context_name r in
-      let m = inside L q x r.pattern t h.first h.matched in
-      let wider : IsWider x (one_term m.context) m.inner h.first = record {
-        less = record { map = match-ascends m.matched; free = λ v i. context-unbound r leaves L m.part m.inner v m.matched i };
-        joined = m.joined;
-      } in
+      let m = seen_inside L q x r.pattern t h.first h.matched in
+      let wider : IsWider x (one_term m.context) m.inner h.first =
+      record { less = seen_without L r m.part m.inner leaves m.matched; joined = m.joined } in
       let e = fails-alike (λ c d. IsWider x (one_term m.context) d c) (narrower_differs x (one_term m.context)) (λ c. Makes C c (closed_rule q r).result)
       (λ c. Then (Makes C c r.result) (IsFilled m.context)) f (fault-put m.context f) h.first m.inner b n wider h.fails in
       record {
@@ -308,57 +347,31 @@ module _ (L : Language) (C : Calls) (F : Callable) (q : Pattern) (r : Rule) (w t
   fault_outside : (n : ℕ) (b : Binding) (f : Fault) → MeetsFaultInside L C w q t r n b f → MeetsFault L C w t (closed_rule q r) n b f
   fault_outside n b f h =
       let x : List ℕ = context_name r in
-      let j = context_is_joined L r h.context h.part h.first leaves h.matched in
-      let wider : IsWider x (one_term h.context) h.first j.0 = record {
-        less = record { map = match-ascends h.matched; free = λ v i. context-unbound r leaves L h.part h.first v h.matched i };
-        joined = j.1;
-      } in
+      let j = seen_outside L q r t h.context h.part h.forgotten h.first leaves h.split h.matched in
+      let wider : IsWider x (one_term h.context) h.first j.0 = record { less = seen_without L r h.part h.first leaves h.matched; joined = j.1 } in
       let e = fails-alike (IsWider x (one_term h.context)) (wider_differs x (one_term h.context)) (λ c. Then (Makes C c r.result) (IsFilled h.context))
       (λ c. Makes C c (closed_rule q r).result) f (put-fault h.context f) h.first j.0 h.last n wider h.fails in
       let same : e.0 ≡ b = one_join (one_name x (one_term h.context)) h.last e.0 b e.2.joined h.joined in
       record {
         first = j.0;
-        matched = outside L q x r.pattern t j.0 (record {
-          context = h.context;
-          part = h.part;
-          forgotten = h.forgotten;
-          inner = h.first;
-          split = h.split;
-          matched = h.matched;
-          joined = j.1;
-        });
+        matched = j.2;
         fails = subst (λ (c : Binding). FailsAfter L C (λ d. Makes C d (closed_rule q r).result) (avoiding w) r.extras j.0 n c f) same e.1;
       }
 
-  -- where q splits each term with the hole, the closed rule meets the faults that the rule meets
-  fault_kept : IsEmpty L q → (n : ℕ) (b : Binding) (f : Fault) → MeetsFault L C w t r n b f
+  -- where q splits the term with nothing in the context, the closed rule meets the faults that the rule meets
+  fault_kept : SplitsWhole L q t → (n : ℕ) (b : Binding) (f : Fault) → MeetsFault L C w t r n b f
       → (c : Binding) × IsJoin (one_name (context_name r) (one_term the_hole)) b c × MeetsFault L C w t (closed_rule q r) n c f
-  fault_kept empty n b f h =
+  fault_kept whole n b f h =
       let x : List ℕ = context_name r in
-      let whole = empty_splits_all L q t empty in
       let part : whole.part ≡ t = (split-along whole.split).part in
-      let j = context_is_joined L r the_hole t h.first leaves h.matched in
-      let wider : IsWider x (one_term the_hole) h.first j.0 = record {
-        less = record { map = match-ascends h.matched; free = λ v i. context-unbound r leaves L t h.first v h.matched i };
-        joined = j.1;
-      } in
+      let matched : IsSeen (Match L r.pattern whole.part) h.first = subst (λ (u : Tree). IsSeen (Match L r.pattern u) h.first) (sym part) h.matched in
+      let j = seen_outside L q r t the_hole whole.part whole.binding h.first leaves whole.split matched in
+      let wider : IsWider x (one_term the_hole) h.first j.0 = record { less = seen_without L r t h.first leaves h.matched; joined = j.1 } in
       let e = fails-alike (IsWider x (one_term the_hole)) (wider_differs x (one_term the_hole)) (λ c. Makes C c r.result)
       (λ c. Makes C c (closed_rule q r).result) f (λ c d k m. put-fault the_hole f c d k (stops m)) h.first j.0 b n wider h.fails in (
         e.0,
         e.2.joined,
-        record {
-          first = j.0;
-          matched = outside L q x r.pattern t j.0 (record {
-            context = the_hole;
-            part = whole.part;
-            forgotten = whole.binding;
-            inner = h.first;
-            split = whole.split;
-            matched = subst (λ (u : Tree). Match L r.pattern u h.first) (sym part) h.matched;
-            joined = j.1;
-          });
-          fails = e.1;
-        },
+        record { first = j.0; matched = j.2; fails = e.1 },
       )
 
 pub steps_in_context : StepsInContext
@@ -370,11 +383,10 @@ faults_in_context L P n F q r w t k b f valid leaves =
     (fault_inside L (calls_at P n) F q r w t valid leaves k b f, fault_outside L (calls_at P n) F q r w t valid leaves k b f)
 
 pub keeps_own_faults : KeepsOwnFaults
-keeps_own_faults L P n F q r w t k b f valid leaves empty h = fault_kept L (calls_at P n) F q r w t valid leaves empty k b f h
+keeps_own_faults L P n F q r w t k b f valid leaves whole h = fault_kept L (calls_at P n) F q r w t valid leaves whole k b f h
 
 pub keeps_own_steps : KeepsOwnSteps
-keeps_own_steps L P n F q r w t u valid leaves empty small h =
-    let whole = empty_splits_all L q t empty in
+keeps_own_steps L P n F q r w t u valid leaves whole small h =
     let part : whole.part ≡ t = (split-along whole.split).part in
     step_outside L (calls_at P n) F q r w t valid leaves u (record {
       context = the_hole;

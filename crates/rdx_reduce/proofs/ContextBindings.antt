@@ -9,18 +9,19 @@ use Rattle.rdx_term.specs.Tree.{Tree}
 use Rattle.rdx_lang.specs.Bindings.{Value, Pair, Binding, one_name, value_at, HasAscendingNames}
 use Rattle.rdx_lang.specs.Closures.{rule_names, context_name}
 use Rattle.rdx_lang.specs.Depths.{Use, uses, item_uses, length_use}
-use Rattle.rdx_lang.specs.Join.{IsJoin}
+use Rattle.rdx_lang.specs.Join.{PairsAgree, IsJoin}
+use Rattle.rdx_lang.specs.Listing.{IsSeen}
 use Rattle.rdx_lang.specs.Members.{In, here, there}
 use Rattle.rdx_lang.specs.Names.{add_names, with_length_name, names, item_names}
-use Rattle.rdx_lang.specs.Patterns.{Pattern, wild, of_kind, except, prefix, hole, lit, nt, named, in_hole, hide_hole, closed, seq, Items, nil, one, many, Language}
+use Rattle.rdx_lang.specs.Patterns.{Pattern, wild, of_kind, except, prefix, hole, lit, nt, named, differ, in_hole, hide_hole, closed, seq, Items, nil, one, many, Language}
 use Rattle.rdx_lang.specs.Programs.{Rule}
 use Rattle.rdx_lang.specs.Rules.{Match}
 use Rattle.rdx_lang.specs.Scopes.{binds, bound_by, case_uses, extras_uses}
-use Rattle.rdx_lang.proofs.JoinLaws.{bound_names-member}
+use Rattle.rdx_lang.proofs.JoinLaws.{bound_names-member, join_ascends}
 use Rattle.rdx_lang.proofs.Joins.{join_exists}
 use Rattle.rdx_lang.proofs.MemberLaws.{in-append, append-left, append-right}
-use Rattle.rdx_lang.proofs.NameLaws.{match-names}
 use Rattle.rdx_lang.proofs.NameLists.{add_names-sound}
+use Rattle.rdx_lang.proofs.SeenListings.{seen-names}
 use Rattle.rdx_lang.proofs.Values.{value_at-exact}
 
 -- ---- names of patterns and of their uses
@@ -68,6 +69,7 @@ mutual
   names-used z n (nt x) h = elim h [ ]
   names-used z n (named x q) h =
       elim (add_names-sound (names q) (x ∷ []) z h) [ inl l ↦ there (names-used z n q l) | inr (here e) ↦ here e | inr (there i) ↦ elim i [ ] ]
+  names-used z n (differ x q) h = names-used z n q h
   names-used z n (in_hole q r) h = used_either z (names q) (names r) (uses n q) (uses n r) (names-used z n q) (names-used z n r) h
   names-used z n (hide_hole q) h = names-used z n q h
   names-used z n (closed q) h = elim h [ ]
@@ -112,38 +114,39 @@ module _ (r : Rule) (free : list_any (bytes_eq (context_name r)) (rule_names r) 
   context-free = none_of (context_name r) (rule_names r) free
 
   -- so the rule's pattern does not bind it
-  pub context-unbound : (L : Language) (t : Tree) (b : Binding) (v : Value) → Match L r.pattern t b → In (context_name r, v) b → ⊥
+  pub context-unbound : (L : Language) (t : Tree) (b : Binding) (v : Value) → IsSeen (Match L r.pattern t) b
+      → In (context_name r, v) b.pairs → ⊥
   context-unbound L t b v m i =
       let x : List ℕ = context_name r in
-      let k : In x (names r.pattern) = subst (λ (ys : List (List ℕ)). In x ys) (match-names m) (bound_names-member (x, v) b i) in
+      let k : In x (names r.pattern) = subst (λ (ys : List (List ℕ)). In x ys) (seen-names m) (bound_names-member (x, v) b i) in
       context-free (used_first x (uses 0 r.pattern) (extras_uses r.extras) (names-used x 0 r.pattern k))
 
 -- ---- one name more
 
 -- a name that a map doesn't bind has a join with it
-pub join_with_name : (x : List ℕ) (v : Value) (b : Binding) → HasAscendingNames b → ((w : Value) → In (x, w) b → ⊥)
+pub join_with_name : (x : List ℕ) (v : Value) (b : Binding) → HasAscendingNames b → ((w : Value) → In (x, w) b.pairs → ⊥)
     → (c : Binding) × IsJoin (one_name x v) b c
-join_with_name x v b a free = join_exists (one_name x v) b (tt, tt) a agree
+join_with_name x v b a free = join_exists (one_name x v) b ((tt, tt), (tt, tt)) a (record { pairs = agree; differs = λ u i k. elim i [ ] })
   where
-    agree : (y : List ℕ) (u w : Value) → In (y, u) (one_name x v) → In (y, w) b → u ≡ w
-    agree y u w (here e) i = absurd (free w (subst (λ (z : List ℕ). In (z, w) b) (ap (λ (p : Pair). p.0) e) i))
+    agree : PairsAgree ((x, v) ∷ []) b.pairs
+    agree y u w (here e) i = absurd (free w (subst (λ (z : List ℕ). In (z, w) b.pairs) (ap (λ (p : Pair). p.0) e) i))
     agree y u w (there h) i = elim h [ ]
 
 module _ (x : List ℕ) (v : Value) (b c : Binding) (a : HasAscendingNames b) (j : IsJoin (one_name x v) b c) where
   -- the name stands for its value
   pub joined_name : value_at c x ≡ Some v
-  joined_name = (value_at-exact c x v j.map).1 (j.left (x, v) (here refl))
+  joined_name = (value_at-exact c x v (join_ascends j)).1 (j.pairs.left (x, v) (here refl))
 
   -- another name stands for what it stood for
   pub other_name : (y : List ℕ) → (y ≡ x → ⊥) → value_at c y ≡ value_at b y
   other_name y n = by_values (value_at c y) (value_at b y) refl refl
     where
-      before : (w : Value) → In (y, w) c → In (y, w) (one_name x v) ⊎ In (y, w) b → value_at b y ≡ Some w
+      before : (w : Value) → In (y, w) c.pairs → In (y, w) (one_name x v).pairs ⊎ In (y, w) b.pairs → value_at b y ≡ Some w
       before w i (inl (here e)) = absurd (n (ap (λ (p : Pair). p.0) e))
       before w i (inl (there h)) = elim h [ ]
       before w i (inr k) = (value_at-exact b y w a).1 k
 
       by_values : (o q : Option Value) → value_at c y ≡ o → value_at b y ≡ q → value_at c y ≡ value_at b y
-      by_values (Some w) q e f = let i = (value_at-exact c y w j.map).0 e in e ∙ sym (before w i (j.sound (y, w) i))
+      by_values (Some w) q e f = let i = (value_at-exact c y w (join_ascends j)).0 e in e ∙ sym (before w i (j.pairs.sound (y, w) i))
       by_values None None e f = e ∙ sym f
-      by_values None (Some w) e f = let k = (value_at-exact c y w j.map).1 (j.right (y, w) ((value_at-exact b y w a).0 f)) in k ∙ sym f
+      by_values None (Some w) e f = let k = (value_at-exact c y w (join_ascends j)).1 (j.pairs.right (y, w) ((value_at-exact b y w a).0 f)) in k ∙ sym f

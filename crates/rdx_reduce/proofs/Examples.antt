@@ -4,7 +4,7 @@ use Rattle.rdx_term.specs.Bare.{bare}
 use Rattle.rdx_term.specs.Tree.{Tree}
 use Rattle.rdx_term.specs.Tree.{hole as the_hole}
 use Rattle.rdx_lang.specs.Ascending.{IsAscending}
-use Rattle.rdx_lang.specs.Bindings.{Binding}
+use Rattle.rdx_lang.specs.Bindings.{Binding, no_names, visible}
 use Rattle.rdx_lang.specs.Decompositions.{Decomposition}
 use Rattle.rdx_lang.specs.Examples.{int, binds, list_of_two, seq_of_two, first_marked, second_marked, split_into, E, E_1, Numbers, Contexts}
 use Rattle.rdx_lang.specs.Join.{IsJoin}
@@ -15,7 +15,7 @@ use Rattle.rdx_lang.specs.Patterns as pattern
 use Rattle.rdx_lang.specs.Patterns.{Pattern, Language, hole, nt, in_hole}
 use Rattle.rdx_lang.specs.Programs.{Extra, such_as, Rule}
 use Rattle.rdx_lang.specs.RepetitionExamples.{any_1}
-use Rattle.rdx_lang.specs.Rules.{Match, match_kind, match_lit, match_hole, match_named, match_in_hole, match_seq, match_none, match_one, split_named}
+use Rattle.rdx_lang.specs.Rules.{Match, match_kind, match_lit, match_hole, match_named, match_in_hole, match_seq, match_none, match_one, Split, split_named}
 use Rattle.rdx_lang.specs.Templates.{Template, lit, var, fill}
 use Rattle.rdx_lang.proofs.Collecting.{only}
 use Rattle.rdx_lang.proofs.Examples.{listed, one_alone, no_member, named_kind_binds, at_either_hole}
@@ -23,6 +23,7 @@ use Rattle.rdx_lang.proofs.JoinLaws.{unit_left, unit_right, unit_left-only, unit
 use Rattle.rdx_lang.proofs.NameLaws.{match-ascends, split-ascends}
 use Rattle.rdx_lang.proofs.RepetitionExamples.{each_division}
 use Rattle.rdx_lang.proofs.RuleSteps.{lit_inside, hole_inside, in_hole_inside, nt_splits, named_splits}
+use Rattle.rdx_lang.proofs.SeenListings.{matches_listed}
 use Rattle.rdx_eval.specs.Answers.{value, stops, goes, Gather, Single, Lists, lists}
 use Rattle.rdx_eval.specs.Calls.{Calls}
 use Rattle.rdx_eval.specs.Extending.{By, matched, joins_none}
@@ -43,20 +44,20 @@ one_bound = binds (codes "any_1") (int 1)
 
 -- `any_1` matches 1
 one_matches : Matches Numbers any_1 (int 1) (one_bound ∷ [])
-one_matches = one_alone one_bound (match_named (match_kind refl) (unit_left one_bound (tt, tt))) (λ b h. named_kind_binds h)
+one_matches = matches_listed (refl, tt) (one_alone one_bound (match_named (match_kind refl) (unit_left one_bound ((tt, tt), (tt, tt)))) (λ b h. named_kind_binds h))
 
 -- what `(x any_1)` binds at `(x 1)`
 pair_binds : {b : Binding} → Match Numbers (seq_of_two (pattern.lit x) any_1) (list_of_two x (int 1)) b → b ≡ one_bound
 pair_binds (match_seq {b = b} (match_one (match_lit e) (match_one {b = c} h match_none k) j)) =
     let d : c ≡ one_bound = unit_right-only (match-ascends h) k ∙ named_kind_binds h in
-    unit_left-only (tt, tt) (subst (λ (s : Binding). IsJoin [] s b) d j)
+    unit_left-only ((tt, tt), (tt, tt)) (subst (λ (s : Binding). IsJoin no_names s b) d j)
 
 -- `(x any_1)` matches `(x 1)`
 pair_matches : Matches Numbers (seq_of_two (pattern.lit x) any_1) (list_of_two x (int 1)) (one_bound ∷ [])
 pair_matches =
-    one_alone one_bound
-    (match_seq (match_one (match_lit refl) (match_one (match_named (match_kind refl) (unit_left one_bound (tt, tt))) match_none (unit_right one_bound (tt, tt)))
-    (unit_left one_bound (tt, tt)))) (λ b h. pair_binds h)
+    matches_listed (refl, tt) (one_alone one_bound
+    (match_seq (match_one (match_lit refl) (match_one (match_named (match_kind refl) (unit_left one_bound ((tt, tt), (tt, tt)))) match_none
+    (unit_right one_bound ((tt, tt), (tt, tt)))) (unit_left one_bound ((tt, tt), (tt, tt))))) (λ b h. pair_binds h))
 
 -- ---- steps by a rule
 
@@ -122,14 +123,15 @@ rules_in_order P n =
 -- what E splits `(hole hole)` into
 abbrev e_splits : List Decomposition
 e_splits =
-    split_into the_hole (list_of_two the_hole the_hole) [] ∷ split_into first_marked the_hole [] ∷ split_into second_marked the_hole [] ∷ []
+    split_into the_hole (list_of_two the_hole the_hole) no_names ∷ split_into first_marked the_hole no_names
+    ∷ split_into second_marked the_hole no_names ∷ []
 
 -- what `(in-hole E_1 hole)` binds at `(hole hole)`
 at_holes : (d : Decomposition) {b : Binding} → SplitsInto Contexts (nt E) (list_of_two the_hole the_hole) d → Match Contexts hole d.part b
     → (binds (codes "E_1") d.context ≡ binds (codes "E_1") first_marked) ⊎ (binds (codes "E_1") d.context ≡ binds (codes "E_1") second_marked)
-at_holes d {b} h g = by_place (at_either_hole.complete d h)
+at_holes d {b} h g = by_place (at_either_hole.complete (split_into d.context d.part (visible d.binding)) (record { whole = d.binding; holds = h; seen = refl }))
   where
-    by_place : In d e_splits
+    by_place : In (split_into d.context d.part (visible d.binding)) e_splits
         → (binds (codes "E_1") d.context ≡ binds (codes "E_1") first_marked) ⊎ (binds (codes "E_1") d.context ≡ binds (codes "E_1") second_marked)
     by_place (here e) =
         let k : d.part ≡ list_of_two the_hole the_hole = ap (λ (c : Decomposition). c.part) e in
@@ -142,25 +144,28 @@ at_holes d {b} h g = by_place (at_either_hole.complete d h)
 holes_match :
     Matches Contexts (in_hole E_1 hole) (list_of_two the_hole the_hole) (binds (codes "E_1") first_marked ∷ binds (codes "E_1") second_marked ∷ [])
 holes_match =
-    listed members ((refl, tt), (tt, tt)) (at_hole first_marked (there (here refl)), (at_hole second_marked (there (there (here refl))), tt)) only
+    matches_listed (refl, (refl, tt))
+    (listed members ((refl, tt), (tt, tt)) (at_hole first_marked (there (here refl)), (at_hole second_marked (there (there (here refl))), tt)) only)
   where
     members : List Binding
     members = binds (codes "E_1") first_marked ∷ binds (codes "E_1") second_marked ∷ []
 
-    at_hole : (C : Tree) → In (split_into C the_hole []) e_splits
+    at_hole : (C : Tree) → In (split_into C the_hole no_names) e_splits
         → Match Contexts (in_hole E_1 hole) (list_of_two the_hole the_hole) (binds (codes "E_1") C)
     at_hole C i =
-        match_in_hole (split_named (at_either_hole.sound (split_into C the_hole []) i) (unit_left (binds (codes "E_1") C) (tt, tt))) match_hole
-        (unit_right (binds (codes "E_1") C) (tt, tt))
+        let s = at_either_hole.sound (split_into C the_hole no_names) i in
+        let h : Split Contexts (nt E) (list_of_two the_hole the_hole) C the_hole no_names =
+        subst (λ (c : Binding). Split Contexts (nt E) (list_of_two the_hole the_hole) C the_hole c) (nt_splits s.holds).1 s.holds in
+        match_in_hole (split_named h (unit_left (binds (codes "E_1") C) ((tt, tt), (tt, tt)))) match_hole (unit_right (binds (codes "E_1") C) ((tt, tt), (tt, tt)))
 
     only : (b : Binding) → Match Contexts (in_hole E_1 hole) (list_of_two the_hole the_hole) b → In b members
     only b h =
         let k = in_hole_inside h in
         let n = named_splits k.split in
         let d : Decomposition = split_into k.context k.part n.inside in
-        let none : n.inside ≡ [] = (nt_splits n.split).1 in
+        let none : n.inside ≡ no_names = (nt_splits n.split).1 in
         let named : k.outer ≡ binds (codes "E_1") k.context =
-        unit_left-only (tt, tt) (subst (λ (c : Binding). IsJoin c (binds (codes "E_1") k.context) k.outer) none n.joined) in
+        unit_left-only ((tt, tt), (tt, tt)) (subst (λ (c : Binding). IsJoin c (binds (codes "E_1") k.context) k.outer) none n.joined) in
         let e : b ≡ binds (codes "E_1") k.context =
         unit_right-only (split-ascends k.split) (subst (λ (c : Binding). IsJoin k.outer c b) (hole_inside k.matched).1 k.joined) ∙ named in
         elim (at_holes d n.split k.matched) [ inl l ↦ here (e ∙ l) | inr r ↦ there (here (e ∙ r)) ]
@@ -195,7 +200,8 @@ bound_to n = binds (codes "any_1") (int n)
 
 -- `any_1` matches it
 any_matches : (n : ℕ) → Matches Numbers any_1 (int n) (bound_to n ∷ [])
-any_matches n = one_alone (bound_to n) (match_named (match_kind refl) (unit_left (bound_to n) (tt, tt))) (λ b h. named_kind_binds h)
+any_matches n =
+    matches_listed (refl, tt) (one_alone (bound_to n) (match_named (match_kind refl) (unit_left (bound_to n) ((tt, tt), (tt, tt)))) (λ b h. named_kind_binds h))
 
 pub condition_holds : ConditionHolds
 condition_holds P n =
@@ -222,4 +228,4 @@ pub where_fails : WhereFails
 where_fails P n =
     of_one Numbers (calls_at P n) (int 1) where_two [] tt
     (after_extra (calls_at P n) (int 1) 0 any_1 (fill (template_any_1 0) (lit (int 1))) (such_as (pattern.lit (int 2)) (template_any_1 0))
-    (bound_to 1) [] [] (any_matches 1) (goes refl (matched (no_member (λ b h. other_number h)) joins_none)) tt refl)
+    (bound_to 1) [] [] (any_matches 1) (goes refl (matched (matches_listed tt (no_member (λ b h. other_number h))) joins_none)) tt refl)

@@ -8,7 +8,7 @@ use Rattle.std.specs.declared.cmp.Ordering.TheVariants.{Less, Equal, Greater}
 use Rattle.rdx_term.specs.Tree.{Tree}
 use Rattle.rdx_lang.specs.Ascending.{IsBelow, IsAscending}
 use Rattle.rdx_lang.specs.Bindings.{Binding}
-use Rattle.rdx_lang.specs.Listing.{IsListing}
+use Rattle.rdx_lang.specs.Listing.{IsListing, IsSeen}
 use Rattle.rdx_lang.specs.Members.{In, here, there}
 use Rattle.rdx_lang.specs.Model.TotalOrders.{binding_cmp-total}
 use Rattle.rdx_lang.specs.Order.{binding_cmp}
@@ -249,7 +249,7 @@ module _ (L : Language) (C : Calls) (calls : (f : List ℕ) (a : Tree) → Once 
       first_extra : (n : ℕ) (b : Binding) (g : Fault) → n < extras → MeetsFault L C t t r n b g → ⊥
       first_binding : (b : Binding) (g : Fault) → binding_cmp b binding ≡ Less → MeetsFault L C t t r extras b g → ⊥
 
-    run-rule : (i : ℕ) (r : Rule) (bs : List Binding) (f : Fault) → IsListing binding_cmp bs (Match L r.pattern t)
+    run-rule : (i : ℕ) (r : Rule) (bs : List Binding) (f : Fault) → IsListing binding_cmp bs (IsSeen (Match L r.pattern t))
         → RunFails i r (avoiding t) r.extras bs f → RuleFails r f
     run-rule i r bs f l k = record {
       extras = k.extras;

@@ -3,7 +3,7 @@ use Rattle.std.proofs.Common.{◌≡◌, ℕ, zero, suc, ◌+◌, List, [], ◌�
 use Rattle.std.specs.declared.cmp.Ordering.{Ordering}
 use Rattle.rdx_term.specs.Tree.{Tree}
 use Rattle.rdx_lang.specs.Bindings.{Binding}
-use Rattle.rdx_lang.specs.Listing.{IsListing}
+use Rattle.rdx_lang.specs.Listing.{IsListing, IsSeen}
 use Rattle.rdx_lang.specs.Members.{In, here}
 use Rattle.rdx_lang.specs.Model.TotalOrders.{binding_cmp-total}
 use Rattle.rdx_lang.specs.Order.{binding_cmp}
@@ -110,8 +110,8 @@ module _ (L : Language) (C : Calls) (calls : (f : List ℕ) (a : Tree) → Once 
         → TakesStep L C t r t s.reduct × (s.rule ≡ i)
     rule-sound i r ss s h k =
         let l = reached (Survivors L C t r.pattern r.extras) (Gather (λ b. Single (StepBy C i r b))) ss h in
-        let m = reached (Lists binding_cmp (Match L r.pattern t)) (Extend L C (avoiding t) r.extras) l.between l.before in
-        let listing = listing_in binding_cmp (Match L r.pattern t) m.between m.before in
+        let m = reached (Lists binding_cmp (IsSeen (Match L r.pattern t))) (Extend L C (avoiding t) r.extras) l.between l.before in
+        let listing = listing_in binding_cmp (IsSeen (Match L r.pattern t)) m.between m.before in
         let g = gathered-sound (λ b. Single (StepBy C i r b)) l.between ss s l.behind k in
         let o = one_step_in i r g.from s g.given g.gives g.one in
         let e = extended-sound (avoiding t) r.extras m.between l.between g.from m.behind g.among in
@@ -122,8 +122,8 @@ module _ (L : Language) (C : Calls) (calls : (f : List ℕ) (a : Tree) → Once 
         → In (record { rule = i; reduct = u }) ss
     rule-complete i r ss u h k =
         let l = reached (Survivors L C t r.pattern r.extras) (Gather (λ b. Single (StepBy C i r b))) ss h in
-        let m = reached (Lists binding_cmp (Match L r.pattern t)) (Extend L C (avoiding t) r.extras) l.between l.before in
-        let listing = listing_in binding_cmp (Match L r.pattern t) m.between m.before in
+        let m = reached (Lists binding_cmp (IsSeen (Match L r.pattern t))) (Extend L C (avoiding t) r.extras) l.between l.before in
+        let listing = listing_in binding_cmp (IsSeen (Match L r.pattern t)) m.between m.before in
         let e = extended-complete (avoiding t) r.extras m.between l.between k.first k.last m.behind (listing.complete k.first k.matched) k.extended in
         let g = gathered-complete (λ b. Single (StepBy C i r b)) l.between ss k.last l.behind e in
         g.gathered (record { rule = i; reduct = u }) (step_there i r k.last u g.given g.gives k.made)

@@ -9,9 +9,9 @@ use Rattle.rdx_term.specs.Tree.{Tree, hole}
 use Rattle.rdx_lang.specs.Bindings.{Binding, one_name}
 use Rattle.rdx_lang.specs.Bindings.{one as one_term}
 use Rattle.rdx_lang.specs.Closures.{rule_names, context_name, closed_rule, context_closure}
-use Rattle.rdx_lang.specs.Empty.{IsEmpty}
 use Rattle.rdx_lang.specs.Join.{IsJoin}
-use Rattle.rdx_lang.specs.Listing.{IsListing}
+use Rattle.rdx_lang.specs.Laws.{SplitsWhole}
+use Rattle.rdx_lang.specs.Listing.{IsListing, IsSeen}
 use Rattle.rdx_lang.specs.Members.{In}
 use Rattle.rdx_lang.specs.Modes.{Callable}
 use Rattle.rdx_lang.specs.Patterns.{Pattern, Language}
@@ -81,12 +81,12 @@ StepsInContext =
     (L : Language) (P : Program) (n : ℕ) (F : Callable) (q : Pattern) (r : Rule) (w t u : Tree) → IsTrue (is_valid_rule F L r) → LeavesAName r
     → (TakesStep L (calls_at P n) w (closed_rule q r) t u ↔ TakesStepInside L (calls_at P n) w q r t u)
 
--- so a closing pattern that is Empty, as a nonterminal with `hole` as an alternative is, leaves to a valid rule its own steps, where they lead to
--- terms within the limits
+-- so a closing pattern that splits the term with nothing in the context, as a nonterminal with `hole` as an alternative does, leaves to a valid rule
+-- its own steps, where they lead to terms within the limits
 abbrev pub KeepsOwnSteps : Type 0
 KeepsOwnSteps =
     (L : Language) (P : Program) (n : ℕ) (F : Callable) (q : Pattern) (r : Rule) (w t u : Tree) → IsTrue (is_valid_rule F L r) → LeavesAName r
-    → IsEmpty L q → KeepsLimits u → TakesStep L (calls_at P n) w r t u → TakesStep L (calls_at P n) w (closed_rule q r) t u
+    → SplitsWhole L q t → KeepsLimits u → TakesStep L (calls_at P n) w r t u → TakesStep L (calls_at P n) w (closed_rule q r) t u
 
 -- the rule at the step's place, of these rules, takes the step from t inside of a context
 pub record IsTakenInside (L : Language) (C : Calls) (q : Pattern) (t : Tree) (rs : List Rule) (s : Step) : Type 0 where
@@ -112,7 +112,7 @@ pub record MeetsFaultInside (L : Language) (C : Calls) (w : Tree) (q : Pattern) 
   pub first : Binding
   pub last : Binding
   pub split : Split L q t context part forgotten
-  pub matched : Match L r.pattern part first
+  pub matched : IsSeen (Match L r.pattern part) first
   pub fails : FailsAfter L C (λ c. Then (Makes C c r.result) (IsFilled context)) (avoiding w) r.extras first n last f
   pub joined : IsJoin (one_name (context_name r) (one_term context)) last b
 
@@ -123,11 +123,11 @@ FaultsInContext =
     → IsTrue (is_valid_rule F L r) → LeavesAName r
     → (MeetsFault L (calls_at P n) w t (closed_rule q r) k b f ↔ MeetsFaultInside L (calls_at P n) w q t r k b f)
 
--- so a closing pattern that is Empty leaves to a valid rule its own faults, too, behind as many of its extras; the context is the hole
+-- so such a closing pattern leaves to a valid rule its own faults, too, behind as many of its extras; the context is the hole
 abbrev pub KeepsOwnFaults : Type 0
 KeepsOwnFaults =
     (L : Language) (P : Program) (n : ℕ) (F : Callable) (q : Pattern) (r : Rule) (w t : Tree) (k : ℕ) (b : Binding) (f : Fault)
-    → IsTrue (is_valid_rule F L r) → LeavesAName r → IsEmpty L q → MeetsFault L (calls_at P n) w t r k b f
+    → IsTrue (is_valid_rule F L r) → LeavesAName r → SplitsWhole L q t → MeetsFault L (calls_at P n) w t r k b f
     → (c : Binding) × IsJoin (one_name (context_name r) (one_term hole)) b c × MeetsFault L (calls_at P n) w t (closed_rule q r) k c f
 
 -- whatever the steps of a closure of a relation with valid rules are answered, it is a fault exactly where this is the first that its rules meet

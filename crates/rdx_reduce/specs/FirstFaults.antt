@@ -4,6 +4,7 @@ use Rattle.std.specs.Prelude.{◌≡◌, ◌↔◌, ◌<◌, ℕ, suc, List, [],
 use Rattle.std.specs.declared.cmp.Ordering.TheVariants.{Less}
 use Rattle.rdx_term.specs.Tree.{Tree}
 use Rattle.rdx_lang.specs.Bindings.{Binding}
+use Rattle.rdx_lang.specs.Listing.{IsSeen}
 use Rattle.rdx_lang.specs.Members.{In}
 use Rattle.rdx_lang.specs.Order.{binding_cmp}
 use Rattle.rdx_lang.specs.Patterns.{Language}
@@ -29,7 +30,7 @@ pub data FailsAfter (L : Language) (C : Calls) (R : Binding → Answer Tree → 
 -- avoid, is w.
 pub record MeetsFault (L : Language) (C : Calls) (w t : Tree) (r : Rule) (n : ℕ) (b : Binding) (f : Fault) : Type 0 where
   pub first : Binding
-  pub matched : Match L r.pattern t first
+  pub matched : IsSeen (Match L r.pattern t) first
   pub fails : FailsAfter L C (λ c. Makes C c r.result) (avoiding w) r.extras first n b f
 
 -- Of all the faults that these rules meet, where M says behind how many of its extras a rule meets one and with which binding, f is the first: by

@@ -3,7 +3,7 @@
 use Rattle.std.specs.Prelude.{◌≡◌, ℕ, List, [], ◌∷◌, Some, slice_get}
 use Rattle.rdx_term.specs.Tree.{Tree}
 use Rattle.rdx_lang.specs.Bindings.{Binding}
-use Rattle.rdx_lang.specs.Listing.{IsListing}
+use Rattle.rdx_lang.specs.Listing.{IsListing, IsSeen}
 use Rattle.rdx_lang.specs.Members.{In}
 use Rattle.rdx_lang.specs.Patterns.{Language}
 use Rattle.rdx_lang.specs.Programs.{Extra, Program, Rule}
@@ -23,12 +23,12 @@ pub data LeadTo (L : Language) (C : Calls) : Avoided → List Extra → Binding 
   one_extra : {a : Avoided} {e : Extra} {es : List Extra} {b c d : Binding} {bs : List Binding} →
       By L C a e b (value bs) → In c bs → LeadTo L C (behind a e) es c d → LeadTo L C a (e ∷ es) b d
 
--- The rule takes a step from t to u: its pattern matches t by a binding, its extras lead from this to another, and of that the result makes u. The
--- whole term, whose symbols fresh names avoid, is w.
+-- The rule takes a step from t to u: its pattern matches t by a binding, its extras lead from what is seen of this to another, and of that the
+-- result makes u. The whole term, whose symbols fresh names avoid, is w.
 pub record TakesStep (L : Language) (C : Calls) (w : Tree) (r : Rule) (t u : Tree) : Type 0 where
   pub first : Binding
   pub last : Binding
-  pub matched : Match L r.pattern t first
+  pub matched : IsSeen (Match L r.pattern t) first
   pub extended : LeadTo L C (avoiding w) r.extras first last
   pub made : Makes C last r.result (value u)
 

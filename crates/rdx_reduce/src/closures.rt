@@ -33,6 +33,7 @@ fn are_few_contexts(pattern: &Pat, most: usize) -> bool {
         | Pat::Lit(_)
         | Pat::Nt(_)
         | Pat::Named(_, _)
+        | Pat::Differ(_, _)
         | Pat::HideHole(_)
         | Pat::Closed(_)
         | Pat::Seq(_) => true,

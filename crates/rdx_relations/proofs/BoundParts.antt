@@ -5,13 +5,13 @@ use Rattle.std.specs.Prelude.{Option, Some, None, flat_map}
 use Rattle.rdx_sexp.specs.Sexp.{Sexp, leaf, list, integer, truth, text, symbol, keyword, sexps}
 use Rattle.rdx_term.specs.Spelling.{is_name}
 use Rattle.rdx_patterns.specs.Occurrences.{Occurrence, occurrences}
-use Rattle.rdx_patterns.specs.Names.{is_bad_name}
+use Rattle.rdx_patterns.specs.Names.{is_bad_name, is_bad_bound}
 use Rattle.rdx_patterns.specs.Parts.{text_of, is_symbol}
 use Rattle.rdx_patterns.specs.Readable.{IsReadable}
 use Rattle.rdx_patterns.specs.PatternChecks.{Bound, bad_binder, bad_binders}
 use Rattle.rdx_patterns.specs.declared.patterns.position.Position.TheVariants.{Query}
 use Rattle.rdx_patterns.proofs.Firsts.{none_both, none_first}
-use Rattle.rdx_patterns.proofs.SpelledNames.{name-spelled, language-not_hole}
+use Rattle.rdx_patterns.proofs.SpelledNames.{name-spelled, bound-not_bad, language-not_hole}
 use Rattle.rdx_patterns.proofs.PassedPatterns.{AreWritten, AreBoundNames, pattern-written, items-written, bound-are-names}
 use Rattle.rdx_parts.specs.Arguments.{Arguments, is_misfit, data_at, data_by, patterns_in}
 use Rattle.rdx_parts.specs.ExtraForms.{ExtraForm, such_that, provided, confirmed, holding, freshly, name, no_extra, ExtraPlace, form_at}
@@ -33,7 +33,7 @@ bind-names : (bs : List Bound) → AreBoundNames 4294967296 bs → BindNames bs
 bind-names [] h = tt
 bind-names (b ∷ bs) h = (h.0, bind-names bs h.1)
 
--- a symbol that may be bound is a name
+-- a symbol by which something may be defined is a name
 pub symbol-name : (d : Sexp) → is_symbol d ≡ true → IsReadable d → is_bad_name (text_of d) ≡ false → IsTrue (is_name (text_of d))
 symbol-name (leaf (integer n) s) h r e = absurd cc
 symbol-name (leaf (truth b) s) h r e = absurd cc
@@ -116,8 +116,8 @@ module _ (S : Scope) (T R : Takes → Type 0) (binds : (w : Takes) → T w → b
   fresh-named : (ds : List Sexp) → bad_names (bare.fresh_stands ds) ≡ [] → AreReadableSymbols ds → AreNames ds
   fresh-named [] e h = tt
   fresh-named (d ∷ ds) e h =
-      let k = none_first (is_bad_name (text_of d)) d (bad_names (bare.fresh_stands ds)) e in
-      (symbol-name d h.0.0 h.0.1 k.0, fresh-named ds k.1 h.1)
+      let k = none_first (is_bad_bound (text_of d)) d (bad_names (bare.fresh_stands ds)) e in
+      (symbol-name d h.0.0 h.0.1 (bound-not_bad (text_of d) k.0), fresh-named ds k.1 h.1)
 
   -- an extra
   extra-binds : (again : Bool) (d : Sexp) (e : ExtraForm) → bad_names (bare.extra_stands S again d e) ≡ [] → ExtraHas S (wanted T) e → ExtraHas S (bound R) e

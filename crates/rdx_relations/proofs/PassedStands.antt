@@ -11,7 +11,7 @@ use Rattle.rdx_lang.specs.Depths.{Use}
 use Rattle.rdx_lang.specs.Fitting.{fits, fits_in}
 use Rattle.rdx_lang.specs.Programs.{Mode}
 use Rattle.rdx_lang.specs.Scopes.{bound_by}
-use Rattle.rdx_patterns.specs.Names.{begins_with_dots, is_bad_name}
+use Rattle.rdx_patterns.specs.Names.{begins_with_dots, is_bad_name, is_bad_bound}
 use Rattle.rdx_patterns.specs.Occurrences.{Occurrence, occurrences}
 use Rattle.rdx_patterns.specs.Parts.{text_of}
 use Rattle.rdx_patterns.specs.PatternChecks as patterns
@@ -20,6 +20,7 @@ use Rattle.rdx_patterns.specs.declared.patterns.position.Position.TheVariants.{Q
 use Rattle.rdx_patterns.proofs.Booleans.{and_true, and_both, or_true}
 use Rattle.rdx_patterns.proofs.DepthsRead.{bound_use}
 use Rattle.rdx_patterns.proofs.Firsts.{none_both, none_first}
+use Rattle.rdx_patterns.proofs.SpelledNames.{bound-not_bad}
 use Rattle.rdx_templates.specs.Bound.{Bound, is_bound}
 use Rattle.rdx_templates.specs.Scope.{Scope, has_metafunction, mode_of}
 use Rattle.rdx_templates.specs.TemplateChecks.{bad_parts, shallow_parts, undriven_parts}
@@ -202,8 +203,8 @@ module _ (S : Scope) (ns : List (List ℕ)) where
       → ((list_any (is_bound_as d) bs ≡ false) × (is_bad_name (text_of d) ≡ false)) × ArePassed S ns ss
   fresh-first bs d ss h =
       let f = none_first (list_any (is_bound_as d) bs) d (bound_places ss) h.made in
-      let a = none_first (is_bad_name (text_of d)) d (bad_names ss) h.names in (
-        (f.0, a.0),
+      let a = none_first (is_bad_bound (text_of d)) d (bad_names ss) h.names in (
+        (f.0, bound-not_bad (text_of d) a.0),
         record { shapes = h.shapes; made = f.1; names = a.1; places = h.places; depths = h.depths; known = h.known; driving = h.driving; modes = h.modes },
       )
 

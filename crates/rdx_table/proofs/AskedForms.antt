@@ -4,23 +4,25 @@ use Rattle.std.proofs.Common.{arith}
 use Rattle.rdx_term.specs.AtPaths.{tree_at}
 use Rattle.rdx_term.specs.Tree.{Tree}
 use Rattle.rdx_lang.proofs.Collecting.{In_along, no_member, only, listing_of_all}
-use Rattle.rdx_lang.proofs.RuleSteps.{nt_inside, named_inside, hide_hole_inside, closed_inside, hide_hole_splits}
+use Rattle.rdx_lang.proofs.RuleSteps.{nt_inside, hide_hole_inside, closed_inside, hide_hole_splits}
 use Rattle.rdx_lang.specs.Bindings.{Binding, no_names}
 use Rattle.rdx_lang.specs.Collecting.{Arises, Adds, HasExactly}
 use Rattle.rdx_lang.specs.Listing.{IsListing}
 use Rattle.rdx_lang.specs.Members.{In, here}
 use Rattle.rdx_lang.specs.Order.{binding_cmp}
-use Rattle.rdx_lang.specs.Patterns.{Pattern, nt, named, in_hole, hide_hole, closed, Language}
-use Rattle.rdx_lang.specs.Rules.{Match, AreAlternatives, match_nt, match_named, match_hide_hole, match_closed}
+use Rattle.rdx_lang.specs.Patterns.{Pattern, nt, in_hole, hide_hole, closed, Language}
+use Rattle.rdx_lang.specs.Rules.{Match, AreAlternatives, match_nt, match_hide_hole, match_closed}
 use Rattle.rdx_lang.specs.declared.pattern.Ref.{Ref}
 use Rattle.rdx_bind.specs.Columns.{HasAsked, has_matches, has_splits}
 use Rattle.rdx_bind.specs.Combining.{JoinsWith, Named}
+use Rattle.rdx_bind.specs.Namings.{Naming, under}
 use Rattle.rdx_bind.specs.Rows.{SplitRow, split_row_of}
 use Rattle.rdx_bind.specs.Searching.{AnyMatches, AnySplits}
 use Rattle.rdx_bind.specs.Spots.{Spot, SplitsAt}
 use Rattle.rdx_bind.specs.Splitting.{NamesContext, GoesOn}
 use Rattle.rdx_bind.specs.declared.rows.Row.{Row}
 use Rattle.rdx_bind.proofs.Gathering.{exactly_as, exactly_added, exactly_listed, exactly_none, adds_as}
+use Rattle.rdx_bind.proofs.Namings.{match_under, under_inside}
 use Rattle.rdx_bind.proofs.SplitRules.{MatchesOn, SplitsOn, exactly_nt, exactly_closed, exactly_named, exactly_in_hole, listing_in_hole}
 use Rattle.rdx_nodes.specs.Asked.{asked_where}
 use Rattle.rdx_nodes.specs.Nodes.{pattern_at, DoAsWell, AreBelow}
@@ -148,19 +150,19 @@ module _ {L : Language} {t : Tree} where
       (exactly_none (WhereAsked splits (SplitsAt L (hide_hole q) t)) e (λ s k. hide_hole_splits k.1.split))
 
   -- a pattern with a name binds what its part binds, and the name
-  bound_named : {x : List ℕ} {q : Pattern} {bs : List Binding} (cs : List Binding) → HasExactly cs (Match L q t)
-      → HasExactly bs (Named cs x t) → HasExactly bs (Match L (named x q) t)
-  bound_named cs h = exactly_as
-      (λ b a. match_named (h.sound a.from a.among) a.by)
-      (λ b m. let i = named_inside m in record { from = i.inside; among = h.complete i.inside i.matched; by = i.joined })
+  bound_named : (n : Naming) {q : Pattern} {bs : List Binding} (cs : List Binding) → HasExactly cs (Match L q t)
+      → HasExactly bs (Named cs n t) → HasExactly bs (Match L (under n q) t)
+  bound_named n cs h = exactly_as
+      (λ b a. match_under n (h.sound a.from a.among) a.by)
+      (λ b m. let i = under_inside n m in record { from = i.inside; among = h.complete i.inside i.matched; by = i.joined })
 
   -- a pattern with a name has what its part has, with the name
-  pub asked_named : {x : List ℕ} {q : Pattern} {row : SplitRow} (splits : Bool) (part : SplitRow) → HasOf L q t splits part
-      → HasExactly row.matches (Named part.matches x t) → HasExactly row.spots (Arises (NamesContext x t) part.spots)
-      → HasOf L (named x q) t splits row
-  asked_named true part (has_splits m s) n k = has_splits (bound_named part.matches m n) (exactly_named part.spots s k)
-  asked_named {row = row} false part (has_matches m e) n k =
-      has_matches (bound_named part.matches m n) (nothing_of row.spots k (λ r a. no_member (In_along part.spots [] e a.among)))
+  pub asked_named : (n : Naming) {q : Pattern} {row : SplitRow} (splits : Bool) (part : SplitRow) → HasOf L q t splits part
+      → HasExactly row.matches (Named part.matches n t) → HasExactly row.spots (Arises (NamesContext n t) part.spots)
+      → HasOf L (under n q) t splits row
+  asked_named n true part (has_splits m s) h k = has_splits (bound_named n part.matches m h) (exactly_named n part.spots s k)
+  asked_named n {row = row} false part (has_matches m e) h k =
+      has_matches (bound_named n part.matches m h) (nothing_of row.spots k (λ r a. no_member (In_along part.spots [] e a.among)))
 
   -- ---- a pattern in the hole of another
 

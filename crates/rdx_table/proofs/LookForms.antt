@@ -2,6 +2,7 @@
 use Rattle.std.proofs.Common.{◌≡◌, ℕ, ◌<◌, ◌≤◌, List, [], length, get_or, refl, sym, ◌∙◌, ap, subst, arith, append-nil, ◌∷◌}
 use Rattle.rdx_lang.specs.Patterns.{Pattern, Language, seq}
 use Rattle.rdx_lang.specs.PatternView.{Slot, just, repeated, items_of}
+use Rattle.rdx_bind.specs.Namings.{Naming, binds, differs, naming_of, under}
 use Rattle.rdx_nodes.specs.Nodes.{slots_at, pattern_at, pattern_by, AreEntries, IsForm}
 use Rattle.rdx_nodes.specs.declared.node.Entry.{Entry}
 use Rattle.rdx_nodes.specs.declared.node.Form.{Form}
@@ -58,6 +59,11 @@ slots_of-items (repeated p n ∷ xs) = ap (λ ys. repeated p n ∷ ys) (slots_of
 pub slots_in-entries : (ps : List Pattern) (es : List Entry) → slots_in (seq (items_of (slots_at ps es))) ≡ slots_at ps es
 slots_in-entries ps es = slots_of-items (slots_at ps es)
 
+-- a pattern with a name has none
+slots_under : (n : Naming) (q : Pattern) → slots_in (under n q) ≡ []
+slots_under (binds x) q = refl
+slots_under (differs x) q = refl
+
 -- the items of a form are those of its entries
 pub slots_of_form : (ps : List Pattern) (f : Form) → slots_in (pattern_by ps f) ≡ slots_at ps (entries_in f)
 slots_of_form ps form.Wild = refl
@@ -67,7 +73,7 @@ slots_of_form ps (form.Prefix r) = refl
 slots_of_form ps form.Hole = refl
 slots_of_form ps (form.Lit u) = refl
 slots_of_form ps (form.Nt x) = refl
-slots_of_form ps (form.Named x j) = refl
+slots_of_form ps (form.Named x j) = slots_under (naming_of x) (pattern_at ps j)
 slots_of_form ps (form.InHole i j) = refl
 slots_of_form ps (form.HideHole j) = refl
 slots_of_form ps (form.Closed j) = refl

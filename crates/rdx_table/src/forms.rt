@@ -7,12 +7,13 @@ ghost use Rattle.rdx_lang.specs.Collecting.{Adds, Arises, HasExactly};
 ghost use Rattle.rdx_lang.specs.Listing.{IsListing};
 ghost use Rattle.rdx_lang.specs.Members.{In};
 ghost use Rattle.rdx_lang.specs.Order.{binding_cmp};
-ghost use Rattle.rdx_lang.specs.Patterns.{named, in_hole, hide_hole, closed, nt};
+ghost use Rattle.rdx_lang.specs.Patterns.{in_hole, hide_hole, closed, nt};
 ghost use Rattle.rdx_lang.specs.PatternView.{patterns_of};
 ghost use Rattle.rdx_lang.specs.Rules.{AreAlternatives};
 ghost use Rattle.rdx_lang.specs.Shown.{bindings_of};
 ghost use Rattle.rdx_bind.specs.Columns.{HasAsked};
 ghost use Rattle.rdx_bind.specs.Combining.{AddsBindings, JoinsWith};
+ghost use Rattle.rdx_bind.specs.Namings.{naming_of, under};
 ghost use Rattle.rdx_bind.specs.Rows.{split_row_of};
 ghost use Rattle.rdx_bind.specs.Searching.{AnyMatches, AnySplits};
 ghost use Rattle.rdx_bind.specs.Spots.{spot_of, spots_of};
@@ -30,12 +31,13 @@ use crate::task::{Goal, Stop, Task};
 use rdx_bind::combining::{add_all_joins, empty_where, with_name};
 use rdx_bind::extending::add_going_on;
 use rdx_bind::listing;
+use rdx_bind::naming::Naming;
 use rdx_bind::rows::Row;
 use rdx_bind::spots::{Gathered, Spot};
 use rdx_lang::Binding;
 use rdx_nodes::node::Nonterminal;
 use rdx_nodes::splitting::{part_id, with_contexts};
-use rdx_term::{Name, NoMemory};
+use rdx_term::NoMemory;
 use std::alloc::Global;
 use std::slice::from_ref;
 
@@ -201,12 +203,12 @@ impl<'s, 'a> Look<'s, 'a> {
     }
 
     /// The row of a goal whose pattern is this part with a name.
-    pub(crate) fn named(&self, name: &Name, part: usize, goal: Goal) -> Result<Row, Stop>
+    pub(crate) fn named(&self, name: Naming<'_>, part: usize, goal: Goal) -> Result<Row, Stop>
         requires look { IsLook self.now }
         requires goal { IsAim self.now goal }
         requires part { part < length (patterns_of_look self.now) }
         requires pattern { aim_pattern self.now goal
-            ≡ named name.now (pattern_at (patterns_of_look self.now) part) }
+            ≡ under (naming_of name) (pattern_at (patterns_of_look self.now) part) }
         ensures found { IfOk result (λ row. Meets self.now goal row) }
         ensures stop { Stops self.now.setting.now result }
     {

@@ -150,7 +150,7 @@ impl<'s, 'a> Look<'s, 'a> {
         match form {
             Form::Nt(it) => self.nonterminal(it, goal),
             Form::Closed(part) => self.closed(*part, goal),
-            Form::Named(name, part) => self.named(name, *part, goal),
+            Form::Named(name, part) => self.named(*name, *part, goal),
             Form::HideHole(part) => self.hide_hole(*part, goal),
             Form::InHole(left, right) => self.in_hole(*left, *right, goal),
             Form::Seq(entries) => self.list(entries, goal),

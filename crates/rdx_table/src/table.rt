@@ -13,6 +13,7 @@ use crate::solve::solve;
 use crate::task::Goal;
 use rdx_bind::listing;
 use rdx_bind::rows::Row;
+use rdx_bind::seen::{all_visible, visible_spots};
 use rdx_direct::{try_matches, try_splits};
 use rdx_lang::{Binding, CheckedLang, CheckedPat, Matcher, Split};
 use rdx_nodes::interned::Interned;
@@ -102,7 +103,7 @@ impl Matcher for Table {
             return Ok(found);
         }
         let row = self.row(language, pat, t, false)?;
-        listing(self.alloc, row.matches)
+        listing(self.alloc, all_visible(self.alloc, row.matches)?)
     }
 
     fn splits(
@@ -117,6 +118,6 @@ impl Matcher for Table {
             return Ok(found);
         }
         let row = self.row(language, pat, t, true)?;
-        sorted_splits(self.alloc, t, row.spots)
+        sorted_splits(self.alloc, t, visible_spots(self.alloc, row.spots)?)
     }
 }

@@ -26,6 +26,25 @@ const QUERIES: &[u8] = b"(define-language A (e (+ e e) n) (n number) (E hole (+ 
 (redex-match H (in-hole C hole) (term (hole hole)))
 (redex-match H ((in-hole C hole) (in-hole C 1)) (term ((hole hole) (hole 1))))";
 
+// Mismatch names: in repetitions, one in another, beside names, in a nonterminal, and around
+// contexts, also such that differ in their marks alone.
+const MISMATCHES: &[u8] = b"(define-language A (e (+ e e) n) (n number) (E hole (+ E e) (+ n E)))
+(define-language H (C hole (C any) (any C)) (l (any_!_ ...)))
+(redex-match A (n_!_ ...) (term (1 2 3)))
+(redex-match A (n_!_ ...) (term (1 2 1)))
+(redex-match A ((n_!_ ...) ...) (term ((1 2) (3) ())))
+(redex-match A ((n_!_ ...) ...) (term ((1 2) (3 1))))
+(redex-match A ((n_!_ n_1) ...) (term ((1 3) (2 3))))
+(redex-match A ((n_!_ n_1 n_!_) ...) (term ((1 1 2) (3 1 2))))
+(redex-match A (n_!_1 ... n_!_2 ...) (term (1 2 1)))
+(redex-match A ((name x n_!_) ..._a n_!_ ..._b) (term (1 2)))
+(redex-match A ((in-hole E_!_ n_1) (in-hole E_!_ n_1)) (term ((+ 1 2) (+ 2 1))))
+(redex-match A ((in-hole E_!_ n_1) (in-hole E_!_ n_1)) (term ((+ 1 2) (+ 1 2))))
+(redex-decompose A (in-hole E_!_ E_!_) (term (+ (+ 1 2) 3)))
+(redex-decompose A (n_!_ ... E n_!_ ...) (term (1 2 3)))
+(redex-match H (l_1 l_2) (term ((1 2) (2 1))))
+(redex-match H ((in-hole C_!_ hole) (in-hole C_!_ hole)) (term ((hole hole) (hole hole))))";
+
 // What the host expression makes, where it is no fault.
 fn made(alloc: Global, table: &mut Engine<Table>, host: &HostExpr) -> Option<Box<Term>> {
     let term = table.host(host, &Binding::new(Vec::new(alloc))).ok()?;
@@ -118,15 +137,27 @@ fn with_table<'a, R: Abort + AllocGlobal>(
     Box::new(rt.alloc(), engine).ok().expect(rt, "an engine")
 }
 
+// Both matchers agree about each query of the file.
+fn agree_in<R: Abort + AllocGlobal>(rt: &R, file: &CheckedFile) {
+    let alloc = rt.alloc();
+    let operations = host_table(rt);
+    let mut table = with_table(rt, file, &operations);
+    let mut plain = Engine::new(alloc, &file.program, &operations, Plain::new(alloc));
+    all_agree(rt, &mut plain, &mut table, &file.queries);
+}
+
 #[test]
 fn both_matchers_agree(rt: HostRuntime) {
-    let alloc = rt.alloc();
     let file = checked(&rt, QUERIES);
     assert_eq!(rt; file.queries.len(), 10);
-    let operations = host_table(&rt);
-    let mut table = with_table(&rt, &file, &operations);
-    let mut plain = Engine::new(alloc, &file.program, &operations, Plain::new(alloc));
-    all_agree(&rt, &mut plain, &mut table, &file.queries);
+    agree_in(&rt, &file);
+}
+
+#[test]
+fn both_matchers_agree_about_mismatch_names(rt: HostRuntime) {
+    let file = checked(&rt, MISMATCHES);
+    assert_eq!(rt; file.queries.len(), 14);
+    agree_in(&rt, &file);
 }
 
 // A judgement with two outputs for a number, and none for anything else, and a metafunction.

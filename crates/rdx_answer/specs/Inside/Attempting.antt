@@ -26,7 +26,8 @@ Faults R faults.TooDeep = R too_deep
 Faults R faults.TooLarge = R too_large
 Faults R faults.NoMemory = ⊥
 
--- of the bindings by which p matches t, the first for which the host expression makes #f, if there is one; or the first fault
+-- in the listing of what is seen of the bindings by which p matches t, the first for which the host expression makes #f, if there is one; or the first
+-- fault
 pub record FirstFalseAt (C : Calls) (L : Language) (p : Pattern) (h : Host) (t : Tree) (r : Answer (Option Binding)) : Type 0 where
   pub found : List Binding
   pub listing : Matches L p t found

@@ -1,19 +1,19 @@
 -- What a walk over a pattern and a term makes of bindings that are given to it.
-use Rattle.std.specs.Prelude.{◌≡◌, Bool, IsTrue, IsFalse, ℕ, List, [], Vec, Result, IfOk, Option, None}
+use Rattle.std.specs.Prelude.{◌≡◌, Bool, IsTrue, IsFalse, ℕ, List, Vec, Result, IfOk, Option, None}
 use Rattle.std.specs.declared.alloc.Global.{Global}
 use Rattle.rdx_term.specs.AtPaths.{tree_at, context_at}
 use Rattle.rdx_term.specs.Tree.{Tree, Trees}
-use Rattle.rdx_lang.specs.Bindings.{Value, one, Binding, pairs, no_names, one_name}
+use Rattle.rdx_lang.specs.Bindings.{Value, one, Binding, no_names, one_name}
 use Rattle.rdx_lang.specs.Collections.{IsRepetition}
 use Rattle.rdx_lang.specs.Collecting.{Arises, HasExactly}
 use Rattle.rdx_lang.specs.Join.{IsJoin}
 use Rattle.rdx_lang.specs.Members.{In}
-use Rattle.rdx_lang.specs.Names.{names, item_names}
 use Rattle.rdx_lang.specs.Patterns.{Pattern, Items, Language}
 use Rattle.rdx_lang.specs.PatternView.{Slot, just, repeated}
 use Rattle.rdx_lang.specs.Rules.{Match, MatchItems}
 use Rattle.rdx_lang.specs.Shown.{bindings_of}
 use Rattle.rdx_lang.specs.declared.binding.Binding as code
+use Rattle.rdx_direct.specs.Inside.Plain.{is_plain, are_plain}
 
 -- b is the join of g with something of which R holds
 pub record Onward (R : Binding → Type 0) (g b : Binding) : Type 0 where
@@ -45,13 +45,13 @@ pub record Alone (R : Binding → Type 0) (so : Bool) : Type 0 where
 
 -- whether the items match the terms, where they bind nothing; they do not match where this is not so
 pub record FitAll (L : Language) (ps : Items) (ts : Trees) (so : Bool) : Type 0 where
-  pub some : IsTrue so → item_names ps ≡ [] → MatchItems L ps ts no_names
+  pub some : IsTrue so → IsTrue (are_plain ps) → MatchItems L ps ts no_names
   pub none : IsFalse so → (b : Binding) → ¬ MatchItems L ps ts b
 
 -- the item binds nothing
 abbrev pub BindsNone : Slot → Type 0
-BindsNone (just p) = names p ≡ []
-BindsNone (repeated p n) = (n ≡ None) × (names p ≡ [])
+BindsNone (just p) = IsTrue (is_plain p)
+BindsNone (repeated p n) = (n ≡ None) × IsTrue (is_plain p)
 
 -- R holds of c and of nothing else
 pub record Sole (R : Binding → Type 0) (c : Binding) : Type 0 where
@@ -68,7 +68,7 @@ pub record EndsAt (L : Language) (xs : List (List ℕ)) (n : Option (List ℕ)) 
 
 -- the name has no other value in b
 abbrev pub OnlyOf : List ℕ → Value → Binding → Type 0
-OnlyOf x v b = (u : Value) → In (x, u) (pairs b) → u ≡ v
+OnlyOf x v b = (u : Value) → In (x, u) b.pairs → u ≡ v
 
 -- b is joined of what r binds at the end of the path w, and of the name for the context around it
 pub record NamedAt (L : Language) (r : Pattern) (t : Tree) (x w : List ℕ) (b : Binding) : Type 0 where

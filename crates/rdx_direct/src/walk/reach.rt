@@ -1,11 +1,10 @@
 // Whether a pattern that binds nothing matches, and where it splits the term, in one pass. Of the
 // places at which it does only those count whose part another pattern may match.
-ghost use Rattle.std.specs.Prelude.{◌≡◌, ◌↔◌, [], false, ℕ, List, IfOk, IsTrue, None, map};
+ghost use Rattle.std.specs.Prelude.{◌≡◌, ◌↔◌, false, ℕ, List, IfOk, IsTrue, None, map};
 ghost use Rattle.rdx_term.specs.View.{tree_of, trees_of};
 ghost use Rattle.rdx_lang.specs.Bindings.{no_names};
 ghost use Rattle.rdx_lang.specs.Checked.{language_in};
 ghost use Rattle.rdx_lang.specs.Facts.{IsAtMost};
-ghost use Rattle.rdx_lang.specs.Names.{names, item_names};
 ghost use Rattle.rdx_lang.specs.Patterns.{hole, in_hole, many, named, nt, seq};
 ghost use Rattle.rdx_term.specs.AtPaths.{IsPlace};
 ghost use Rattle.rdx_lang.specs.PatternView.{pattern_of, slot_of, items_of};
@@ -13,6 +12,7 @@ ghost use Rattle.rdx_lang.specs.Rules.{Match, MatchItems};
 ghost use Rattle.rdx_direct.specs.Inside.Going.{Fits, GoesOn, NamedAt};
 ghost use Rattle.rdx_direct.specs.Inside.Known.{AreChoices};
 ghost use Rattle.rdx_direct.specs.Inside.Paths.{Leads, NoPaths};
+ghost use Rattle.rdx_direct.specs.Inside.Plain as model;
 ghost use Rattle.rdx_direct.specs.Inside.Wanted.{AreItemsReached, AreItemsReachedWhere};
 ghost use Rattle.rdx_direct.specs.Inside.Wanted.{ArePlacedWhere, AreReached};
 
@@ -151,6 +151,7 @@ impl<'a> Walk<'a> {
             | Pat::Hole
             | Pat::Lit(_)
             | Pat::Named(_, _)
+            | Pat::Differ(_, _)
             | Pat::InHole(_, _)
             | Pat::HideHole(_)
             | Pat::Closed(_) => self.reach(pat, wanted, t, room, fuel),
@@ -186,7 +187,7 @@ impl<'a> Walk<'a> {
         Ok(Reach { fits, paths })
     }
 
-    // The items of a list pattern without names, the first of whose terms stands at this place.
+    // The items of a list pattern that binds nothing, the first of whose terms stands at this place.
     #[cycle(walk)]
     #[inline(never)]
     fn reach_items(
@@ -198,7 +199,7 @@ impl<'a> Walk<'a> {
         room: Room,
         fuel: &mut Fuel,
     ) -> Result<Reach, Halt>
-        requires { item_names (items_of (map slot_of items.now)) ≡ [] }
+        requires { IsTrue (model.are_plain (items_of (map slot_of items.now))) }
         ensures fits { IfOk result (λ r. IsTrue r.fits ↔ MatchItems
             (language_in self.now.language.now)
             (items_of (map slot_of items.now)) (trees_of ts.now) no_names) }
@@ -259,8 +260,8 @@ impl<'a> Walk<'a> {
         room: Room,
         fuel: &mut Fuel,
     ) -> Result<Reach, Halt>
-        requires plain { item_names (many (pattern_of turns.pat.now) None (items_of (map slot_of
-            turns.rest.now))) ≡ [] }
+        requires plain { IsTrue (model.are_plain (many (pattern_of turns.pat.now) None
+            (items_of (map slot_of turns.rest.now)))) }
         requires from { items_of (map slot_of turns.from.now) ≡ many (pattern_of turns.pat.now)
             None (items_of (map slot_of turns.rest.now)) }
         ensures fits { IfOk result (λ r. IsTrue r.fits ↔ MatchItems
@@ -289,7 +290,7 @@ impl<'a> Walk<'a> {
         room: Room,
         fuel: &mut Fuel,
     ) -> Result<bool, Halt>
-        requires { item_names (items_of (map slot_of items.now)) ≡ [] }
+        requires { IsTrue (model.are_plain (items_of (map slot_of items.now))) }
         ensures { IfOk result (λ so. IsTrue so ↔ MatchItems (language_in self.now.language.now)
             (items_of (map slot_of items.now)) (trees_of ts.now) no_names) }
     {
@@ -307,7 +308,7 @@ impl<'a> Walk<'a> {
         room: Room,
         fuel: &mut Fuel,
     ) -> Result<Paths, Halt>
-        requires { item_names (items_of (map slot_of items.now)) ≡ [] }
+        requires { IsTrue (model.are_plain (items_of (map slot_of items.now))) }
         ensures { IfOk result (λ kept. (w : List ℕ) → Leads kept w ↔ (Leads paths w × MatchItems
             (language_in self.now.language.now)
             (items_of (map slot_of items.now)) (trees_of ts.now) no_names)) }
@@ -334,8 +335,8 @@ impl<'a> Walk<'a> {
         room: Room,
         fuel: &mut Fuel,
     ) -> Result<Reach, Halt>
-        requires plain { item_names (many (pattern_of turns.pat.now) None (items_of (map slot_of
-            turns.rest.now))) ≡ [] }
+        requires plain { IsTrue (model.are_plain (many (pattern_of turns.pat.now) None
+            (items_of (map slot_of turns.rest.now)))) }
         requires from { items_of (map slot_of turns.from.now) ≡ many (pattern_of turns.pat.now)
             None (items_of (map slot_of turns.rest.now)) }
         ensures fits { IfOk result (λ r. IsTrue r.fits ↔ MatchItems
@@ -433,6 +434,7 @@ impl<'a> Walk<'a> {
             | Pat::Prefix(_)
             | Pat::Lit(_)
             | Pat::Named(_, _)
+            | Pat::Differ(_, _)
             | Pat::InHole(_, _)
             | Pat::HideHole(_)
             | Pat::Closed(_) => Err(Halt::Spent),
@@ -468,7 +470,7 @@ impl<'a> Walk<'a> {
         room: Room,
         fuel: &mut Fuel,
     ) -> Result<Vec<Binding>, Halt>
-        requires { names (pattern_of left.now) ≡ [] }
+        requires { IsTrue (model.is_plain (pattern_of left.now)) }
         ensures { GoesOn result given (Match (language_in self.now.language.now)
             (in_hole (pattern_of left.now) (pattern_of right.now)) (tree_of t.now)) }
     {
@@ -507,7 +509,7 @@ impl<'a> Walk<'a> {
         room: Room,
         fuel: &mut Fuel,
     ) -> Result<Vec<Binding>, Halt>
-        requires { names (pattern_of left.now) ≡ [] }
+        requires { IsTrue (model.is_plain (pattern_of left.now)) }
         ensures { GoesOn result given (Match (language_in self.now.language.now)
             (in_hole (named name.now (pattern_of left.now)) (pattern_of right.now))
             (tree_of t.now)) }

@@ -1,17 +1,18 @@
 // Where a pattern splits a term, with what its names stand for then.
-ghost use Rattle.std.specs.Prelude.{◌≡◌, [], IfOk, IsTrue, map};
+ghost use Rattle.std.specs.Prelude.{IfOk, IsTrue, map};
 ghost use Rattle.rdx_term.specs.View.{tree_of, trees_of};
 ghost use Rattle.rdx_lang.specs.Checked.{language_in};
 ghost use Rattle.rdx_lang.specs.Collecting.{HasExactly};
-ghost use Rattle.rdx_lang.specs.Listing.{SplitsInto};
-ghost use Rattle.rdx_lang.specs.Names.{names, item_names};
-ghost use Rattle.rdx_lang.specs.Patterns.{named, in_hole, seq};
+ghost use Rattle.rdx_lang.specs.Listing.{SplitsVisibly};
+ghost use Rattle.rdx_lang.specs.Patterns.{in_hole, seq};
 ghost use Rattle.rdx_lang.specs.PatternView.{pattern_of, patterns_of, slot_of, items_of};
 ghost use Rattle.rdx_lang.specs.Shown.{decompositions_of};
+ghost use Rattle.rdx_bind.specs.Namings.{naming_of, under};
 ghost use Rattle.rdx_bind.specs.Searching.{AnySplits};
 ghost use Rattle.rdx_bind.specs.Spots.{ItemsSplitAt, PlacedAt, SplitsAt};
 ghost use Rattle.rdx_bind.specs.Splitting.{Finds};
 ghost use Rattle.rdx_direct.specs.Inside.Paths.{paths_in};
+ghost use Rattle.rdx_direct.specs.Inside.Plain as model;
 ghost use Rattle.rdx_direct.specs.Inside.Reaching.{Reached};
 ghost use Rattle.rdx_direct.specs.Inside.Wanted.{Anything};
 
@@ -24,11 +25,12 @@ use crate::spots::{kept_and_more, spots_where};
 use crate::walk::Walk;
 use crate::wanted::Wanted;
 use rdx_bind::extending::add_going_on;
+use rdx_bind::naming::Naming;
 use rdx_bind::rows::placed;
 use rdx_bind::spots::{Gathered, Spot, whole};
 use rdx_fill::part_at;
 use rdx_lang::{Item, Pat, Split};
-use rdx_term::{Name, Term};
+use rdx_term::Term;
 use std::slice::from_ref;
 
 impl<'a> Walk<'a> {
@@ -54,19 +56,19 @@ impl<'a> Walk<'a> {
         Ok(gathered.nameless(self.alloc)?)
     }
 
-    // A pattern with a name: the spots of its part, with the name for the context.
+    // A pattern with a name or a mismatch name: the spots of its part, with the name for the context.
     #[cycle(walk)]
     #[inline(never)]
     fn split_named(
         &self,
-        name: &Name,
+        name: Naming<'_>,
         part: &Pat,
         t: &Term,
         room: Room,
         fuel: &mut Fuel,
     ) -> Result<Vec<Spot>, Halt>
         ensures { Finds result (SplitsAt (language_in self.now.language.now)
-            (named name.now (pattern_of part.now)) (tree_of t.now)) }
+            (under (naming_of name.entry) (pattern_of part.now)) (tree_of t.now)) }
     {
         let spots = self.splits(part, t, room, fuel)?;
         let found = with_contexts(self.alloc, spots, name, t)?;
@@ -122,8 +124,8 @@ impl<'a> Walk<'a> {
         Ok(found)
     }
 
-    // The items of a list pattern without names, from the first on: where one is split and all others
-    // match. What was found so far has the spots of an item before, where all others before match.
+    // The items of a list pattern that binds nothing, from the first on: where one is split and all
+    // others match. What was found so far has the spots of an item before, where all others before match.
     #[cycle(walk)]
     #[inline(never)]
     fn split_items(
@@ -133,7 +135,7 @@ impl<'a> Walk<'a> {
         room: Room,
         fuel: &mut Fuel,
     ) -> Result<Vec<Spot>, Halt>
-        requires { item_names (items_of (map slot_of items.now)) ≡ [] }
+        requires { IsTrue (model.are_plain (items_of (map slot_of items.now))) }
         ensures { Finds result (ItemsSplitAt (language_in self.now.language.now) 0
             (items_of (map slot_of items.now)) (trees_of ts.now)) }
     {
@@ -209,7 +211,12 @@ impl<'a> Walk<'a> {
             | Pat::HideHole(_) => Ok(Vec::new(self.alloc)),
             Pat::Hole => Ok(whole(self.alloc)?),
             Pat::Nt(name) => self.any_splits(self.choices(name).pats, t, inside, fuel),
-            Pat::Named(name, part) => self.split_named(name, part, t, inside, fuel),
+            Pat::Named(name, part) => {
+                self.split_named(Naming::Binds(name), part, t, inside, fuel)
+            }
+            Pat::Differ(name, part) => {
+                self.split_named(Naming::Differs(name), part, t, inside, fuel)
+            }
             Pat::InHole(left, right) => self.split_in_hole(left, right, t, inside, fuel),
             Pat::Closed(part) => self.any_splits(from_ref::<Pat>(part), t, inside, fuel),
             Pat::Seq(items) => self.split_list(items, t, inside, fuel),
@@ -219,7 +226,7 @@ impl<'a> Walk<'a> {
     // The paths at whose ends a pattern that binds nothing splits the term.
     #[inline(never)]
     fn paths(&self, pat: &Pat, t: &Term, fuel: &mut Fuel) -> Result<Vec<Vec<usize>>, Halt>
-        ensures plain { IfOk result (λ found. names (pattern_of pat.now) ≡ []) }
+        ensures plain { IfOk result (λ found. IsTrue (model.is_plain (pattern_of pat.now))) }
         ensures paths { IfOk result (λ found. HasExactly (paths_in found.items)
             (Reached (language_in self.now.language.now) Anything (pattern_of pat.now)
             (tree_of t.now))) }
@@ -246,7 +253,7 @@ impl<'a> Walk<'a> {
         fuel: &mut Fuel,
     ) -> Result<Vec<Split>, Halt>
         ensures { IfOk result (λ found. HasExactly (decompositions_of found.items)
-            (SplitsInto (language_in self.now.language.now) (pattern_of pat.now)
+            (SplitsVisibly (language_in self.now.language.now) (pattern_of pat.now)
             (tree_of t.now))) }
     {
         if let Pat::Named(name, part) = pat {

@@ -3,7 +3,7 @@ use Rattle.std.specs.Prelude.{ℕ, suc, ◌+◌, min, nat_eq, nat_le, Bool, true
 use Rattle.rdx_term.specs.Tree.{Tree, tree_holes}
 use Rattle.rdx_lang.specs.Facts as facts
 use Rattle.rdx_lang.specs.Facts.{greatest}
-use Rattle.rdx_lang.specs.Patterns.{Pattern, wild, of_kind, except, prefix, hole, lit, nt, named, in_hole, hide_hole, closed, seq, Items, nil, one, many, Definition, Language}
+use Rattle.rdx_lang.specs.Patterns.{Pattern, wild, of_kind, except, prefix, hole, lit, nt, named, differ, in_hole, hide_hole, closed, seq, Items, nil, one, many, Definition, Language}
 use Rattle.rdx_lang.specs.References.{is_same}
 use Rattle.rdx_lang.specs.declared.facts.Each.{Each}
 use Rattle.rdx_lang.specs.declared.facts.Known.{Known}
@@ -61,7 +61,7 @@ literal u = record {
   bind = false;
 }
 
--- a pattern with a name, by its part
+-- a pattern with a name or a mismatch name, by its part
 abbrev pub with_name : May → May
 with_name m = record { split = m.split; atoms = m.atoms; least = m.least; most = m.most; solid = m.solid; bind = true }
 
@@ -123,6 +123,7 @@ abbrev mutual
   may_of E (lit u) = literal u
   may_of E (nt x) = E x
   may_of E (named x q) = with_name (may_of E q)
+  may_of E (differ x q) = with_name (may_of E q)
   may_of E (in_hole q r) = filled (may_of E q) (may_of E r)
   may_of E (hide_hole q) = hidden (may_of E q)
   may_of E (closed q) = with_none (may_of E q)

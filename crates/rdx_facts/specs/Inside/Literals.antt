@@ -1,7 +1,7 @@
 -- The symbols that a language has as literals, in a list.
 use Rattle.std.specs.Prelude.{ℕ, List, [], ◌∷◌, ◌++◌}
 use Rattle.rdx_term.specs.Tree.{Tree, hole, integer, truth, text, symbol, list}
-use Rattle.rdx_lang.specs.Patterns.{Pattern, wild, of_kind, except, prefix, lit, nt, named, in_hole, hide_hole, closed, seq, Items, nil, one, many, Definition}
+use Rattle.rdx_lang.specs.Patterns.{Pattern, wild, of_kind, except, prefix, lit, nt, named, differ, in_hole, hide_hole, closed, seq, Items, nil, one, many, Definition}
 use Rattle.rdx_lang.specs.Patterns.{hole as the_hole}
 
 -- the symbol that the term is, if it is one
@@ -24,6 +24,7 @@ abbrev mutual
   literals (lit u) = symbol_in u
   literals (nt x) = []
   literals (named x q) = literals q
+  literals (differ x q) = literals q
   literals (in_hole q r) = literals q ++ literals r
   literals (hide_hole q) = literals q
   literals (closed q) = literals q

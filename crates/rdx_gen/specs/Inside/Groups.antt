@@ -18,7 +18,11 @@ group_of all u = record {
 
 -- the name at a place breaks a rule, where its places have this in common
 abbrev pub breaks_by : Place → Group → Bool
-breaks_by u g = if u.is_length then g.inside else (g.differs || (g.several && g.inside))
+breaks_by u g = u.is_mismatch || (if u.is_length then g.inside else (g.differs || (g.several && g.inside)))
+
+-- it breaks one in an alternative
+abbrev pub breaks_alternative_by : Place → Group → Bool
+breaks_alternative_by u g = u.is_mismatch || g.several
 
 -- the name, where it is wanted
 abbrev pub name_where : Bool → List ℕ → List (List ℕ)

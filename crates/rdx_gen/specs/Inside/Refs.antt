@@ -10,7 +10,7 @@ use Rattle.rdx_gen.specs.NameRules.{first_in_alternatives}
 abbrev pub refs_in : Vec (Bor Ref) Global → List Ref
 refs_in v = map (λ r. r.now) v.items
 
--- the first name that stands twice in one of the alternatives, where they are marked
+-- the first name that breaks a rule in one of the alternatives, where they are marked
 abbrev pub first_where : Bool → List Pattern → Option (List ℕ)
 first_where true ps = first_in_alternatives ps
 first_where false ps = None

@@ -1,6 +1,6 @@
 -- How much is still to be done, at most, while a term is generated. A repetition takes fewer than 2 ^ 64 turns, since they are counted so.
 use Rattle.std.specs.Prelude.{ℕ, zero, suc, ◌+◌, ◌*◌, List, [], ◌∷◌, map}
-use Rattle.rdx_lang.specs.Patterns.{Pattern, wild, of_kind, except, prefix, hole, lit, nt, named, in_hole, hide_hole, closed, seq, Items, nil, one, many, Definition, Language}
+use Rattle.rdx_lang.specs.Patterns.{Pattern, wild, of_kind, except, prefix, hole, lit, nt, named, differ, in_hole, hide_hole, closed, seq, Items, nil, one, many, Definition, Language}
 use Rattle.rdx_lang.specs.PatternView.{Slot, just, repeated, pattern_of, slot_of, items_of}
 use Rattle.rdx_gen.specs.Inside.Scopes.{language_here}
 use Rattle.rdx_gen.specs.declared.frames.Frame.{Frame}
@@ -28,6 +28,7 @@ abbrev mutual
   weight W (lit u) = 1
   weight W (nt x) = W
   weight W (named x q) = weight W q + 2
+  weight W (differ x q) = weight W q + 1
   weight W (in_hole q r) = weight W q + weight W r + 3
   weight W (hide_hole q) = weight W q + 1
   weight W (closed q) = 1

@@ -2,7 +2,7 @@
 use Rattle.std.specs.Prelude.{ℕ, ◌<◌, List, [], ◌∷◌, length, drop}
 use Rattle.std.proofs.Math.Bridge.{le_prop}
 use Rattle.std.proofs.Math.Nat.{ℕ_set}
-use Rattle.rdx_lang.specs.Patterns.{Pattern, wild, of_kind, except, prefix, hole, lit, nt, named, in_hole, hide_hole, closed, seq, Items, nil, one, many, Definition, Language}
+use Rattle.rdx_lang.specs.Patterns.{Pattern, wild, of_kind, except, prefix, hole, lit, nt, named, differ, in_hole, hide_hole, closed, seq, Items, nil, one, many, Definition, Language}
 use Rattle.rdx_lang.specs.Empty.{IsEmpty}
 use Rattle.rdx_lang.specs.Nodes.{pattern_nodes, patterns_nodes, definitions_nodes}
 use Rattle.rdx_lang.specs.Ranks.{first_rank, roots_among, AreBelow, FallIn, FallInItems, FallInAll, FallAmong, AreRanks}
@@ -29,6 +29,7 @@ mutual
   FallIn-prop L roots (lit u) ns = Unit-prop
   FallIn-prop L roots (nt x) ns = AreBelow-prop (roots x) (first_rank ns)
   FallIn-prop L roots (named x q) ns = ×_prop le_prop (FallIn-prop L roots q (drop 1 ns))
+  FallIn-prop L roots (differ x q) ns = ×_prop le_prop (FallIn-prop L roots q (drop 1 ns))
   FallIn-prop L roots (in_hole q r) ns =
       ×_prop (×_prop le_prop (FallIn-prop L roots q (drop 1 ns)))
       (×_prop (below_if (IsEmpty L q) (first_rank (drop (pattern_nodes q) (drop 1 ns))) (first_rank ns)) (FallIn-prop L roots r (drop (pattern_nodes q) (drop 1 ns))))

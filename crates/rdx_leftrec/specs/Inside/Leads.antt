@@ -2,7 +2,7 @@
 use Rattle.std.specs.Prelude.{ℕ, suc, Bool, List, [], ◌∷◌, ◌++◌, map, Vec, if◌then◌else◌}
 use Rattle.std.specs.declared.alloc.Global.{Global}
 use Rattle.rdx_lang.specs.Empty.{is_empty}
-use Rattle.rdx_lang.specs.Patterns.{Pattern, wild, of_kind, except, prefix, hole, lit, nt, named, in_hole, hide_hole, closed, seq, Language}
+use Rattle.rdx_lang.specs.Patterns.{Pattern, wild, of_kind, except, prefix, hole, lit, nt, named, differ, in_hole, hide_hole, closed, seq, Language}
 use Rattle.rdx_lang.specs.References.{is_same}
 use Rattle.rdx_lang.specs.WellFormed.{defined}
 use Rattle.rdx_lang.specs.declared.pattern.Ref.{Ref}
@@ -17,6 +17,7 @@ leads E hole = []
 leads E (lit u) = []
 leads E (nt x) = x ∷ []
 leads E (named x q) = leads E q
+leads E (differ x q) = leads E q
 leads E (in_hole q r) = leads E q ++ (if is_empty E q then leads E r else [])
 leads E (hide_hole q) = leads E q
 leads E (closed q) = leads E q

@@ -1,6 +1,6 @@
 -- Numbers of nonterminals, and the heights of patterns.
 use Rattle.std.specs.Prelude.{◌+◌, ◌*◌, ℕ, max, List, [], ◌∷◌, map, slice_index}
-use Rattle.rdx_lang.specs.Patterns.{Pattern, wild, of_kind, except, prefix, hole, lit, nt, named, in_hole, hide_hole, closed, seq, Definition, Language}
+use Rattle.rdx_lang.specs.Patterns.{Pattern, wild, of_kind, except, prefix, hole, lit, nt, named, differ, in_hole, hide_hole, closed, seq, Definition, Language}
 use Rattle.rdx_lang.specs.WellFormed.{defined}
 use Rattle.rdx_lang.specs.declared.pattern.Ref.{Ref}
 use Rattle.rdx_leftrec.specs.Inside.Leads.{place}
@@ -27,6 +27,7 @@ height hole = 0
 height (lit u) = 0
 height (nt x) = 0
 height (named x q) = height q + 1
+height (differ x q) = height q + 1
 height (in_hole q r) = max (height q) (height r) + 1
 height (hide_hole q) = height q + 1
 height (closed q) = height q + 1

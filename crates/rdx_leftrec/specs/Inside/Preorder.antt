@@ -1,6 +1,6 @@
 -- The ranks of the nodes of patterns in pre-order, from a number for each nonterminal, where E tells which of them are Empty.
 use Rattle.std.specs.Prelude.{ℕ, Bool, List, [], ◌∷◌, ◌++◌}
-use Rattle.rdx_lang.specs.Patterns.{Pattern, wild, of_kind, except, prefix, hole, lit, nt, named, in_hole, hide_hole, closed, seq, Items, nil, one, many, Definition}
+use Rattle.rdx_lang.specs.Patterns.{Pattern, wild, of_kind, except, prefix, hole, lit, nt, named, differ, in_hole, hide_hole, closed, seq, Items, nil, one, many, Definition}
 use Rattle.rdx_lang.specs.LeftNumbers.{left_number}
 use Rattle.rdx_lang.specs.declared.pattern.Ref.{Ref}
 
@@ -15,6 +15,7 @@ abbrev mutual
   pattern_ranks E R (lit u) = 0 ∷ []
   pattern_ranks E R (nt x) = R x ∷ []
   pattern_ranks E R (named x q) = left_number E R (named x q) ∷ pattern_ranks E R q
+  pattern_ranks E R (differ x q) = left_number E R (differ x q) ∷ pattern_ranks E R q
   pattern_ranks E R (in_hole q r) = left_number E R (in_hole q r) ∷ pattern_ranks E R q ++ pattern_ranks E R r
   pattern_ranks E R (hide_hole q) = left_number E R (hide_hole q) ∷ pattern_ranks E R q
   pattern_ranks E R (closed q) = left_number E R (closed q) ∷ pattern_ranks E R q

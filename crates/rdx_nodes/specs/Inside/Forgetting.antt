@@ -1,11 +1,12 @@
 -- What a pattern matches where nobody reads what it binds, as in an alternative of a nonterminal or in a closed pattern: a name that stands
--- once is compared with nothing, so it may be left out before the search.
-use Rattle.std.specs.Prelude.{◌≡◌, ◌≤◌, ℕ, List, [], ◌∷◌, ◌++◌, Option, Some, None, bytes_eq, count_by, if◌then◌else◌}
+-- once is compared with nothing, so it may be left out before the search. A mismatch name stays, since its terms have to differ.
+use Rattle.std.specs.Prelude.{◌≡◌, ◌≤◌, ℕ, false, List, [], ◌∷◌, ◌++◌, Option, Some, None, bytes_eq, count_by, if◌then◌else◌}
 use Rattle.rdx_term.specs.Tree.{Tree}
-use Rattle.rdx_lang.specs.Bindings.{Binding}
+use Rattle.rdx_lang.specs.Bindings.{Pair, Binding}
 use Rattle.rdx_lang.specs.Members.{In}
+use Rattle.rdx_lang.specs.Mismatches.{has_differ}
 use Rattle.rdx_lang.specs.Names.{names}
-use Rattle.rdx_lang.specs.Patterns.{Pattern, wild, of_kind, except, prefix, hole, lit, nt, named, in_hole, hide_hole, closed, seq, Items, nil, one, many}
+use Rattle.rdx_lang.specs.Patterns.{Pattern, wild, of_kind, except, prefix, hole, lit, nt, named, differ, in_hole, hide_hole, closed, seq, Items, nil, one, many}
 use Rattle.rdx_lang.specs.Rules.{is_one_of}
 use Rattle.rdx_lang.specs.declared.pattern.Kind.{Kind}
 use Rattle.rdx_lang.specs.declared.pattern.Ref.{Ref}
@@ -28,6 +29,7 @@ abbrev mutual
   binders (lit u) = []
   binders (nt x) = []
   binders (named x q) = x ∷ binders q
+  binders (differ x q) = binders q
   binders (in_hole q r) = binders q ++ binders r
   binders (hide_hole q) = binders q
   binders (closed q) = []
@@ -57,7 +59,7 @@ pub data ForgetsLength (xs : List (List ℕ)) : Option (List ℕ) → Option (Li
 
 mutual
   -- q is p without the names xs. A closed pattern in it is any that is closed and without names that stand once inside; one that then
-  -- binds nothing need not be closed.
+  -- binds nothing need not be closed, if no mismatch name stands in it.
   pub data Forgets : List (List ℕ) → Pattern → Pattern → Type 0 where
     forgets_wild : {xs : List (List ℕ)} → Forgets xs wild wild
     forgets_kind : {xs : List (List ℕ)} {k : Kind} → Forgets xs (of_kind k) (of_kind k)
@@ -68,10 +70,11 @@ mutual
     forgets_nt : {xs : List (List ℕ)} {x : Ref} → Forgets xs (nt x) (nt x)
     forgets_named : {xs : List (List ℕ)} {x : List ℕ} {p q : Pattern} → In x xs → Forgets xs p q → Forgets xs (named x p) q
     keeps_named : {xs : List (List ℕ)} {x : List ℕ} {p q : Pattern} → (In x xs → ⊥) → Forgets xs p q → Forgets xs (named x p) (named x q)
+    forgets_differ : {xs : List (List ℕ)} {x : List ℕ} {p q : Pattern} → Forgets xs p q → Forgets xs (differ x p) (differ x q)
     forgets_in_hole : {xs : List (List ℕ)} {p q r s : Pattern} → Forgets xs p q → Forgets xs r s → Forgets xs (in_hole p r) (in_hole q s)
     forgets_hide_hole : {xs : List (List ℕ)} {p q : Pattern} → Forgets xs p q → Forgets xs (hide_hole p) (hide_hole q)
     forgets_closed : {xs ys : List (List ℕ)} {p q : Pattern} → StandOnce ys p → Forgets ys p q → Forgets xs (closed p) (closed q)
-    forgets_open : {xs ys : List (List ℕ)} {p q : Pattern} → StandOnce ys p → Forgets ys p q → names q ≡ [] → Forgets xs (closed p) q
+    forgets_open : {xs ys : List (List ℕ)} {p q : Pattern} → StandOnce ys p → Forgets ys p q → names q ≡ [] → has_differ p ≡ false → Forgets xs (closed p) q
     forgets_seq : {xs : List (List ℕ)} {ps qs : Items} → ForgetsItems xs ps qs → Forgets xs (seq ps) (seq qs)
 
   -- so are the items qs, for ps
@@ -89,7 +92,11 @@ pub record LeavesOut (p q : Pattern) : Type 0 where
 
 -- ---- a binding without names
 
--- the pairs of a binding whose names are not among xs
+-- the pairs whose names are not among xs
+abbrev pub pairs_without : List (List ℕ) → List Pair → List Pair
+pairs_without xs [] = []
+pairs_without xs (p ∷ ps) = if is_one_of xs p.0 then pairs_without xs ps else p ∷ pairs_without xs ps
+
+-- a binding of such pairs alone, with the mismatch names that are there
 abbrev pub without_names : List (List ℕ) → Binding → Binding
-without_names xs [] = []
-without_names xs (p ∷ b) = if is_one_of xs p.0 then without_names xs b else p ∷ without_names xs b
+without_names xs b = record { pairs = pairs_without xs b.pairs; differs = b.differs }

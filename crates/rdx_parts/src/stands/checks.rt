@@ -13,7 +13,7 @@ use crate::arguments::mode_of;
 use crate::stands::collecting::Stand;
 use crate::stands::patterns::{earliest_bad_binder, earliest_keyword};
 use rdx_patterns::checks::{bound_by, when};
-use rdx_patterns::names::{begins_with_dots, is_bad_name};
+use rdx_patterns::names::{begins_with_dots, is_bad_bound, is_bad_name};
 use rdx_patterns::occurrences::Occurrence;
 use rdx_patterns::shape::{is_word, text};
 use rdx_patterns::{Names, Position};
@@ -167,7 +167,8 @@ fn bad_name<'a>(s: &Stand<'a>) -> Option<&'a Datum>
 {
     match s {
         Stand::Function(d) => when(is_bad_function(text(d)), d),
-        Stand::Judgement(d) | Stand::Fresh(d) => when(is_bad_name(text(d)), d),
+        Stand::Judgement(d) => when(is_bad_name(text(d)), d),
+        Stand::Fresh(d) => when(is_bad_bound(text(d)), d),
         Stand::Pattern(found) => earliest_bad_binder(found),
         Stand::Misshaped(_)
         | Stand::Asked(_)

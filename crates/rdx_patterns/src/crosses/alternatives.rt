@@ -108,6 +108,7 @@ pub(crate) fn crossed(alloc: Global, pat: &Pat, to: &Name) -> Result<Vec<Pat>, N
     match pat {
         Pat::Nt(Ref::Nt(from)) => alone(alloc, Pat::Nt(Ref::Cross(from.share()?, to.share()?))),
         Pat::Named(_, inner) => crossed(alloc, inner, to),
+        Pat::Differ(_, inner) => crossed(alloc, inner, to),
         Pat::Closed(inner) => closed(alloc, crossed(alloc, inner, to)?),
         Pat::Seq(items) => crossed_items(alloc, items, to),
         Pat::Wild

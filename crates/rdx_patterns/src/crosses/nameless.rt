@@ -8,8 +8,8 @@ use rdx_lang::{Item, Pat};
 use rdx_term::NoMemory;
 use std::alloc::Global;
 
-/// The pattern without its names and length names; literals and the names of nonterminals are
-/// shared.
+/// The pattern without its names, mismatch names and length names; literals and the names of
+/// nonterminals are shared.
 #[cycle(unnaming)]
 pub(crate) fn unnamed(alloc: Global, pat: &Pat) -> Result<Pat, NoMemory>
     ensures { IfOk result (λ p. pattern_of p ≡ model.unnamed (pattern_of pat.now)) }
@@ -20,6 +20,7 @@ pub(crate) fn unnamed(alloc: Global, pat: &Pat) -> Result<Pat, NoMemory>
         }
         Pat::Nt(name) => Ok(Pat::Nt(name.share()?)),
         Pat::Named(_, inner) => unnamed(alloc, inner),
+        Pat::Differ(_, inner) => unnamed(alloc, inner),
         Pat::InHole(left, right) => {
             let left = unnamed_boxed(alloc, left)?;
             Ok(Pat::InHole(left, unnamed_boxed(alloc, right)?))

@@ -32,6 +32,7 @@ fn add_ways(pat: &Pat, out: &mut Vec<(Name, Name)>) -> Result<(), NoMemory>
         ),
         Pat::Nt(nonterminal) => add_way(nonterminal, out),
         Pat::Named(_, inner) => add_ways(inner, out),
+        Pat::Differ(_, inner) => add_ways(inner, out),
         Pat::InHole(left, right) => {
             add_ways(left, out)?;
             add_ways(right, out)

@@ -1,7 +1,7 @@
 // Patterns put together from the names and the patterns among the items of a list.
 ghost use Rattle.std.specs.Prelude.{◌≡◌, IfOk, map, option_map};
 ghost use Rattle.rdx_lang.specs.PatternView.{pattern_of, slot_of, items_of};
-ghost use Rattle.rdx_lang.specs.Patterns.{named};
+ghost use Rattle.rdx_lang.specs.Patterns.{named, differ};
 ghost use Rattle.rdx_patterns.specs.HeadView.{head_view};
 ghost use Rattle.rdx_patterns.specs.Reading as model;
 ghost use Rattle.rdx_patterns.specs.Inside.Slots.{just_in};
@@ -16,6 +16,13 @@ pub(crate) fn named(alloc: Global, name: Name, inner: Pat) -> Result<Pat, NoMemo
     ensures { IfOk result (λ pat. pattern_of pat ≡ named name (pattern_of inner)) }
 {
     Ok(Pat::Named(name, Box::new(alloc, inner)?))
+}
+
+/// The pattern under a mismatch name.
+pub(crate) fn differ(alloc: Global, name: Name, inner: Pat) -> Result<Pat, NoMemory>
+    ensures { IfOk result (λ pat. pattern_of pat ≡ differ name (pattern_of inner)) }
+{
+    Ok(Pat::Differ(name, Box::new(alloc, inner)?))
 }
 
 // The name of a list of one.

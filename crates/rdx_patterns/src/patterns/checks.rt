@@ -11,7 +11,9 @@ use crate::patterns::kinds::is_base;
 use crate::patterns::names::{Names, symbol_name};
 use crate::patterns::occurrences::Occurrence;
 use crate::patterns::position::Position;
-use crate::shape::names::{begins_with_dots, front, has_suffix, is_bad_name, is_ellipsis};
+use crate::shape::names::{
+    begins_with_dots, front, has_suffix, is_bad_bound, is_ellipsis, is_mismatch,
+};
 use crate::shape::{is_word, text};
 use rdx_lang::Depths;
 use rdx_sexp::{Datum, Form};
@@ -58,7 +60,7 @@ pub fn bad_binder<'a>(o: &Occurrence<'a>) -> Option<&'a Datum>
     ensures { option_map (λ d. d.now) result ≡ first (model.bad_binder (occurrence_of o.now)) }
 {
     match o {
-        Occurrence::Binder(_, d) => when(is_bad_name(text(d)), d),
+        Occurrence::Binder(_, d) => when(is_bad_bound(text(d)), d),
         Occurrence::Key(_)
         | Occurrence::Single(_, _)
         | Occurrence::Repeats(_, _)
@@ -165,7 +167,7 @@ fn binds(names: &Names, position: Position, text: &str) -> bool
     if is_base(names, text) {
         return binds_itself(position);
     }
-    has_suffix(text) && is_base(names, front(text))
+    has_suffix(text) && is_base(names, front(text)) && !is_mismatch(text)
 }
 
 // The symbol with its depth, where the test says so.

@@ -1,5 +1,5 @@
 //! The patterns of data.
-ghost use Rattle.std.specs.Prelude.{◌≡◌, ◌++◌, IfOk, OnOk, map, option_map};
+ghost use Rattle.std.specs.Prelude.{◌≡◌, ◌++◌, Some, IfOk, OnOk, map, option_map};
 ghost use Rattle.std.specs.Bool.{then_some};
 ghost use Rattle.std.specs.Rc.{rc_str_bytes};
 ghost use Rattle.rdx_lang.specs.PatternView.{pattern_of, slot_of, items_of};
@@ -10,12 +10,12 @@ ghost use Rattle.rdx_patterns.specs.Heads.{patterns};
 ghost use Rattle.rdx_patterns.specs.Parts.{text_of};
 ghost use Rattle.rdx_patterns.specs.Reading as model;
 
-use crate::patterns::assembly::{assembled, named};
+use crate::patterns::assembly::{assembled, differ, named};
 use crate::patterns::heads::{Role, Roles, fits, head_among, is_pattern, next, rest, roles_of};
 use crate::patterns::kinds::kind;
 use crate::patterns::names::Names;
 use crate::patterns::position::Position;
-use crate::shape::names::{front, has_suffix};
+use crate::shape::names::{front, has_suffix, is_mismatch};
 use crate::shape::{symbol, text};
 use rdx_lang::{Item, Pat, Ref};
 use rdx_sexp::{Datum, Form};
@@ -36,6 +36,17 @@ fn base(names: &Names, text: &str) -> Result<Option<Pat>, NoMemory>
     }
 }
 
+// A symbol with a suffix behind what this pattern stands for: a mismatch name, or one that binds it.
+fn suffixed(alloc: Global, name: Name, inner: Pat) -> Result<Pat, NoMemory>
+    ensures { IfOk result (λ pat. pattern_of pat ≡ model.suffixed name (Some (pattern_of inner))) }
+{
+    if is_mismatch(name.text()) {
+        differ(alloc, name, inner)
+    } else {
+        named(alloc, name, inner)
+    }
+}
+
 // A symbol that is neither a built-in name nor a nonterminal.
 fn read_other(alloc: Global, names: &Names, name: Name) -> Result<Pat, NoMemory>
     ensures { IfOk result (λ pat. pattern_of pat ≡ model.other_symbol names.now name) }
@@ -44,7 +55,7 @@ fn read_other(alloc: Global, names: &Names, name: Name) -> Result<Pat, NoMemory>
         return Ok(Pat::Lit(Term::Sym(name)));
     }
     match base(names, front(name.text()))? {
-        Some(inner) => named(alloc, name, inner),
+        Some(inner) => suffixed(alloc, name, inner),
         None => Ok(Pat::Wild),
     }
 }

@@ -1,6 +1,6 @@
 //! The names that patterns and languages are built from.
 ghost use Rattle.std.specs.List.{starts_with};
-ghost use Rattle.std.specs.Prelude.{◌≡◌, nat_eq};
+ghost use Rattle.std.specs.Prelude.{◌≡◌, nat_eq, codes};
 ghost use Rattle.rdx_patterns.specs.Names as words;
 
 /// Whether a suffix begins somewhere.
@@ -25,6 +25,16 @@ fn begins_with(text: &str, word: &str) -> bool
     ensures { result ≡ starts_with nat_eq text.now word.now }
 {
     text.starts_with(word)
+}
+
+/// Whether the first `_` begins `_!_`: behind what patterns are built from, the symbol is a mismatch name.
+pub(crate) fn is_mismatch(text: &str) -> bool
+    ensures { result ≡ words.is_mismatch text.now }
+{
+    match text.split_once('_') {
+        Some((_, behind)) => begins_with(behind, "!_"),
+        None => false,
+    }
 }
 
 /// Whether an ellipsis stands first.
@@ -59,9 +69,23 @@ pub fn is_kept(text: &str) -> bool
     )
 }
 
-/// Whether a language or a bound name may not have this name.
+/// Whether neither what a form defines nor what is bound may have this name.
 pub fn is_bad_name(text: &str) -> bool
     ensures { result ≡ words.is_bad_name text.now }
 {
     text == "hole" || text == "_" || begins_with_dots(text)
+}
+
+// Whether `_!_` stands in the text.
+fn has_mismatch_mark(text: &str) -> bool
+    ensures { result ≡ words.occurs_in (codes "_!_") text.now }
+{
+    text.contains("_!_")
+}
+
+/// Whether nothing that is bound by `(name x p)` or `fresh` may have this name.
+pub fn is_bad_bound(text: &str) -> bool
+    ensures { result ≡ words.is_bad_bound text.now }
+{
+    is_bad_name(text) || has_mismatch_mark(text)
 }

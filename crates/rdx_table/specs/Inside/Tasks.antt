@@ -3,7 +3,7 @@ use Rattle.std.specs.Prelude.{◌≡◌, ◌+◌, ◌-◌, ◌<◌, ◌≤◌, L
 use Rattle.rdx_term.specs.Items.{tree_items}
 use Rattle.rdx_term.specs.Tree.{Tree, Trees, cons, trees}
 use Rattle.rdx_term.specs.Tree.{nil as no_trees}
-use Rattle.rdx_lang.specs.Patterns.{Pattern, wild, of_kind, except, prefix, hole, lit, nt, named, in_hole, hide_hole, closed, seq, Items, nil, one, many, Language}
+use Rattle.rdx_lang.specs.Patterns.{Pattern, wild, of_kind, except, prefix, hole, lit, nt, named, differ, in_hole, hide_hole, closed, seq, Items, nil, one, many, Language}
 use Rattle.rdx_lang.specs.PatternView.{Slot, just, repeated, items_of}
 use Rattle.rdx_lang.specs.Rules.{Match}
 use Rattle.rdx_bind.specs.Columns.{HasAsked, IsColumn}
@@ -34,6 +34,7 @@ slots_in hole = []
 slots_in (lit u) = []
 slots_in (nt x) = []
 slots_in (named x q) = []
+slots_in (differ x q) = []
 slots_in (in_hole q r) = []
 slots_in (hide_hole q) = []
 slots_in (closed q) = []

@@ -3,7 +3,7 @@ use Rattle.std.specs.Prelude.{Err}
 use Rattle.rdx_term.specs.Tree.{Tree}
 use Rattle.rdx_term.specs.View.{tree_of}
 use Rattle.rdx_lang.specs.BindingView.{pairs_of}
-use Rattle.rdx_lang.specs.Bindings.{Binding, no_names}
+use Rattle.rdx_lang.specs.Bindings.{Binding, of_pairs, no_names}
 use Rattle.rdx_lang.specs.ProgramView.{program_of}
 use Rattle.rdx_lang.specs.Programs as programs
 use Rattle.rdx_lang.specs.Shown.{binding_of}
@@ -38,7 +38,7 @@ returns-in_err-u-in-TestEqual-clause-answer g c =
     let cs : List ℕ = c.args.choices.now in
     let t : Tree = tree_of c.args.t.now in
     let k : Host = host_of c.in-TestEqual.other in
-    let empty : binding_of c.new-in-TestEqual.result ≡ no_names = c.new-in-TestEqual.ensures ∙ ap pairs_of c.new.ensures.items in
+    let empty : binding_of c.new-in-TestEqual.result ≡ no_names = c.new-in-TestEqual.ensures ∙ ap (λ ps. of_pairs (pairs_of ps)) c.new.ensures.items in
     error_tried tree_of (HostValue P k) (IsAnswerOver P cs (query_of c.args.query.now) t) c.args.out.now.items c.from_residual-in_err-u-in-TestEqual.result _
     c.from_residual-in_err-u-in-TestEqual.ensures.1
     (λ f v. subst (λ (q : Query). IsAnswerOver P cs (query_of q) t (fault_line f) false) (sym c.in-TestEqual.is) (over_fault f v refl refl))
@@ -52,7 +52,7 @@ returns-in_ok-write_equality-in-TestEqual-clause-answer g c =
     let u : Tree = tree_of c.in_ok-u-in-TestEqual.u in
     let k : Host = host_of c.in-TestEqual.other in
     let met : Bool = c.in_ok-write_equality-in-TestEqual.field-0 in
-    let empty : binding_of c.new-in-TestEqual.result ≡ no_names = c.new-in-TestEqual.ensures ∙ ap pairs_of c.new.ensures.items in
+    let empty : binding_of c.new-in-TestEqual.result ≡ no_names = c.new-in-TestEqual.ensures ∙ ap (λ ps. of_pairs (pairs_of ps)) c.new.ensures.items in
     let made : HostValue P k (value u) =
     subst (λ (b : Binding). HostMakes (calls_at P height) b k (value u)) empty c.in_ok-u-in-TestEqual.ensures.answer in
     let a : Appends (Compares (t ∷ []) (u ∷ [])) c.args.out.now.items c.write_equality.new.out.items met = c.in_ok-write_equality-in-TestEqual.ensures in

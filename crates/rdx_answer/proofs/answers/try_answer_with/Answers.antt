@@ -4,7 +4,7 @@ use Rattle.std.specs.Borrow.{Bor}
 use Rattle.rdx_term.specs.Tree.{Tree}
 use Rattle.rdx_term.specs.View.{tree_of}
 use Rattle.rdx_lang.specs.BindingView.{pairs_of}
-use Rattle.rdx_lang.specs.Bindings.{Binding, no_names}
+use Rattle.rdx_lang.specs.Bindings.{Binding, of_pairs, no_names}
 use Rattle.rdx_lang.specs.Shown.{binding_of}
 use Rattle.rdx_lang.specs.ProgramView.{program_of}
 use Rattle.rdx_lang.specs.Programs as programs
@@ -30,7 +30,7 @@ returns-in_err-t-clause-answer g c =
     let P : programs.Program = program_of (program_in c.args.engine.now).now in
     let q : model.Query = query_of c.args.query.now in
     let h : Host = host_of c.args.host.now in
-    let empty : binding_of c.new-2.result ≡ no_names = c.new-2.ensures ∙ ap pairs_of c.new.ensures.items in
+    let empty : binding_of c.new-2.result ≡ no_names = c.new-2.ensures ∙ ap (λ ps. of_pairs (pairs_of ps)) c.new.ensures.items in
     let cs : List ℕ = c.args.choices.now in
     let n : Counts = counts_of c.args.counts in
     error_tried tree_of (HostValue P h) (IsAnswer P cs n q) c.args.out.now.items c.from_residual.result _ c.from_residual.ensures.1
@@ -43,7 +43,7 @@ returns-clause-answer g c =
     let q : model.Query = query_of c.args.query.now in
     let h : Host = host_of c.args.host.now in
     let t : Tree = tree_of c.in_ok-t.t in
-    let empty : binding_of c.new-2.result ≡ no_names = c.new-2.ensures ∙ ap pairs_of c.new.ensures.items in
+    let empty : binding_of c.new-2.result ≡ no_names = c.new-2.ensures ∙ ap (λ ps. of_pairs (pairs_of ps)) c.new.ensures.items in
     let cs : List ℕ = c.args.choices.now in
     tried_over P cs (counts_of c.args.counts) q h t c.args.out.now.items c.try_answer_over.new.out.items c.try_answer_over.result c.requires.host
     (subst (λ (b : Binding). HostMakes (calls_at P height) b h (value t)) empty c.in_ok-t.ensures.answer)

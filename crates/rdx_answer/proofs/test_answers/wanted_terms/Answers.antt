@@ -4,7 +4,7 @@ use Rattle.rdx_term.specs.Tree.{Tree}
 use Rattle.rdx_term.specs.View.{tree_of}
 use Rattle.rdx_term.specs.declared.term.Term.{Term}
 use Rattle.rdx_lang.specs.BindingView.{pairs_of}
-use Rattle.rdx_lang.specs.Bindings.{Binding, no_names}
+use Rattle.rdx_lang.specs.Bindings.{Binding, of_pairs, no_names}
 use Rattle.rdx_lang.specs.ProgramView.{program_of}
 use Rattle.rdx_lang.specs.Programs as programs
 use Rattle.rdx_lang.specs.Shown.{binding_of}
@@ -39,7 +39,7 @@ returns-in_err-term-clause-answer g c =
     let R : Host → Answer (List Tree) → Type 0 = λ h. Single (HostValue P h) in
     let xs : List HostExpr = c.args.hosts.now in
     let x = c.host-item.result in
-    let empty : binding_of c.new-in-loop-host.result ≡ no_names = c.new-in-loop-host.ensures ∙ ap pairs_of c.new.ensures.items in
+    let empty : binding_of c.new-in-loop-host.result ≡ no_names = c.new-in-loop-host.ensures ∙ ap (λ ps. of_pairs (pairs_of ps)) c.new.ensures.items in
     error_said_on tree_of terms_in
     (HostMakes (calls_at (program_of (program_in c.loop-host.engine).now) height) (binding_of c.new-in-loop-host.result) (host_of x))
     (HostValues P (map host_of xs)) c.from_residual.result _ c.from_residual.ensures.1
@@ -56,7 +56,7 @@ loop-host-preserved g c =
     let xs : List HostExpr = c.args.hosts.now in
     let x = c.host-item.result in
     let t : Tree = tree_of c.in_ok-term.term in
-    let empty : binding_of c.new-in-loop-host.result ≡ no_names = c.new-in-loop-host.ensures ∙ ap pairs_of c.new.ensures.items in
+    let empty : binding_of c.new-in-loop-host.result ≡ no_names = c.new-in-loop-host.ensures ∙ ap (λ ps. of_pairs (pairs_of ps)) c.new.ensures.items in
     let made : HostValue P (host_of x) (value t) =
     subst (λ (b : Binding). HostMakes (calls_at P height) b (host_of x) (value t)) empty
     (subst (λ (p : Bor Program). HostMakes (calls_at (program_of p.now) height) (binding_of c.new-in-loop-host.result) (host_of x) (value t))

@@ -22,7 +22,7 @@ loop-binding-preserved c =
     let more : List Binding = bindings_of (drop (c.loop-binding.binding-index + 1) xs) in
     let e : bindings_of (drop c.loop-binding.binding-index xs) ≡ b ∷ more =
     rest_at binding_of xs c.loop-binding.binding-index c.binding-item.result c.loop-binding-test.true c.binding-item.is in
-    let f : v ≡ (pair_at n b).1 = c.in_ok-value.ensures ∙ c.value_at.ensures in
+    let f : v ≡ (pair_at n b.pairs).1 = c.in_ok-value.ensures ∙ c.value_at.ensures in
     let g : column n (bindings_of (drop c.loop-binding.binding-index xs)) ≡ v ∷ column n more =
     ap (column n) e ∙ ap (λ (w : Value). w ∷ column n more) (sym f) in
     let h : map value_of c.push.new.self.items ≡ done ++ v ∷ [] = grind (arith, common_steps) in

@@ -1,20 +1,21 @@
-use Rattle.std.proofs.Common.{◌≡◌, ◌+◌, ℕ, List, [], ◌∷◌, length, Option, subst, arith}
+use Rattle.std.proofs.Common.{◌≡◌, ◌+◌, ◌∙◌, ℕ, List, [], ◌∷◌, length, Option, sym, ap, subst, arith}
 use Rattle.std.proofs.lemmas.Grind.{common_steps}
 use Rattle.std.proofs.lemmas.List.{length-map, nil_from_length}
 use Rattle.std.proofs.lemmas.Result.{IfOk-weaker}
+use Rattle.rdx_lang.specs.BindingView.{mismatches_of}
 use Rattle.rdx_lang.specs.Bindings.{Binding, no_names}
 use Rattle.rdx_lang.specs.Collecting.{Arises, HasExactly}
 use Rattle.rdx_lang.specs.Shown.{binding_of, bindings_of}
-use Rattle.rdx_bind.specs.Choices.{IsChoice, IsLonger, IsCounted, RowsBind, length_name}
+use Rattle.rdx_bind.specs.Choices.{IsChoice, IsLonger, IsCounted, RowsArePlain, RowsBind, length_name}
 use Rattle.rdx_bind.specs.Combining.{rows_of}
 use Rattle.rdx_bind.specs.Ends.{rows_around}
 use Rattle.rdx_bind.specs.Rows.{SplitRow, all_matches, split_row_of, split_rows_of}
-use Rattle.rdx_bind.proofs.Repeating.{all_choices, choices_around, choices_bind, repeats_exactly, repeats_unnamed, around_length}
+use Rattle.rdx_bind.proofs.Repeating.{all_choices, choices_around, choices_bind, repeats_exactly, repeats_unnamed, around_length, around_plain}
 use Rattle.rdx_bind.proofs.repetition.bound_around.Goals as goal
 use Rattle.rdx_bind.proofs.repetition.bound_around.Goals.{In_ok-lists}
 
-pub returns-then-is_empty : goal.returns-then-is_empty
-returns-then-is_empty c =
+pub returns-then-is_empty-2 : goal.returns-then-is_empty-2
+returns-then-is_empty-2 c =
     let xs : List (List ℕ) = c.args.repetition.names.now in
     let x : Option (List ℕ) = length_name c.args.repetition.length in
     let before : List SplitRow = split_rows_of c.args.before.now in
@@ -25,7 +26,10 @@ returns-then-is_empty c =
     let f : length before ≡ length c.args.before.now = length-map c.args.before.now split_row_of in
     let g : length between ≡ length c.args.between.now = length-map c.args.between.now split_row_of in
     let many : c.args.turns ≡ length rows = omega arith in
-    IfOk-weaker c.bound_unnamed.result _ _ (λ v h. repeats_unnamed xs x rows (bindings_of v.items) (nil_from_length xs n) c.requires.bound c.requires.full
+    let none : length c.differs.result.now ≡ 0 = grind (arith, common_steps) in
+    let alone : (binding_of c.args.turn.now).differs ≡ [] = sym c.differs.ensures.value ∙ ap mismatches_of (nil_from_length c.differs.result.now none) in
+    let plain : RowsArePlain rows = around_plain before (binding_of c.args.turn.now) between (c.requires.before cc) alone (c.requires.between cc) in
+    IfOk-weaker c.bound_unnamed.result _ _ (λ v h. repeats_unnamed xs x rows (bindings_of v.items) (nil_from_length xs n) c.requires.bound plain c.requires.full
     (subst (λ (m : ℕ). HasExactly (bindings_of v.items) (IsCounted no_names m x)) many h)) c.bound_unnamed.ensures
 
 -- the lists are the choices

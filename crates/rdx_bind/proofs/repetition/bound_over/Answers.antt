@@ -20,7 +20,7 @@ returns-then-is_empty c =
     let n : length xs ≡ 0 = grind (arith, common_steps) in
     let many : length c.args.cells.now ≡ length rows =
     sym (length-map cells (λ (row : SplitRow). row.matches) ∙ length-map c.args.cells.now split_row_of) in
-    IfOk-weaker c.bound_unnamed.result _ _ (λ v h. repeats_unnamed xs x rows (bindings_of v.items) (nil_from_length xs n) c.requires.bound c.requires.full
+    IfOk-weaker c.bound_unnamed.result _ _ (λ v h. repeats_unnamed xs x rows (bindings_of v.items) (nil_from_length xs n) c.requires.bound (c.requires.plain cc) c.requires.full
     (subst (λ (m : ℕ). HasExactly (bindings_of v.items) (IsCounted no_names m x)) many h)) c.bound_unnamed.ensures
 
 pub bound_in-requires-clause-bound : goal.bound_in-requires-clause-bound

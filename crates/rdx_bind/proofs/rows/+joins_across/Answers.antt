@@ -2,7 +2,7 @@ use Rattle.std.proofs.Common.{◌≡◌, ◌++◌, ◌∷◌, List, [], length, 
 use Rattle.std.proofs.lemmas.Result.{IfOk-weaker}
 use Rattle.std.specs.declared.alloc.Global.{Global}
 use Rattle.rdx_lang.proofs.Collecting.{listing_across_none}
-use Rattle.rdx_lang.specs.Bindings.{Binding}
+use Rattle.rdx_lang.specs.Bindings.{Binding, no_names}
 use Rattle.rdx_lang.specs.Join.{IsJoin}
 use Rattle.rdx_lang.specs.Listing.{IsListing}
 use Rattle.rdx_lang.specs.Members.{In}
@@ -16,7 +16,7 @@ use Rattle.rdx_bind.proofs.rows.+joins_across.Goals as goal
 pub returns-in-empty : goal.returns-in-empty
 returns-in-empty t c =
     let e : rows_of c.args.rows.now ≡ [] = map_none (λ (row : Vec code.Binding Global). bindings_of row.items) c.args.rows.now c.in-empty.len_below in
-    IfOk-weaker c.empty_where.result _ _ (λ v f. subst (λ (rows : List (List Binding)). IsListing binding_cmp (bindings_of v.items) (JoinsAcross rows)) (sym e) (listing_across_none IsJoin [] (bindings_of v.items) f)) c.empty_where.ensures
+    IfOk-weaker c.empty_where.result _ _ (λ v f. subst (λ (rows : List (List Binding)). IsListing binding_cmp (bindings_of v.items) (JoinsAcross rows)) (sym e) (listing_across_none IsJoin no_names (bindings_of v.items) f)) c.empty_where.ensures
 
 pub returns-in_ok-shared_bindings-in-len1 : goal.returns-in_ok-shared_bindings-in-len1
 returns-in_ok-shared_bindings-in-len1 t c =

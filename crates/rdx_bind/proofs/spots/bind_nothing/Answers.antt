@@ -3,7 +3,7 @@ use Rattle.std.proofs.lemmas.Grind.{common_steps}
 use Rattle.rdx_lang.proofs.Collecting.{In_along, no_member}
 use Rattle.rdx_lang.proofs.Rest.{rest_at, rest_none}
 use Rattle.std.proofs.lemmas.List.{nil_from_length}
-use Rattle.rdx_lang.specs.BindingView.{pairs_of}
+use Rattle.rdx_lang.specs.BindingView.{pairs_of, mismatches_of}
 use Rattle.rdx_lang.specs.Bindings.{no_names}
 use Rattle.rdx_lang.specs.Members.{In, here, there}
 use Rattle.rdx_bind.specs.Spots.{Spot, spot_of, spots_of}
@@ -27,7 +27,10 @@ loop-spot-preserved c s h =
     let e : spots_of (drop c.loop-spot.spot-index xs) ≡ u ∷ spots_of (drop (c.loop-spot.spot-index + 1) xs) =
     rest_at spot_of xs c.loop-spot.spot-index c.spot-item.result c.loop-spot-test.true c.spot-item.is in
     let n : length c.pairs.result.now ≡ 0 = grind (arith, common_steps) in
-    let f : u.binding ≡ no_names = sym c.pairs.ensures.value ∙ ap pairs_of (nil_from_length c.pairs.result.now n) in
+    let m : length c.differs.result.now ≡ 0 = grind (arith, common_steps) in
+    let none : u.binding.pairs ≡ [] = sym c.pairs.ensures.value ∙ ap pairs_of (nil_from_length c.pairs.result.now n) in
+    let alone : u.binding.differs ≡ [] = sym c.differs.ensures.value ∙ ap mismatches_of (nil_from_length c.differs.result.now m) in
+    let f : u.binding ≡ no_names = λ i. record { pairs = none i; differs = alone i } in
     passed s u (spots_of (drop (c.loop-spot.spot-index + 1) xs)) f (rw e at (c.loop-spot.invariant s h))
 
 pub returns : goal.returns

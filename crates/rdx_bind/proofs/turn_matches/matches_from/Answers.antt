@@ -11,7 +11,7 @@ use Rattle.rdx_bind.specs.Ends.{HasMatches, IsReached, row_at, MatchesUpTo, Matc
 use Rattle.rdx_bind.specs.Rows.{SplitRow, all_matches, split_row_of, split_rows_of}
 use Rattle.rdx_bind.proofs.Gathering.{exactly_added}
 use Rattle.rdx_bind.proofs.RunEnds.{reached_bound, reached_full, turns_by_ends}
-use Rattle.rdx_bind.proofs.TurnRows.{at_place, first_rows, row_found, rows_bind, take-in}
+use Rattle.rdx_bind.proofs.TurnRows.{at_place, first_rows, row_found, rows_bind, take-in, take_plain}
 use Rattle.rdx_bind.proofs.turn_matches.matches_from.Goals as goal
 use Rattle.rdx_bind.proofs.turn_matches.matches_from.Goals.{In-loop-end}
 
@@ -39,6 +39,10 @@ add_turns-requires-clause-bound c =
     let n : ℕ = length c.args.cells.now - get_or c.args.ends.now c.loop-end.end-index 0 in
     rows_bind c.args.repetition.names.now cells (split_rows_of (take n c.args.cells.now)) c.requires.bound
     (λ cell i. take-in n cells cell (In_along (split_rows_of (take n c.args.cells.now)) (take n cells) (first_rows c.args.cells.now n) i))
+
+pub add_turns-requires-clause-plain : goal.add_turns-requires-clause-plain
+add_turns-requires-clause-plain c =
+    take_plain c.args.plain c.args.cells.now (length c.args.cells.now - get_or c.args.ends.now c.loop-end.end-index 0) c.requires.plain
 
 pub add_turns-requires-clause-full : goal.add_turns-requires-clause-full
 add_turns-requires-clause-full c =

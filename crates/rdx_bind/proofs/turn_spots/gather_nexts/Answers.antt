@@ -10,7 +10,7 @@ use Rattle.rdx_bind.specs.Spots.{Spot, spots_of}
 use Rattle.rdx_bind.specs.Splitting.{gathered_spots}
 use Rattle.rdx_bind.proofs.Gathering.{adds_exactly}
 use Rattle.rdx_bind.proofs.RunEnds.{reached_bound, reached_full}
-use Rattle.rdx_bind.proofs.TurnRows.{at_place, first_rows, rows_bind, split_next_at, take-in}
+use Rattle.rdx_bind.proofs.TurnRows.{at_place, first_rows, rows_bind, split_next_at, take-in, take_plain}
 use Rattle.rdx_bind.proofs.turn_spots.gather_nexts.Goals as goal
 use Rattle.rdx_bind.proofs.turn_spots.gather_nexts.Goals.{In-loop-place}
 
@@ -38,6 +38,10 @@ next_spots-requires-clause-bound c =
     let n : ℕ = length c.args.cells.now - get_or c.args.split_nexts.now c.loop-place.place-index 0 in
     rows_bind c.args.repetition.names.now cells (split_rows_of (take n c.args.cells.now)) c.requires.bound
     (λ cell i. take-in n cells cell (In_along (split_rows_of (take n c.args.cells.now)) (take n cells) (first_rows c.args.cells.now n) i))
+
+pub next_spots-requires-clause-plain : goal.next_spots-requires-clause-plain
+next_spots-requires-clause-plain c =
+    take_plain c.args.plain c.args.cells.now (length c.args.cells.now - get_or c.args.split_nexts.now c.loop-place.place-index 0) c.requires.plain
 
 pub next_spots-requires-clause-full : goal.next_spots-requires-clause-full
 next_spots-requires-clause-full c =

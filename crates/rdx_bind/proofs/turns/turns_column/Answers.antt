@@ -8,7 +8,7 @@ use Rattle.rdx_bind.specs.declared.asks.Ask.{Ask}
 use Rattle.rdx_bind.specs.declared.asks.Ask.TheVariants.{Nothing}
 use Rattle.rdx_bind.proofs.TurnLoop.{rows_reversed, row_put, from_place, from_last, rows_from_place, rows_from_last, rows_behind}
 use Rattle.rdx_bind.proofs.TurnLoop.{IsTurnRow, last_column, more_column}
-use Rattle.rdx_bind.proofs.TurnRows.{drop_binds}
+use Rattle.rdx_bind.proofs.TurnRows.{drop_binds, drop_plain}
 use Rattle.rdx_bind.proofs.turns.turns_column.Goals as goal
 use Rattle.rdx_bind.proofs.turns.turns_column.Goals.{In_ok-step}
 
@@ -34,6 +34,15 @@ ways_there c =
     c.in_ok-step.ensures cells nexts m c.loop-i.invariant.ways in
     subst (λ (cs : List SplitRow). AreWays cs (split_rows_of (drop k c.args.nexts.now)) c.step.new.self.ends.items c.step.new.self.split_ends.items c.step.new.self.split_nexts.items) (sym e)
     (subst (λ (ns : List SplitRow). AreWays (cell ∷ cells) ns c.step.new.self.ends.items c.step.new.self.split_ends.items c.step.new.self.split_nexts.items) (sym f) w)
+
+pub row_from-requires-clause-plain : goal.row_from-requires-clause-plain
+row_from-requires-clause-plain c =
+    rw (take_rest c.args.cells.now (length c.args.cells.now)) (drop_plain c.rows_are_plain-plain.result c.args.cells.now (length c.args.cells.now) c.rows_are_plain-plain.ensures)
+
+pub row_from-requires-in-loop-i-clause-plain : goal.row_from-requires-in-loop-i-clause-plain
+row_from-requires-in-loop-i-clause-plain c =
+    let k : ℕ = c.loop-i.i - 1 in
+    rw (take_rest c.args.cells.now k) (drop_plain c.rows_are_plain-plain.result c.args.cells.now k c.rows_are_plain-plain.ensures)
 
 pub row_from-requires-in-loop-i-clause-bound : goal.row_from-requires-in-loop-i-clause-bound
 row_from-requires-in-loop-i-clause-bound c =

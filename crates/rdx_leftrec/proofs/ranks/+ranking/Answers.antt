@@ -1,10 +1,10 @@
 use Rattle.std.proofs.Common.{◌≡◌, ℕ, ◌+◌, Bool, List, [], ◌∷◌, ◌++◌, length, map, max, sym, ◌∙◌, ap, append_assoc, append-nil, inl, inr, arith, if◌then◌else◌}
 use Rattle.std.proofs.lemmas.Grind.{common_steps}
-use Rattle.rdx_lang.proofs.PatternEquations.{pattern_nt, pattern_named, pattern_in_hole, pattern_hide_hole, pattern_closed, pattern_seq}
+use Rattle.rdx_lang.proofs.PatternEquations.{pattern_nt, pattern_named, pattern_differ, pattern_in_hole, pattern_hide_hole, pattern_closed, pattern_seq}
 use Rattle.rdx_lang.specs.Empty.{is_empty}
 use Rattle.rdx_lang.specs.LeftNumbers.{left_number}
 use Rattle.rdx_lang.specs.PatternView.{pattern_of, language_of, slot_of, items_of}
-use Rattle.rdx_lang.specs.Patterns.{Pattern, nt, named, in_hole, hide_hole, closed, seq, Items, Language}
+use Rattle.rdx_lang.specs.Patterns.{Pattern, nt, named, differ, in_hole, hide_hole, closed, seq, Items, Language}
 use Rattle.rdx_lang.specs.declared.pattern.Ref.{Ref}
 use Rattle.rdx_leftrec.specs.Inside.EmptyRules.{empty_by}
 use Rattle.rdx_leftrec.specs.Inside.Numbers.{number_in}
@@ -42,9 +42,14 @@ rank_nodes-returns-in_ok-root-in-Named-clause-ranks t c =
       | inl i ↦
           let e : pattern_of c.args.pat.now ≡ named i.0 q = ap pattern_of i.1 ∙ pattern_named i.0 c.in-Named.inner ∙ ap (λ p. named i.0 (pattern_of p)) (sym c.deref-in-Named.ensures) in
           v ∙ ap (λ (p : Pattern). old ++ pattern_ranks E R p) (sym e)
-      | inr i ↦
-          let e : pattern_of c.args.pat.now ≡ closed q = ap pattern_of i ∙ pattern_closed c.in-Named.inner ∙ ap (λ p. closed (pattern_of p)) (sym c.deref-in-Named.ensures) in
-          v ∙ ap (λ (p : Pattern). old ++ pattern_ranks E R p) (sym e)
+      | inr j ↦ elim j [
+        | inl i ↦
+            let e : pattern_of c.args.pat.now ≡ closed q = ap pattern_of i ∙ pattern_closed c.in-Named.inner ∙ ap (λ p. closed (pattern_of p)) (sym c.deref-in-Named.ensures) in
+            v ∙ ap (λ (p : Pattern). old ++ pattern_ranks E R p) (sym e)
+        | inr i ↦
+            let e : pattern_of c.args.pat.now ≡ differ i.0 q = ap pattern_of i.1 ∙ pattern_differ i.0 c.in-Named.inner ∙ ap (λ p. differ i.0 (pattern_of p)) (sym c.deref-in-Named.ensures) in
+            v ∙ ap (λ (p : Pattern). old ++ pattern_ranks E R p) (sym e)
+      ]
     ]
 
 pub rank_nodes-returns-in_ok-root-in-HideHole-clause-ranks : goal.rank_nodes-returns-in_ok-root-in-HideHole-clause-ranks

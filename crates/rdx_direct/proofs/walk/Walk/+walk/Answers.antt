@@ -18,7 +18,7 @@ use Rattle.rdx_lang.specs.Rules.{Match}
 use Rattle.rdx_lang.specs.Shown.{bindings_of}
 use Rattle.rdx_bind.proofs.AcrossRows.{bindings_are_maps}
 use Rattle.rdx_bind.proofs.AnyOf.{untried_first, untried_next, untried_none}
-use Rattle.rdx_direct.proofs.GoingLaws.{alone_at, alone_nt, alone_closed, fits_alone, fits_hidden, goes_at, goes_alone, goes_hidden, goes_named, fits_found}
+use Rattle.rdx_direct.proofs.GoingLaws.{alone_at, alone_nt, alone_closed, fits_alone, fits_hidden, goes_at, goes_alone, goes_hidden, goes_under, fits_found}
 use Rattle.std.proofs.lemmas.Grind.{common_steps}
 use Rattle.std.proofs.Common.{IsTrue}
 use Rattle.std.specs.Prelude.{◌↔◌}
@@ -26,6 +26,7 @@ use Rattle.rdx_term.specs.Tree.{Tree, Contents, list, trees}
 use Rattle.rdx_term.specs.View.{trees_of}
 use Rattle.rdx_lang.proofs.ItemsAhead.{ahead-one}
 use Rattle.rdx_bind.proofs.PartListings.{no_bindings}
+use Rattle.rdx_bind.specs.Namings.{naming_of}
 use Rattle.rdx_direct.proofs.GoingLaws.{fits_false, is_zero, rest_done, rest_more}
 use Rattle.rdx_direct.proofs.ItemLaws.{fits_short, fits_not, fits_next, fits_end, still_short, still_next, still_nothing, still_done, goes_list, list_fits}
 use Rattle.rdx_direct.specs.Inside.Going.{Alone, Fits, Goes}
@@ -54,7 +55,7 @@ go-returns-in-Some t c =
 
 pub go_named-returns : goal.go_named-returns
 go_named-returns t c =
-    IfOk-weaker c.with.result _ _ (λ v h. goes_named (bindings_of c.args.given.items) (bindings_of c.in_ok-found.found.items) (bindings_of v.items) (bindings_are_maps c.args.given.items) c.in_ok-found.ensures h) c.with.ensures
+    IfOk-weaker c.with.result _ _ (λ v h. goes_under (naming_of c.args.name) (bindings_of c.args.given.items) (bindings_of c.in_ok-found.found.items) (bindings_of v.items) (bindings_are_maps c.args.given.items) c.in_ok-found.ensures h) c.with.ensures
 
 pub some-returns : goal.some-returns
 some-returns t c =
@@ -418,6 +419,12 @@ fits_nt-returns = knowing.fits_nt-returns
 
 pub fits_plain-returns-in-List : goal.fits_plain-returns-in-List
 fits_plain-returns-in-List = knowing.fits_plain-returns-in-List
+
+pub fits_nameless-returns-then-not-branch : goal.fits_nameless-returns-then-not-branch
+fits_nameless-returns-then-not-branch = knowing.fits_nameless-returns-then-not-branch
+
+pub fits_nameless-returns-then-are_plain : goal.fits_nameless-returns-then-are_plain
+fits_nameless-returns-then-are_plain = knowing.fits_nameless-returns-then-are_plain
 
 pub go-returns-in_ok-any-in-Nt : goal.go-returns-in_ok-any-in-Nt
 go-returns-in_ok-any-in-Nt = knowing.go-returns-in_ok-any-in-Nt

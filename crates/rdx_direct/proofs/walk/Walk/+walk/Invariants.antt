@@ -226,3 +226,6 @@ decreases-reach_nt l = 16 * l.room.left + 11
 
 abbrev pub decreases-go_with_context : goal.decreases-go_with_context
 decreases-go_with_context l = 16 * l.room.left + 1
+
+abbrev pub decreases-fits_nameless : goal.decreases-fits_nameless
+decreases-fits_nameless l = 16 * l.room.left + 6

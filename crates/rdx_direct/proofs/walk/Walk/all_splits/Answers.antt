@@ -5,7 +5,7 @@ use Rattle.rdx_lang.proofs.PatternEquations.{pattern_named}
 use Rattle.rdx_lang.specs.Checked.{language_in}
 use Rattle.rdx_lang.specs.Collecting.{Arises, HasExactly}
 use Rattle.rdx_lang.specs.Decompositions.{Decomposition}
-use Rattle.rdx_lang.specs.Listing.{SplitsInto}
+use Rattle.rdx_lang.specs.Listing.{SplitsVisibly}
 use Rattle.rdx_lang.specs.Patterns.{Pattern, Language, named}
 use Rattle.rdx_lang.specs.PatternView.{pattern_of}
 use Rattle.rdx_lang.specs.Shown.{decompositions_of}
@@ -24,7 +24,7 @@ returns-in-Named c =
     let e : pattern_of c.args.pat.now ≡ named x p = ap pattern_of c.in-Named.is ∙ pattern_named c.in-Named.name c.in-Named.part ∙ ap (λ q. named x (pattern_of q)) (sym c.deref.ensures) in
     let ds : List Decomposition = decompositions_of c.in_ok-named_splits.field-0.items in
     let h : HasExactly ds (Arises (IsNamedSplit x t) (paths_in c.in_ok-paths.paths.items)) = subst (λ ws. HasExactly ds (Arises (IsNamedSplit x t) (paths_in ws))) c.deref-in-Named.ensures.value c.in_ok-named_splits.ensures in
-    subst (λ q. HasExactly ds (SplitsInto L q t)) (sym e)
+    subst (λ q. HasExactly ds (SplitsVisibly L q t)) (sym e)
     (named_splits_into (λ w k. split_there c.in_ok-paths.ensures.plain k) (λ w b s. record { binding = b; split = s; wanted = tt }) (paths_in c.in_ok-paths.paths.items) c.in_ok-paths.ensures.paths c.in_ok-paths.ensures.plain h)
 
 pub returns : goal.returns

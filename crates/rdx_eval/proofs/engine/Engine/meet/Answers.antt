@@ -1,7 +1,7 @@
 use Rattle.std.proofs.Common.{◌≡◌, List, Option, refl, ◌∙◌, ap, subst}
 use Rattle.std.specs.Borrow.{Bor}
 use Rattle.std.specs.Prelude.{Err}
-use Rattle.rdx_lang.specs.Bindings.{Binding, no_names}
+use Rattle.rdx_lang.specs.Bindings.{Binding, of_pairs, no_names}
 use Rattle.rdx_lang.specs.BindingView.{pairs_of}
 use Rattle.rdx_lang.specs.Checked.{language_in}
 use Rattle.rdx_lang.specs.Patterns.{Language}
@@ -40,7 +40,7 @@ returns-in_err-found-clause-answer g c =
     let q : Premise = premise_of c.args.premise.now in
     let b : Binding = binding_of c.new-none.result in
     let S = c.new-setting.result.program in
-    let n : b ≡ no_names = c.new-none.ensures ∙ ap pairs_of c.new.ensures.items in
+    let n : b ≡ no_names = c.new-none.ensures ∙ ap (λ ps. of_pairs (pairs_of ps)) c.new.ensures.items in
     told_on bindings_in bindings_in (MeetsOver (language_named P c.args.language.now) C q)
     c.from_residual-in_err-found.result c.in_err-found.field-0.0 c.from_residual-in_err-found.ensures.1
     (subst (λ (o : Option Language). Tells bindings_in (MeetsOver o C q) (Err c.in_err-found.field-0.0)) (c.in-Some-language_named.ensures ∙ ap (λ (p : Bor code_program.Program). language_named (program_of p.now) c.args.language.now) c.order_names.ensures.same)
@@ -59,7 +59,7 @@ returns-clause-answer g c =
     let q : Premise = premise_of c.args.premise.now in
     let b : Binding = binding_of c.new-none.result in
     let bs : List Binding = bindings_in c.in_ok-found.field-0 in
-    let n : b ≡ no_names = c.new-none.ensures ∙ ap pairs_of c.new.ensures.items in
+    let n : b ≡ no_names = c.new-none.ensures ∙ ap (λ ps. of_pairs (pairs_of ps)) c.new.ensures.items in
     let h : ByPremise L C q no_names (value bs) =
     subst (λ (d : Binding). ByPremise L C q d (value bs)) n
     (subst (λ (p : Bor code_program.Program). ByPremise L (calls_at (program_of p.now) height) q b (value bs)) (c.new-setting.ensures ∙ c.order_names.ensures.same)

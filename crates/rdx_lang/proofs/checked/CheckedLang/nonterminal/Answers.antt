@@ -1,4 +1,4 @@
-use Rattle.std.proofs.Common.{◌≡◌, ℕ, List, map, length, get_or, sym, ◌∙◌, ap, subst}
+use Rattle.std.proofs.Common.{◌≡◌, List, map, sym, ◌∙◌, ap, subst}
 use Rattle.std.specs.Prelude.{◌↔◌, Vec}
 use Rattle.std.specs.declared.alloc.Global.{Global}
 use Rattle.rdx_lang.specs.Checked.{language_in}
@@ -7,7 +7,7 @@ use Rattle.rdx_lang.specs.Lookup.{alternatives_of}
 use Rattle.rdx_lang.specs.Members.{In}
 use Rattle.rdx_lang.specs.Patterns.{Pattern, Definition, Language}
 use Rattle.rdx_lang.specs.PatternView.{definition_of, patterns_of}
-use Rattle.rdx_lang.specs.Rules.{AreAlternatives, IsAlternative}
+use Rattle.rdx_lang.specs.Rules.{IsAlternative}
 use Rattle.rdx_lang.specs.declared.facts.Known.{Known}
 use Rattle.rdx_lang.specs.declared.pattern.Pat.{Pat}
 use Rattle.rdx_lang.specs.declared.pattern.Ref.{Ref}

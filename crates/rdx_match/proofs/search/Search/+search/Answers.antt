@@ -66,6 +66,9 @@ match_named-returns = matching.match_named-returns
 pub matches-returns-in-Named : goal.matches-returns-in-Named
 matches-returns-in-Named = matching.matches-returns-in-Named
 
+pub matches-returns-in-Differ : goal.matches-returns-in-Differ
+matches-returns-in-Differ = matching.matches-returns-in-Differ
+
 pub matches-returns-in-Seq : goal.matches-returns-in-Seq
 matches-returns-in-Seq = matching.matches-returns-in-Seq
 

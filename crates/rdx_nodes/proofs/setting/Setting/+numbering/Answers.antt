@@ -1,13 +1,14 @@
 use Rattle.std.proofs.Common.{◌≡◌, ◌+◌, [], ℕ, List, true, false, length, map, drop, sym, ◌∙◌, ap, subst, append-nil, Bool, HashMap, Bor, option_copied}
 use Rattle.rdx_term.specs.View.{tree_of}
 use Rattle.rdx_lang.specs.Members.{In}
-use Rattle.rdx_lang.specs.Patterns.{Pattern, wild, of_kind, except, prefix, hole, lit, nt, named, in_hole, hide_hole, closed, seq}
+use Rattle.rdx_lang.specs.Mismatches.{has_differ}
+use Rattle.rdx_lang.specs.Patterns.{Pattern, wild, of_kind, except, prefix, hole, lit, nt, named, differ, in_hole, hide_hole, closed, seq}
 use Rattle.rdx_lang.specs.PatternView.{Slot, just, repeated, pattern_of, slot_of, items_of}
-use Rattle.rdx_lang.proofs.PatternEquations.{pattern_wild, pattern_kind, pattern_except, pattern_prefix, pattern_hole, pattern_lit, pattern_nt, pattern_named, pattern_in_hole, pattern_hide_hole, pattern_closed, pattern_seq, slot_one, slot_many}
+use Rattle.rdx_lang.proofs.PatternEquations.{pattern_wild, pattern_kind, pattern_except, pattern_prefix, pattern_hole, pattern_lit, pattern_nt, pattern_named, pattern_differ, pattern_in_hole, pattern_hide_hole, pattern_closed, pattern_seq, slot_one, slot_many}
 use Rattle.rdx_lang.proofs.Rest.{rest_at, rest_none}
 use Rattle.rdx_nodes.specs.Nodes.{pattern_at, slots_at, AreEntries}
 use Rattle.rdx_nodes.specs.Settings.{patterns_at_hand}
-use Rattle.rdx_nodes.specs.Inside.Forgetting.{binders, Forgets, ForgetsItems, forgets_wild, forgets_kind, forgets_except, forgets_prefix, forgets_hole, forgets_lit, forgets_nt, forgets_named, keeps_named, forgets_in_hole, forgets_hide_hole, forgets_seq, forgets_nil}
+use Rattle.rdx_nodes.specs.Inside.Forgetting.{binders, Forgets, ForgetsItems, forgets_wild, forgets_kind, forgets_except, forgets_prefix, forgets_hole, forgets_lit, forgets_nt, forgets_named, keeps_named, forgets_differ, forgets_in_hole, forgets_hide_hole, forgets_seq, forgets_nil}
 use Rattle.rdx_nodes.specs.Inside.Numbering.{ForgetsSlot, forgets_just, forgets_repeated}
 use Rattle.rdx_nodes.specs.Inside.Once.{bytes_of, is_once, AreTold, Tells}
 use Rattle.rdx_nodes.specs.declared.node.Entry.{Entry}
@@ -143,6 +144,15 @@ number-returns-in-Named-clause-pattern t c =
     left-through m m c.number_named.result (patterns_at_hand c.number_named.new.self) (pattern_of c.args.pat.now) (named x q)
     (λ n h xs told. by_same e (h xs told)) c.number_named.ensures.pattern
 
+pub number-returns-in_ok-part-in-Differ-clause-pattern : goal.number-returns-in_ok-part-in-Differ-clause-pattern
+number-returns-in_ok-part-in-Differ-clause-pattern t c =
+    let x : List ℕ = c.in-Differ.name in
+    let e : pattern_of c.args.pat.now ≡ differ x (pattern_of c.deref-in-Differ.result.now) = ap pattern_of c.in-Differ.is
+    ∙ pattern_differ x c.in-Differ.inner ∙ ap (λ p. differ x (pattern_of p)) (sym c.deref-in-Differ.ensures) in
+    left-made c.args.once.now.told c.push-in-Differ.result (patterns_at_hand c.push-in-Differ.new.self) (pattern_of c.args.pat.now)
+    (differ x (pattern_at (patterns_at_hand c.number.new.self) c.in_ok-part-in-Differ.part))
+    (λ xs told. by_same e (forgets_differ (c.in_ok-part-in-Differ.ensures.pattern xs told))) c.push-in-Differ.ensures.pattern
+
 pub number-returns-in-Closed-clause-pattern : goal.number-returns-in-Closed-clause-pattern
 number-returns-in-Closed-clause-pattern t c =
     let q = pattern_of c.deref-in-Closed.result.now in
@@ -170,16 +180,17 @@ number_named-returns-clause-pattern t c =
     (named x (pattern_at (patterns_at_hand c.number-2.new.self) c.in_ok-part.part))
     (λ xs told. keeps_named (absent m xs x told o) (c.in_ok-part.ensures.pattern xs told)) c.push.ensures.pattern
 
-pub number_closed-returns-then-has_all-clause-pattern : goal.number_closed-returns-then-has_all-clause-pattern
-number_closed-returns-then-has_all-clause-pattern t c =
+pub number_closed-returns-then-not-has_differ-clause-pattern : goal.number_closed-returns-then-not-has_differ-clause-pattern
+number_closed-returns-then-not-has_differ-clause-pattern t c =
     let m = c.in_ok-once.once.told in
     let q = pattern_of c.args.inner.now in
     let b : bytes_of c.in_ok-places.places.items ≡ binders q = c.in_ok-places.ensures in
     let tells : Tells m (binders q) = subst (λ (zs : List (List ℕ)). Tells m zs) (ap bytes_of c.deref.ensures.value ∙ b)
     c.in_ok-once.ensures.told in
+    let plain : has_differ q ≡ false = sym c.has_differ.ensures ∙ c.if-not-has_differ.true in
     left-open m c.number.result (patterns_at_hand c.number.new.self) q tells
     (λ x h. c.has_all.ensures c.if-has_all.true x
-    (subst (λ (zs : List (List ℕ)). In x zs) (sym (ap bytes_of c.deref-2.ensures.value ∙ b)) h)) c.number.ensures.pattern
+    (subst (λ (zs : List (List ℕ)). In x zs) (sym (ap bytes_of c.deref-2.ensures.value ∙ b)) h)) plain c.number.ensures.pattern
 
 pub number_closed-returns-clause-pattern : goal.number_closed-returns-clause-pattern
 number_closed-returns-clause-pattern t c =
@@ -192,8 +203,8 @@ number_closed-returns-clause-pattern t c =
 
 pub number-returns-in_ok-right-in-InHole-clause-pattern : goal.number-returns-in_ok-right-in-InHole-clause-pattern
 number-returns-in_ok-right-in-InHole-clause-pattern t c =
-    let s = c.number.new.self in
-    let u = c.number-in-InHole.new.self in
+    let s = c.number-in-InHole.new.self in
+    let u = c.number-in-InHole-2.new.self in
     let j : ℕ = c.in_ok-left-in-InHole.left in
     let k : ℕ = c.in_ok-right-in-InHole.right in
     let l = pattern_of c.deref-in-InHole.result.now in

@@ -17,7 +17,7 @@ use Rattle.rdx_lang.specs.Shown.{bindings_of}
 use Rattle.rdx_bind.proofs.AcrossRows.{bindings_are_maps}
 use Rattle.rdx_bind.proofs.AnyOf.{untried_first, untried_next, untried_none}
 use Rattle.rdx_direct.proofs.GoingLaws.{alone_closed, fits_alone, fits_false, fits_hidden, goes_at, goes_alone, is_zero, nt_alone}
-use Rattle.rdx_direct.proofs.ItemLaws.{list_fits}
+use Rattle.rdx_direct.proofs.ItemLaws.{fit_list, list_fits, unfit_list}
 use Rattle.rdx_direct.proofs.KnownLaws.{fits_there, fits_nowhere, nt_fits_by}
 use Rattle.rdx_direct.proofs.ReachLaws.{any_next, any_skipped, any_done, any_done_fit, fit_found, nothing_reached, nt_reached}
 use Rattle.rdx_direct.specs.Inside.Going.{Alone, Fits}
@@ -47,6 +47,18 @@ fits_plain-returns-in-List t c =
     let same : tree_of c.args.t.now ≡ list c.in-List.node.value.mark (trees_of c.items.result.now) =
     ap tree_of c.in-List.is ∙ ap (λ (us : List Tree). list c.in-List.node.value.mark (trees us)) (ap (λ (l : Contents). l.items) (sym c.deref.ensures) ∙ sym c.items.ensures.value) in
     IfOk-weaker c.fit_all.result _ _ (λ v f. list_fits (tree_of c.args.t.now) c.in-List.node.value.mark same v c.requires f) c.fit_all.ensures
+
+pub fits_nameless-returns-then-not-branch : goal.fits_nameless-returns-then-not-branch
+fits_nameless-returns-then-not-branch t c =
+    let same : tree_of c.args.t.now ≡ list c.in-List.node.value.mark (trees_of c.items.result.now) =
+    ap tree_of c.in-List.is ∙ ap (λ (us : List Tree). list c.in-List.node.value.mark (trees us)) (ap (λ (l : Contents). l.items) (sym c.deref.ensures) ∙ sym c.items.ensures.value) in
+    unfit_list (tree_of c.args.t.now) c.in-List.node.value.mark same c.in_ok-fit_all-in-List.field-0 c.if-not-branch.true c.in_ok-fit_all-in-List.ensures
+
+pub fits_nameless-returns-then-are_plain : goal.fits_nameless-returns-then-are_plain
+fits_nameless-returns-then-are_plain t c =
+    let same : tree_of c.args.t.now ≡ list c.in-List.node.value.mark (trees_of c.items.result.now) =
+    ap tree_of c.in-List.is ∙ ap (λ (us : List Tree). list c.in-List.node.value.mark (trees us)) (ap (λ (l : Contents). l.items) (sym c.deref.ensures) ∙ sym c.items.ensures.value) in
+    fit_list (tree_of c.args.t.now) c.in-List.node.value.mark same c.in_ok-fit_all-in-List.field-0 c.if-not-branch.false (c.if-are_plain.ensures refl) c.in_ok-fit_all-in-List.ensures
 
 pub go-returns-in_ok-any-in-Nt : goal.go-returns-in_ok-any-in-Nt
 go-returns-in_ok-any-in-Nt t c =

@@ -15,16 +15,16 @@ use Rattle.rdx_lang.specs.Collecting.{Arises, HasExactly}
 use Rattle.rdx_lang.specs.Members.{In, here}
 use Rattle.rdx_lang.specs.Patterns.{Pattern, Items, Language, many}
 use Rattle.rdx_lang.specs.PatternView.{pattern_of, slot_of, items_of}
-use Rattle.rdx_lang.specs.Names.{names, item_names}
 use Rattle.rdx_lang.specs.Rules.{Match}
 use Rattle.rdx_lang.specs.Shown.{bindings_of}
 use Rattle.rdx_bind.proofs.AcrossRows.{bindings_are_maps}
 use Rattle.rdx_bind.proofs.Gathering.{adds_exactly, exactly_added}
 use Rattle.rdx_direct.proofs.GoingLaws.{not_true, not_false, rest_done, rest_more}
-use Rattle.rdx_direct.proofs.PlainLaws.{no_names_apart}
-use Rattle.rdx_direct.proofs.ReachLaws.{RestDone, StillReach, StillTurns, Turned, TurnsDone, at_the_end, done_at, done_matched, left_unmatched, next_at, no_length, over_unmatched, reach_done, reach_left, reach_over, reach_short, rest_done_at, short_unmatched, turned_at, unmatched, list_between, list_matched, placed_reached}
+use Rattle.rdx_direct.proofs.PlainLaws.{plain_parts}
+use Rattle.rdx_direct.proofs.ReachLaws.{RestDone, StillReach, StillTurns, Turned, TurnsDone, at_the_end, done_at, done_matched, left_unmatched, next_at, over_unmatched, reach_done, reach_left, reach_over, reach_short, rest_done_at, short_unmatched, turned_at, unmatched, list_between, list_matched, placed_reached}
 use Rattle.rdx_direct.proofs.PartLaws.{GoesAt, GoesWithName, goes_reached, goes_named_reached, named_after, named_before}
 use Rattle.rdx_direct.specs.Inside.Going.{Goes, NamedAt}
+use Rattle.rdx_direct.specs.Inside.Plain.{are_plain}
 use Rattle.rdx_direct.specs.Inside.Paths.{Leads, paths_in}
 use Rattle.rdx_direct.specs.declared.paths.Paths.{Paths}
 use Rattle.std.specs.Prelude.{Vec}
@@ -181,11 +181,11 @@ go_with_context-returns t c =
 
 pub reach_many-reach_items-requires : goal.reach_many-reach_items-requires
 reach_many-reach_items-requires t c =
-    (omega arith, (no_names_apart (names (pattern_of c.args.turns.pat.now)) (item_names (items_of (map slot_of c.args.turns.rest.now))) c.requires.plain).1)
+    (omega arith, (plain_parts (pattern_of c.args.turns.pat.now) None (items_of (map slot_of c.args.turns.rest.now)) c.requires.plain).behind)
 
 pub reach_many-reach_items-requires-2 : goal.reach_many-reach_items-requires-2
 reach_many-reach_items-requires-2 t c =
-    (omega arith, (no_names_apart (names (pattern_of c.args.turns.pat.now)) (item_names (items_of (map slot_of c.args.turns.rest.now))) c.requires.plain).1)
+    (omega arith, (plain_parts (pattern_of c.args.turns.pat.now) None (items_of (map slot_of c.args.turns.rest.now)) c.requires.plain).behind)
 
 pub reach_many-loop-i-preserved : goal.reach_many-loop-i-preserved
 reach_many-loop-i-preserved t c =
@@ -314,12 +314,12 @@ reach_items-reach_rest-requires t c =
     let p : Pattern = pattern_of c.in-Many.pat in
     let qs : Items = items_of (map slot_of (drop (i + 1) c.args.items.now)) in
     let e : items_of (map slot_of (drop i c.args.items.now)) ≡ many p c.in-Many.field-1 qs = ahead-many c.args.items.now i c.index-items-i.result (omega arith) c.index-items-i.is c.in-Many.pat c.in-Many.field-1 c.in-Many.is in
-    let k : c.in-Many.field-1 ≡ None = no_length p c.in-Many.field-1 qs (ap item_names (sym e) ∙ c.loop-i.invariant.1.plain) in
+    let k : c.in-Many.field-1 ≡ None = (plain_parts p c.in-Many.field-1 qs (ap are_plain (sym e) ∙ c.loop-i.invariant.1.plain)).unnamed in
     let d : items_of (map slot_of (drop i c.args.items.now)) ≡ many p None qs = e ∙ ap (λ o. many p o qs) k in
     let o : items_of (map slot_of c.split_at-in-Many.result.1.now) ≡ qs = ap (λ x. items_of (map slot_of x)) c.split_at-in-Many.ensures.back in (
       omega arith,
       (
-        ap (λ v. item_names (many p None v)) o ∙ ap item_names (sym d) ∙ c.loop-i.invariant.1.plain,
+        ap (λ v. are_plain (many p None v)) o ∙ ap are_plain (sym d) ∙ c.loop-i.invariant.1.plain,
         ap (λ v. items_of (map slot_of v)) c.split_at.ensures.back ∙ d ∙ ap (λ v. many p None v) (sym o),
       ),
     )
@@ -329,7 +329,7 @@ reach_items-returns-in-Many-clause-fits t c =
     let qs : Items = items_of (map slot_of (drop (c.loop-i.i + 1) c.args.items.now)) in
     let p : Pattern = pattern_of c.in-Many.pat in
     let e : items_of (map slot_of (drop c.loop-i.i c.args.items.now)) ≡ many p c.in-Many.field-1 qs = ahead-many c.args.items.now c.loop-i.i c.index-items-i.result (omega arith) c.index-items-i.is c.in-Many.pat c.in-Many.field-1 c.in-Many.is in
-    let k : c.in-Many.field-1 ≡ None = no_length p c.in-Many.field-1 qs (ap item_names (sym e) ∙ c.loop-i.invariant.1.plain) in
+    let k : c.in-Many.field-1 ≡ None = (plain_parts p c.in-Many.field-1 qs (ap are_plain (sym e) ∙ c.loop-i.invariant.1.plain)).unnamed in
     let o : items_of (map slot_of c.split_at-in-Many.result.1.now) ≡ qs = ap (λ x. items_of (map slot_of x)) c.split_at-in-Many.ensures.back in
     let g : many p None (items_of (map slot_of c.split_at-in-Many.result.1.now)) ≡ items_of (map slot_of (drop c.loop-i.i c.args.items.now)) = ap (λ v. many p None v) o ∙ sym (e ∙ ap (λ n. many p n qs) k) in
     let L : Language = language_in c.args.self.now.language.now in
@@ -343,7 +343,7 @@ reach_items-returns-in-Many-clause-paths t c =
     let qs : Items = items_of (map slot_of (drop (c.loop-i.i + 1) c.args.items.now)) in
     let p : Pattern = pattern_of c.in-Many.pat in
     let e : items_of (map slot_of (drop c.loop-i.i c.args.items.now)) ≡ many p c.in-Many.field-1 qs = ahead-many c.args.items.now c.loop-i.i c.index-items-i.result (omega arith) c.index-items-i.is c.in-Many.pat c.in-Many.field-1 c.in-Many.is in
-    let k : c.in-Many.field-1 ≡ None = no_length p c.in-Many.field-1 qs (ap item_names (sym e) ∙ c.loop-i.invariant.1.plain) in
+    let k : c.in-Many.field-1 ≡ None = (plain_parts p c.in-Many.field-1 qs (ap are_plain (sym e) ∙ c.loop-i.invariant.1.plain)).unnamed in
     let o : items_of (map slot_of c.split_at-in-Many.result.1.now) ≡ qs = ap (λ x. items_of (map slot_of x)) c.split_at-in-Many.ensures.back in
     let g : many p None (items_of (map slot_of c.split_at-in-Many.result.1.now)) ≡ items_of (map slot_of (drop c.loop-i.i c.args.items.now)) = ap (λ v. many p None v) o ∙ sym (e ∙ ap (λ n. many p n qs) k) in
     let L : Language = language_in c.args.self.now.language.now in

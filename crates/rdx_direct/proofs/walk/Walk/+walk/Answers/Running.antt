@@ -22,7 +22,7 @@ use Rattle.rdx_term.specs.Tree.{nil as no_trees}
 use Rattle.rdx_lang.proofs.Collecting.{In_along}
 use Rattle.rdx_lang.proofs.NameLaws.{match-ascends, names-ascend}
 use Rattle.rdx_lang.specs.Ascending.{IsAscending}
-use Rattle.rdx_lang.specs.Bindings.{name_cmp}
+use Rattle.rdx_lang.specs.Bindings.{name_cmp, of_pairs}
 use Rattle.rdx_lang.specs.BindingView.{pairs_of}
 use Rattle.rdx_direct.proofs.GoingLaws.{goes_first, goes_nowhere, none_found, fits_false}
 use Rattle.rdx_direct.proofs.ItemLaws.{still_end}
@@ -80,7 +80,7 @@ go_end-returns t c =
 
 pub turn-returns-then-is_plain-clause-some : goal.turn-returns-then-is_plain-clause-some
 turn-returns-then-is_plain-clause-some t c =
-    sole_nothing (c.if-is_plain.ensures refl) (c.new-then-is_plain.ensures ∙ ap pairs_of c.new.ensures.items) (c.in_ok-fits.ensures.0 c.if-not-branch.false)
+    sole_nothing (c.if-is_plain.ensures refl) (c.new-then-is_plain.ensures ∙ ap (λ ps. of_pairs (pairs_of ps)) c.new.ensures.items) (c.in_ok-fits.ensures.0 c.if-not-branch.false)
 
 pub turn-returns-then-not-branch-clause-none : goal.turn-returns-then-not-branch-clause-none
 turn-returns-then-not-branch-clause-none t c =

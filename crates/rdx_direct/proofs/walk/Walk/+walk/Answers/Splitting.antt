@@ -15,6 +15,7 @@ use Rattle.rdx_lang.specs.Patterns.{Pattern, Items, Language, hole, nt, closed, 
 use Rattle.rdx_lang.specs.PatternView.{pattern_of, patterns_of, slot_of, items_of}
 use Rattle.rdx_lang.proofs.Rest.{rest_at, rest_none}
 use Rattle.rdx_lang.specs.Shown.{bindings_of}
+use Rattle.rdx_bind.specs.Namings.{naming_of}
 use Rattle.rdx_bind.specs.Spots.{Spot, SplitsAt, spot_of, spots_of}
 use Rattle.rdx_bind.proofs.Gathering.{exactly_as, exactly_added, adds_exactly}
 use Rattle.rdx_bind.proofs.SplitRules.{SplitsOn, exactly_hole, exactly_any, exactly_nt, exactly_closed, exactly_named, exactly_in_hole, adds_splits}
@@ -100,7 +101,7 @@ any_splits-returns t c =
     exactly_any (patterns_of xs) found a c.in_ok-nameless.ensures
 
 pub split_named-returns : goal.split_named-returns
-split_named-returns t c = exactly_named (spots_of c.in_ok-spots.spots.items) c.in_ok-spots.ensures c.in_ok-found.ensures
+split_named-returns t c = exactly_named (naming_of c.args.name) (spots_of c.in_ok-spots.spots.items) c.in_ok-spots.ensures c.in_ok-found.ensures
 
 pub splits-returns-in_ok-whole-in-Hole : goal.splits-returns-in_ok-whole-in-Hole
 splits-returns-in_ok-whole-in-Hole t c =
@@ -164,7 +165,7 @@ go_split-loop-spot-preserved t c =
     let e : spots_of (drop i xs) ≡ s ∷ spots_of (drop (i + 1) xs) = rest_at spot_of xs i c.spot-item.result c.loop-spot-test.true c.spot-item.is in
     let f : u ≡ tree_at (tree_of c.args.t.now) s.path = c.part_at.ensures ∙ ap (tree_at (tree_of c.args.t.now)) (c.deref-in-loop-spot.ensures.value ∙ c.in_ok-path.ensures) in
     let o : HasExactly outers (Joins s.binding gs) = subst (λ ys. HasExactly outers (Joins s.binding ys)) same c.in_ok-outers.ensures in
-    let g : HasExactly inners (step s) = goes_there s u gs outers inners (bindings_are_maps c.args.given.items) c.spot-item.result.binding.ascending f o c.in_ok-inners.ensures in
+    let g : HasExactly inners (step s) = goes_there s u gs outers inners (bindings_are_maps c.args.given.items) (c.spot-item.result.binding.ascending, c.spot-item.result.binding.sets) f o c.in_ok-inners.ensures in
     let a : Adds (step s) old new = adds_exactly inners old new g c.in_ok-add_all.ensures in
     collects-next step (spots_of xs) nothing s (spots_of (drop i xs)) (spots_of (drop (i + 1) xs)) old new e c.loop-spot.invariant a
 

@@ -11,16 +11,17 @@ use Rattle.rdx_lang.specs.Bindings.{Binding}
 use Rattle.rdx_lang.specs.Collecting.{Arises, Adds, HasExactly}
 use Rattle.rdx_lang.specs.Members.{In, here}
 use Rattle.rdx_lang.specs.Checked.{language_in}
-use Rattle.rdx_lang.specs.Listing.{IsListing, Matches}
+use Rattle.rdx_lang.specs.Listing.{IsListing, AllMatches}
 use Rattle.rdx_lang.specs.Order.{binding_cmp}
-use Rattle.rdx_lang.proofs.PatternEquations.{pattern_wild, pattern_kind, pattern_except, pattern_prefix, pattern_hole, pattern_lit, pattern_nt, pattern_named, pattern_hide_hole, pattern_closed, pattern_seq}
-use Rattle.rdx_lang.specs.Patterns.{Pattern, Items, Language, wild, of_kind, except, prefix, hole, lit, nt, named, hide_hole, closed, seq}
+use Rattle.rdx_lang.proofs.PatternEquations.{pattern_wild, pattern_kind, pattern_except, pattern_prefix, pattern_hole, pattern_lit, pattern_nt, pattern_named, pattern_differ, pattern_hide_hole, pattern_closed, pattern_seq}
+use Rattle.rdx_lang.specs.Patterns.{Pattern, Items, Language, wild, of_kind, except, prefix, hole, lit, nt, named, differ, hide_hole, closed, seq}
 use Rattle.rdx_lang.specs.PatternView.{Slot, just, pattern_of, patterns_of, slot_of, items_of}
 use Rattle.rdx_lang.proofs.Rest.{rest_at, rest_none}
 use Rattle.rdx_lang.specs.Rules.{Match}
 use Rattle.rdx_lang.specs.Shown.{bindings_of}
 use Rattle.rdx_bind.specs.Atoms.{is_other_symbol}
 use Rattle.rdx_bind.specs.Combining.{rows_of}
+use Rattle.rdx_bind.specs.Namings.{naming_of}
 use Rattle.rdx_bind.specs.Searching.{item_pattern}
 use Rattle.rdx_bind.specs.Spots.{Spot, SplitsAt, spot_of, spots_of}
 use Rattle.rdx_bind.specs.Parts.{Part, part_of, Unmatched, BindAcross, FoundRows, rows_found, none_found, found_rows}
@@ -113,8 +114,8 @@ match_items-loop-i-preserved t c =
     let e = next_items items i item (omega arith) c.index-part-i.is c.requires.single in
     let f = taken_next tree_of terms i term (omega arith) c.index-part-i-in-loop-i.is in
     let g : rows_of c.push.new.self.items ≡ rows_of c.loop-i.rows.items ++ row ∷ [] = grind (arith, common_steps) in
-    let m : Matches L (item_pattern (slot_of item)) (tree_of term) row =
-    subst (λ u. Matches L (item_pattern (slot_of item)) (tree_of u) row) (sym c.index-part-i-in-loop-i.is) (subst (λ p. Matches L p (tree_of (get_or terms i term)) row) q c.in_ok-row.ensures) in
+    let m : AllMatches L (item_pattern (slot_of item)) (tree_of term) row =
+    subst (λ u. AllMatches L (item_pattern (slot_of item)) (tree_of u) row) (sym c.index-part-i-in-loop-i.is) (subst (λ p. AllMatches L p (tree_of (get_or terms i term)) row) q c.in_ok-row.ensures) in
     items_next row e f g (rows_are_maps c.loop-i.rows.items) c.loop-i.invariant (exactly_listed m)
 
 pub match_items-returns : goal.match_items-returns
@@ -170,44 +171,44 @@ pub matches-returns-in-Wild : goal.matches-returns-in-Wild
 matches-returns-in-Wild t c =
     let L : Language = language_in c.args.self.now.language.now in
     let e : pattern_of c.args.pat.now ≡ wild = ap pattern_of c.in-Wild.is ∙ pattern_wild in
-    IfOk-weaker c.empty_where.result _ _ (λ v f. subst (λ p. Matches L p (tree_of c.args.t.now) (bindings_of v.items)) (sym e) (listing_wild f)) c.empty_where.ensures
+    IfOk-weaker c.empty_where.result _ _ (λ v f. subst (λ p. AllMatches L p (tree_of c.args.t.now) (bindings_of v.items)) (sym e) (listing_wild f)) c.empty_where.ensures
 
 pub matches-returns-in-Except : goal.matches-returns-in-Except
 matches-returns-in-Except t c =
     let L : Language = language_in c.args.self.now.language.now in
     let e : pattern_of c.args.pat.now ≡ except c.in-Except.names.items = ap pattern_of c.in-Except.is ∙ pattern_except c.in-Except.names in
-    IfOk-weaker c.empty_where-in-Except.result _ _ (λ v f. subst (λ p. Matches L p (tree_of c.args.t.now) (bindings_of v.items)) (sym e) (listing_except c.is_other_symbol.result f (c.is_other_symbol.ensures ∙ ap (λ rs. is_other_symbol rs (tree_of c.args.t.now)) c.deref.ensures.value))) c.empty_where-in-Except.ensures
+    IfOk-weaker c.empty_where-in-Except.result _ _ (λ v f. subst (λ p. AllMatches L p (tree_of c.args.t.now) (bindings_of v.items)) (sym e) (listing_except c.is_other_symbol.result f (c.is_other_symbol.ensures ∙ ap (λ rs. is_other_symbol rs (tree_of c.args.t.now)) c.deref.ensures.value))) c.empty_where-in-Except.ensures
 
 pub matches-returns-in-Prefix : goal.matches-returns-in-Prefix
 matches-returns-in-Prefix t c =
     let L : Language = language_in c.args.self.now.language.now in
     let e : pattern_of c.args.pat.now ≡ prefix c.in-Prefix.prefix = ap pattern_of c.in-Prefix.is ∙ pattern_prefix c.in-Prefix.prefix in
-    IfOk-weaker c.empty_where-in-Prefix.result _ _ (λ v f. subst (λ p. Matches L p (tree_of c.args.t.now) (bindings_of v.items)) (sym e) (listing_prefix c.has_prefix.result f c.has_prefix.ensures)) c.empty_where-in-Prefix.ensures
+    IfOk-weaker c.empty_where-in-Prefix.result _ _ (λ v f. subst (λ p. AllMatches L p (tree_of c.args.t.now) (bindings_of v.items)) (sym e) (listing_prefix c.has_prefix.result f c.has_prefix.ensures)) c.empty_where-in-Prefix.ensures
 
 pub matches-returns-in-Kind : goal.matches-returns-in-Kind
 matches-returns-in-Kind t c =
     let L : Language = language_in c.args.self.now.language.now in
     let e : pattern_of c.args.pat.now ≡ of_kind c.in-Kind.kind = ap pattern_of c.in-Kind.is ∙ pattern_kind c.in-Kind.kind in
-    IfOk-weaker c.empty_where-in-Kind.result _ _ (λ v f. subst (λ p. Matches L p (tree_of c.args.t.now) (bindings_of v.items)) (sym e) (listing_kind c.is_of_kind.result f c.is_of_kind.ensures)) c.empty_where-in-Kind.ensures
+    IfOk-weaker c.empty_where-in-Kind.result _ _ (λ v f. subst (λ p. AllMatches L p (tree_of c.args.t.now) (bindings_of v.items)) (sym e) (listing_kind c.is_of_kind.result f c.is_of_kind.ensures)) c.empty_where-in-Kind.ensures
 
 pub matches-returns-in-Lit : goal.matches-returns-in-Lit
 matches-returns-in-Lit t c =
     let L : Language = language_in c.args.self.now.language.now in
     let e : pattern_of c.args.pat.now ≡ lit (tree_of c.in-Lit.literal) = ap pattern_of c.in-Lit.is ∙ pattern_lit c.in-Lit.literal in
-    IfOk-weaker c.empty_where-in-Lit.result _ _ (λ v f. subst (λ p. Matches L p (tree_of c.args.t.now) (bindings_of v.items)) (sym e) (listing_lit c.same_bare.result f c.same_bare.ensures)) c.empty_where-in-Lit.ensures
+    IfOk-weaker c.empty_where-in-Lit.result _ _ (λ v f. subst (λ p. AllMatches L p (tree_of c.args.t.now) (bindings_of v.items)) (sym e) (listing_lit c.same_bare.result f c.same_bare.ensures)) c.empty_where-in-Lit.ensures
 
 pub matches-returns-in_ok-any-in-Nt : goal.matches-returns-in_ok-any-in-Nt
 matches-returns-in_ok-any-in-Nt t c =
     let L : Language = language_in c.args.self.now.language.now in
     let e : pattern_of c.args.pat.now ≡ nt c.in-Nt.name = ap pattern_of c.in-Nt.is ∙ pattern_nt c.in-Nt.name in
-    IfOk-weaker c.empty_where-in-Nt.result _ _ (λ v f. subst (λ p. Matches L p (tree_of c.args.t.now) (bindings_of v.items)) (sym e)
+    IfOk-weaker c.empty_where-in-Nt.result _ _ (λ v f. subst (λ p. AllMatches L p (tree_of c.args.t.now) (bindings_of v.items)) (sym e)
     (listing_nt (patterns_of c.alternatives.result.now) c.in_ok-any-in-Nt.any c.alternatives.ensures f c.in_ok-any-in-Nt.ensures)) c.empty_where-in-Nt.ensures
 
 pub match_named-returns : goal.match_named-returns
 match_named-returns t c =
     let L : Language = language_in c.args.self.now.language.now in
     let k : IsListing binding_cmp (bindings_of c.deref.result.now) (Match L (pattern_of c.args.part.now) (tree_of c.args.t.now)) = rw c.deref.ensures.value c.in_ok-firsts.ensures in
-    IfOk-weaker c.with_name.result _ _ (λ v l. listing_named (bindings_of c.deref.result.now) k l) c.with_name.ensures
+    IfOk-weaker c.with_name.result _ _ (λ v l. listing_named (naming_of c.args.name) (bindings_of c.deref.result.now) k l) c.with_name.ensures
 
 pub matches-returns-in-Named : goal.matches-returns-in-Named
 matches-returns-in-Named t c =
@@ -215,8 +216,17 @@ matches-returns-in-Named t c =
     let q : Pattern = pattern_of c.in-Named.part.value in
     let e : pattern_of c.args.pat.now ≡ named c.in-Named.name q = ap pattern_of c.in-Named.is ∙ pattern_named c.in-Named.name c.in-Named.part in
     IfOk-weaker c.match_named.result _ _ (λ v l.
-    let m : Matches L (named c.in-Named.name q) (tree_of c.args.t.now) (bindings_of v.items) = rw c.deref-in-Named.ensures at l in
-    subst (λ p. Matches L p (tree_of c.args.t.now) (bindings_of v.items)) (sym e) m) c.match_named.ensures
+    let m : AllMatches L (named c.in-Named.name q) (tree_of c.args.t.now) (bindings_of v.items) = rw c.deref-in-Named.ensures at l in
+    subst (λ p. AllMatches L p (tree_of c.args.t.now) (bindings_of v.items)) (sym e) m) c.match_named.ensures
+
+pub matches-returns-in-Differ : goal.matches-returns-in-Differ
+matches-returns-in-Differ t c =
+    let L : Language = language_in c.args.self.now.language.now in
+    let q : Pattern = pattern_of c.in-Differ.part.value in
+    let e : pattern_of c.args.pat.now ≡ differ c.in-Differ.name q = ap pattern_of c.in-Differ.is ∙ pattern_differ c.in-Differ.name c.in-Differ.part in
+    IfOk-weaker c.match_named-in-Differ.result _ _ (λ v l.
+    let m : AllMatches L (differ c.in-Differ.name q) (tree_of c.args.t.now) (bindings_of v.items) = rw c.deref-in-Differ.ensures at l in
+    subst (λ p. AllMatches L p (tree_of c.args.t.now) (bindings_of v.items)) (sym e) m) c.match_named-in-Differ.ensures
 
 pub matches-returns-in-Seq : goal.matches-returns-in-Seq
 matches-returns-in-Seq t c =
@@ -224,14 +234,14 @@ matches-returns-in-Seq t c =
     let ps : Items = items_of (map slot_of c.in-Seq.items.items) in
     let e : pattern_of c.args.pat.now ≡ seq ps = ap pattern_of c.in-Seq.is ∙ pattern_seq c.in-Seq.items in
     IfOk-weaker c.match_list.result _ _ (λ v l.
-    let m : Matches L (seq ps) (tree_of c.args.t.now) (bindings_of v.items) = rw c.deref-in-Seq.ensures.value at l in
-    subst (λ p. Matches L p (tree_of c.args.t.now) (bindings_of v.items)) (sym e) m) c.match_list.ensures
+    let m : AllMatches L (seq ps) (tree_of c.args.t.now) (bindings_of v.items) = rw c.deref-in-Seq.ensures.value at l in
+    subst (λ p. AllMatches L p (tree_of c.args.t.now) (bindings_of v.items)) (sym e) m) c.match_list.ensures
 
 pub matches-returns-in-Hole : goal.matches-returns-in-Hole
 matches-returns-in-Hole t c =
     let L : Language = language_in c.args.self.now.language.now in
     let e : pattern_of c.args.pat.now ≡ hole = ap pattern_of c.in-Hole.is ∙ pattern_hole in
-    IfOk-weaker c.empty_where-in-Hole.result _ _ (λ v f. subst (λ p. Matches L p (tree_of c.args.t.now) (bindings_of v.items)) (sym e) (listing_hole c.is_hole.result f c.is_hole.ensures)) c.empty_where-in-Hole.ensures
+    IfOk-weaker c.empty_where-in-Hole.result _ _ (λ v f. subst (λ p. AllMatches L p (tree_of c.args.t.now) (bindings_of v.items)) (sym e) (listing_hole c.is_hole.result f c.is_hole.ensures)) c.empty_where-in-Hole.ensures
 
 pub matches-returns-in-HideHole : goal.matches-returns-in-HideHole
 matches-returns-in-HideHole t c =
@@ -240,8 +250,8 @@ matches-returns-in-HideHole t c =
     let e : pattern_of c.args.pat.now ≡ hide_hole q = ap pattern_of c.in-HideHole.is ∙ pattern_hide_hole c.in-HideHole.part in
     let f : pattern_of c.deref-in-HideHole.result.now ≡ q = ap pattern_of c.deref-in-HideHole.ensures in
     IfOk-weaker c.matches.result _ _ (λ v l.
-    let m : Matches L q (tree_of c.args.t.now) (bindings_of v.items) = subst (λ p. Matches L p (tree_of c.args.t.now) (bindings_of v.items)) f l in
-    subst (λ p. Matches L p (tree_of c.args.t.now) (bindings_of v.items)) (sym e) (listing_hide_hole m)) c.matches.ensures
+    let m : AllMatches L q (tree_of c.args.t.now) (bindings_of v.items) = subst (λ p. AllMatches L p (tree_of c.args.t.now) (bindings_of v.items)) f l in
+    subst (λ p. AllMatches L p (tree_of c.args.t.now) (bindings_of v.items)) (sym e) (listing_hide_hole m)) c.matches.ensures
 
 pub matches-returns-in_ok-any-in-Closed : goal.matches-returns-in_ok-any-in-Closed
 matches-returns-in_ok-any-in-Closed t c =
@@ -249,7 +259,7 @@ matches-returns-in_ok-any-in-Closed t c =
     let q : Pattern = pattern_of c.in-Closed.part.value in
     let e : pattern_of c.args.pat.now ≡ closed q = ap pattern_of c.in-Closed.is ∙ pattern_closed c.in-Closed.part in
     let ps : patterns_of c.from_ref.result.now ≡ q ∷ [] = ap patterns_of c.from_ref.ensures.value ∙ ap (λ p. pattern_of p ∷ []) c.deref-in-Closed.ensures in
-    IfOk-weaker c.empty_where-in-Closed.result _ _ (λ v f. subst (λ p. Matches L p (tree_of c.args.t.now) (bindings_of v.items)) (sym e)
+    IfOk-weaker c.empty_where-in-Closed.result _ _ (λ v f. subst (λ p. AllMatches L p (tree_of c.args.t.now) (bindings_of v.items)) (sym e)
     (listing_closed (patterns_of c.from_ref.result.now) c.in_ok-any-in-Closed.any ps f c.in_ok-any-in-Closed.ensures)) c.empty_where-in-Closed.ensures
 
 -- ---- a pattern in the hole of another

@@ -17,6 +17,7 @@ use Rattle.rdx_lang.specs.Patterns.{Pattern, Items, Language, hole, nt, closed, 
 use Rattle.rdx_lang.specs.PatternView.{Slot, pattern_of, patterns_of, slot_of, items_of}
 use Rattle.rdx_lang.proofs.Rest.{rest_at, rest_none}
 use Rattle.rdx_lang.specs.Shown.{bindings_of}
+use Rattle.rdx_bind.specs.Namings.{naming_of}
 use Rattle.rdx_bind.specs.Rows.{SplitRow, split_row_of, split_rows_of}
 use Rattle.rdx_bind.specs.Searching.{item_pattern, IsRowOf, row_matches, row_splits, row_fails, found_row}
 use Rattle.rdx_bind.specs.Spots.{Spot, SplitsAt, spot_of, spots_of, PlacedAt}
@@ -103,7 +104,7 @@ any_splits-returns t c =
     IfOk-weaker c.nameless.result _ _ (λ v k. exactly_any (patterns_of xs) found a k) c.nameless.ensures
 
 pub split_named-returns : goal.split_named-returns
-split_named-returns t c = IfOk-weaker c.with_contexts.result _ _ (λ v k. exactly_named (spots_of c.in_ok-spots.spots.items) c.in_ok-spots.ensures k) c.with_contexts.ensures
+split_named-returns t c = IfOk-weaker c.with_contexts.result _ _ (λ v k. exactly_named (naming_of c.args.name) (spots_of c.in_ok-spots.spots.items) c.in_ok-spots.ensures k) c.with_contexts.ensures
 
 -- ---- items, of which one is split
 
