@@ -3,14 +3,14 @@ ghost use Rattle.std.specs.Prelude.{◌+◌, ◌≡◌, IfOk};
 
 use rdx_term::NoMemory;
 
-/// How many calls deep a search may go. Measured in the program as `./redex` builds it, such a call
-/// takes 80 bytes of the stack at `hide-hole`, 208 at a nonterminal that is to match and 272 at one
-/// that is to split, 224 at most at a name, and 400 or 432 at `in-hole`. At a list it takes 768 at
-/// most, and a term has at most 500 lists inside one another. A context that is made takes 480 for
-/// each list around its hole. So a search this deep fills 3 MiB of a stack of 8 along a chain of
-/// nonterminals, and at most 7 where `in-hole`s stand in one another between lists with
-/// repetitions. An item from the first repetition of a list pattern to its last counts for two
-/// calls, so that 7,900 repetitions in one list pattern are answered.
+/// How many calls deep a search may go. Measured in the program of the tests, such a call takes 96
+/// bytes of the stack at `hide-hole`, 224 at a nonterminal that is to match and 272 at one that is to
+/// split, 256 at most at a name, and 480 or 496 at `in-hole`. At a list it takes 784, 1,250 where it
+/// is to split, and 2,450 at most with repetitions; and a term has at most 500 lists inside one
+/// another. A context that is made takes 480 for each list around its hole. So a search this deep
+/// fills 4 MiB of a stack of 8 along a chain of nonterminals, and at most 7.5 where `in-hole`s stand
+/// in one another between lists with repetitions. An item from the first repetition of a list pattern
+/// to its last counts for two calls, so that 7,900 repetitions in one list pattern are answered.
 const DEEPEST: usize = 16_000;
 
 /// How many calls deeper a search may still go.
