@@ -7,7 +7,9 @@ use Rattle.rdx_term.specs.Tree as tree
 use Rattle.rdx_term.specs.Tree.{Tree, Trees, trees, tree_holes}
 use Rattle.rdx_lang.specs.Bindings.{Value, one, many, len, Values, none, more, Pair, Binding}
 use Rattle.rdx_lang.specs.Decompositions.{Decomposition}
-use Rattle.rdx_eval.specs.Answers.{Fault, undefined, ambiguous, spent, not_context, too_deep, too_large, lengths_differ, outside, overflow, divide_by_zero}
+use Rattle.rdx_eval.specs.Answers.{Fault, undefined, ambiguous, not_contract, spent, not_context, too_deep, too_large, lengths_differ, outside, overflow, divide_by_zero}
+use Rattle.rdx_eval.specs.declared.fault.Side.{Side}
+use Rattle.rdx_eval.specs.declared.fault.Side.TheVariants.{In, Out}
 use Rattle.rdx_delta.specs.Operations.{operation_text}
 
 -- ---- paths
@@ -142,11 +144,17 @@ items_of (tree.text x) = tree.nil
 items_of (tree.symbol x) = tree.nil
 items_of (tree.list m ts) = ts
 
+-- the word for what a contract speaks of, between spaces: what goes in, or what comes out
+abbrev pub side_text : Side → List ℕ
+side_text In = codes " in "
+side_text Out = codes " out "
+
 -- what a fault is called, with its numbers and terms
 abbrev pub fault_name : Fault → List ℕ
 fault_name (undefined f a) = codes "Undefined " ++ call_text f (items_of a)
 fault_name (ambiguous f a t u) =
     codes "Ambiguous " ++ call_text f (items_of a) ++ codes " gives " ++ tree_text t ++ codes " and " ++ tree_text u
+fault_name (not_contract f s t) = codes "NotContract " ++ f ++ side_text s ++ tree_text t
 fault_name (spent f) = codes "Spent " ++ f
 fault_name (not_context h) = codes "NotContext " ++ decimal h
 fault_name too_deep = codes "TooDeep"

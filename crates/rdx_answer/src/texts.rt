@@ -9,7 +9,7 @@ ghost use Rattle.rdx_lang.specs.Bindings.{one, values};
 ghost use Rattle.rdx_lang.specs.BindingView.{value_of, pair_of};
 ghost use Rattle.rdx_lang.specs.ProgramView.{rule_of};
 ghost use Rattle.rdx_lang.specs.Shown.{binding_of, bindings_of, decomposition_of, decompositions_of};
-ghost use Rattle.rdx_eval.specs.Answers.{ambiguous, lengths_differ, not_context, spent};
+ghost use Rattle.rdx_eval.specs.Answers.{ambiguous, lengths_differ, not_context, not_contract, spent};
 ghost use Rattle.rdx_eval.specs.Judgements as judging;
 ghost use Rattle.rdx_eval.specs.Views.{fault_of};
 ghost use Rattle.rdx_gen.specs.Generated.{bad_name, generated};
@@ -23,7 +23,7 @@ ghost use Rattle.rdx_answer.specs.Tests as tests;
 
 use itoa::Buffer;
 use rdx_delta::operation_text;
-use rdx_eval::Fault;
+use rdx_eval::{Fault, Side};
 use rdx_fill::path_of;
 use rdx_gen::GenFault;
 use rdx_lang::{Binding, Rule, Split, Value};
@@ -534,6 +534,32 @@ fn write_spent(name: &Name, out: &mut Vec<u8>) -> Result<(), NoMemory>
     print_bytes(name.text().as_bytes(), out)
 }
 
+// The word for what a contract speaks of, between spaces.
+fn side_text(side: Side) -> &'static [u8]
+    ensures { result.now ≡ text.side_text side }
+{
+    match side {
+        Side::In => b" in ",
+        Side::Out => b" out ",
+    }
+}
+
+// What goes into what has this name, or comes out of it, and is not as its contract says.
+fn write_not_contract(
+    name: &Name,
+    side: Side,
+    term: &Term,
+    out: &mut Vec<u8>,
+) -> Result<(), NoMemory>
+    ensures { OnOk result (out.new.items ≡ out.old.items
+        ++ text.fault_name (not_contract name.now side (tree_of term.now))) }
+{
+    out.extend_from_slice(b"NotContract ")?;
+    out.extend_from_slice(name.text().as_bytes())?;
+    out.extend_from_slice(side_text(side))?;
+    text_of(term, out)
+}
+
 // What a fault is called, with its numbers and terms.
 fn write_fault_name(fault: &Fault, out: &mut Vec<u8>) -> Result<(), NoMemory>
     ensures { OnOk result
@@ -546,6 +572,7 @@ fn write_fault_name(fault: &Fault, out: &mut Vec<u8>) -> Result<(), NoMemory>
         Fault::Ambiguous(name, args, first, second) => {
             write_ambiguous(name, args, first, second, out)
         }
+        Fault::NotContract(name, side, term) => write_not_contract(name, *side, term, out),
         Fault::Spent(name) => write_spent(name, out),
         Fault::NotContext(holes) => write_not_context(*holes as usize, out),
         Fault::TooDeep => print_bytes(b"TooDeep", out),

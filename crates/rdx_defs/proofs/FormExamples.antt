@@ -2,7 +2,7 @@
 use Rattle.std.proofs.Common.{refl}
 use Rattle.std.specs.Str.{chars}
 use Rattle.rdx_defs.specs.JudgementExamples as judgements
-use Rattle.rdx_defs.specs.JudgementExamples.{AheadMeans, BehindMeans, SeesNoOutput, ConfirmsTerm, ConclusionRefused, NoModeRefused, UnknownRefused}
+use Rattle.rdx_defs.specs.JudgementExamples.{AheadMeans, BehindMeans, SeesNoOutput, ConfirmsTerm, DividesContract, ConclusionRefused, NoModeRefused, UnknownRefused}
 use Rattle.rdx_defs.specs.MetafunctionExamples as metafunctions
 use Rattle.rdx_defs.specs.MetafunctionExamples.{ClosesContract, CallsAnother, OtherNameRefused, NamedClauseRefused}
 
@@ -53,6 +53,10 @@ sees_no_output s = record { passes = refl; parts = _; is_form = refl; is_read = 
 pub confirms_term : ConfirmsTerm
 unfolding chars
 confirms_term s = record { passes = refl; parts = _; is_form = refl; is_read = refl }
+
+pub divides_contract : DividesContract
+unfolding chars
+divides_contract s = record { passes = refl; parts = _; is_form = refl; is_read = refl }
 
 pub conclusion_refused : ConclusionRefused
 unfolding chars

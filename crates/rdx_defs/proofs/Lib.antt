@@ -13,7 +13,6 @@ pub mod FormExamples
 pub mod Cuts
 pub mod RuleForms
 pub mod RuleParts
-pub mod ClosedPatterns
 pub mod Closing
 pub mod PassedForms
 pub mod ReadJudgements

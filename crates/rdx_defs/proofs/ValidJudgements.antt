@@ -26,17 +26,17 @@ use Rattle.rdx_patterns.specs.declared.patterns.position.Position.TheVariants.{Q
 use Rattle.rdx_patterns.proofs.Booleans.{and_both}
 use Rattle.rdx_patterns.proofs.DepthsRead.{bound_use}
 use Rattle.rdx_patterns.proofs.Firsts.{none_first}
-use Rattle.rdx_parts.specs.Arguments.{is_misfit, data_by, patterns_in, templates_in}
+use Rattle.rdx_parts.specs.Arguments.{fitting, is_misfit, in_conclusion, in_premise, data_at, data_by, patterns_in, templates_in}
 use Rattle.rdx_parts.specs.ExtraForms.{of_rule}
 use Rattle.rdx_parts.specs.ExtraReading.{items_reading, premise_reading}
 use Rattle.rdx_parts.specs.Headed.{Headed, headed}
 use Rattle.rdx_parts.specs.BareStands.{lone_pattern}
 use Rattle.rdx_defs.specs.Inside.FormOutlines.{rule_branch, in_rule, rule_branches, given_patterns, option_patterns, options_patterns, judgement_outline, question_outline}
 use Rattle.rdx_parts.specs.Outlines.{one, each, RuleBranch}
-use Rattle.rdx_defs.specs.Inside.Contracts.{IsJudgementContract}
+use Rattle.rdx_defs.specs.Inside.Contracts.{IsJudgementContractIn}
 use Rattle.rdx_parts.specs.PartsHave.{PremiseHas, RuleHas, RulesHave, AloneHave, OutlineHas, IsPattern, can_read}
 use Rattle.rdx_defs.specs.JudgementForms.{RuleForm, rule_form, own_rule, OptionForm, JudgementForm, given_by, headed_by, mode_form, contract_form, judgement_in, is_flag, mode_given, own_mode, key_text, is_fit_option}
-use Rattle.rdx_defs.specs.JudgementReading.{rule_reading, with_rule, rules_reading, contract_reading, mode_or_none, judgement_reading}
+use Rattle.rdx_defs.specs.JudgementReading.{rule_reading, with_rule, rules_reading, closed_list, contract_reading, mode_or_none, judgement_reading}
 use Rattle.rdx_defs.specs.JudgementRefusal.{result_stands, lone_premise_stands}
 use Rattle.rdx_defs.specs.JudgementStands.{rule_arguments, bound_by_inputs, bound_by_rule, conclusion_stands, premises_stand, name_stands, rule_stands, rules_stand, flags_stand, mode_stands, contract_stands, given_stands, option_stands, options_stand, missing_mode, judgement_stands}
 use Rattle.rdx_defs.specs.MetafunctionReading.{closed_items, text_in}
@@ -306,16 +306,44 @@ module _ (S : Scope) (L : Language) (ys : List (List ℕ)) where
   each-well [] h = (refl, refl)
   each-well (d ∷ ds) h = with-well S L ys None (reading ns Query d) (items_reading ns ds) h.0.well_formed (each-well ds h.1)
 
-  -- a contract that fits this mode is valid
-  contract-valid : (m : Mode) (q : Headed) → IsGoodContract (Some m) q → IsJudgementContract M ns (Some q) × (is_valid_judgement_contract M m (Some (contract_reading ns q)) ≡ true)
+  -- so are those at which a flag is set
+  well-at : (bs : List Bool) (ds : List Sexp) → AloneHave (IsPattern M ns) ds → AloneHave (IsPattern M ns) (data_at bs ds)
+  well-at [] ds h = tt
+  well-at (b ∷ bs) [] h = tt
+  well-at (true ∷ bs) (d ∷ ds) h = (h.0, well-at bs ds h.1)
+  well-at (false ∷ bs) (d ∷ ds) h = well-at bs ds h.1
+
+  -- the list pattern of so many of them, each closed, has as many items and is well formed
+  closed-good : (n : ℕ) (ds es : List Sexp) → ds ≡ es → length es ≡ n → AloneHave (IsPattern M ns) es
+      → (is_list_of n (closed_list ns ds) ≡ true) × (is_well_formed_in M (closed_list ns ds) ≡ true)
+  closed-good n ds es e l h =
+      let w = each-well es h in
+      subst (λ (xs : List Sexp). (is_list_of n (closed_list ns xs) ≡ true) × (is_well_formed_in M (closed_list ns xs) ≡ true)) (sym e) (
+        ap (λ k. are_single k (closed_items (items_reading ns es))) (sym l) ∙ single-closed es,
+        closed-well_formed S L ys (items_reading ns es) w.0 w.1,
+      )
+
+  -- a contract is well formed, read by one mode, and valid for another, where there is one
+  abbrev AreGoodContracts : Mode → Option Mode → Option Headed → Type 0
+  AreGoodContracts m o c = IsJudgementContractIn M ns o c × (is_valid_judgement_contract M m (option_map (contract_reading ns o) c) ≡ true)
+
+  -- one that fits this mode is
+  contract-valid : (m : Mode) (q : Headed) → IsGoodContract (Some m) q → AreGoodContracts m (Some m) (Some q)
   contract-valid m q h =
-      let f = mode-fits (Some m) q.arguments refl h.fits in
-      let long : length m ≡ length q.arguments = ap (λ (n : Mode). length n) (let e = f.is in let same : m ≡ f.mode = cc in same) ∙ f.long in
-      let w = each-well q.arguments h.patterns in
-      let formed = closed-well_formed S L ys (items_reading ns q.arguments) w.0 w.1 in (
-        formed,
-        and_both (is_list_of (length m) (contract_reading ns q)) (is_well_formed_in M (contract_reading ns q))
-            (ap (λ n. are_single n (closed_items (items_reading ns q.arguments))) long ∙ single-closed q.arguments) formed,
+      let ds = q.arguments in
+      let c = contract_reading ns (Some m) q in
+      let formed = is_well_formed_in M in
+      let f = mode-fits (Some m) ds refl h.fits in
+      let same : f.mode ≡ m = (let e = f.is in cc) in
+      let long : length m ≡ length ds = ap (λ (n : Mode). length n) (sym same) ∙ f.long in
+      let fit : fitting (Some m) ds ≡ Some m = f.fits ∙ ap Some same in
+      let ins = closed-good (input_count m) (patterns_in (in_conclusion (Some m) ds)) (data_at m ds)
+      (ap (λ (o : Option Mode). data_by o ds) fit) (inputs-counted m ds long) (well-at m ds h.patterns) in
+      let outs = closed-good (output_count m) (patterns_in (in_premise (Some m) ds)) (data_at (map not m) ds)
+      (ap (λ (o : Option Mode). data_by (option_map (map not) o) ds) fit) (outputs-counted m ds long) (well-at (map not m) ds h.patterns) in (
+        record { inputs = ins.1; outputs = outs.1 },
+        and_both (is_list_of (input_count m) c.0) (is_list_of (output_count m) c.1 && (formed c.0 && formed c.1)) ins.0
+            (and_both (is_list_of (output_count m) c.1) (formed c.0 && formed c.1) outs.0 (and_both (formed c.0) (formed c.1) ins.1 outs.1)),
       )
 
   -- ---- judgements
@@ -323,7 +351,7 @@ module _ (S : Scope) (L : Language) (ys : List (List ℕ)) where
   -- what a form that passes has
   pub record IsValidJudgement (f : JudgementForm) : Type 0 where
     pub parts : OutlineHas S (can_read S M ns) (judgement_outline f)
-    pub contract : IsJudgementContract M ns (contract_form f)
+    pub contract : IsJudgementContractIn M ns (own_mode f) (contract_form f)
     pub moded : IsSome (own_mode f)
     pub named : IsTrue (is_name (text_in (judgement_in f)))
     pub valid : is_valid_judgement (callable S) (Some M) (judgement_reading S ns f) ≡ true
@@ -342,19 +370,20 @@ module _ (S : Scope) (L : Language) (ys : List (List ℕ)) where
       subst (λ (o : Option Mode). AreGoodRules m (rule_branches j o f.rules) (rules_reading S ns j o f.rules)) (sym own)
       (rules-good j m f.rules (subst (λ (o : Option Mode). RulesHave S (bound (BindsWithin ys ns)) (rule_branches j o f.rules)) own h.rules)
       (subst (λ (o : Option Mode). ArePassed S ns (rules_stand S ns j o f.rules)) own rules)) in
-      let contract = by_contract m own alone (contract_form f) refl in
+      let contract : AreGoodContracts m (own_mode f) (contract_form f) =
+      subst (λ (o : Option Mode). AreGoodContracts m o (contract_form f)) (sym own) (by_contract m own alone (contract_form f) refl) in
       record {
         parts = record { alone = alone; branches = tt; rules = good.0; questions = tt };
         contract = contract.0;
         moded = subst (λ (o : Option Mode). IsSome o) (sym own) refl;
         named = subst (λ (o : Option Headed). IsTrue (is_name (text_in (option_map (λ h. h.head) o)))) (sym e) (judgement-name q.head r.head name.0);
         valid =
-            ap (λ (n : Mode). is_valid_judgement_contract M n (option_map (contract_reading ns) (contract_form f)) && list_all (is_valid_judgement_rule C M n) (rules_reading S ns j (own_mode f) f.rules)) (ap mode_or_none own)
-            ∙ and_both (is_valid_judgement_contract M m (option_map (contract_reading ns) (contract_form f))) (list_all (is_valid_judgement_rule C M m) (rules_reading S ns j (own_mode f) f.rules)) contract.1 good.1;
+            ap (λ (n : Mode). is_valid_judgement_contract M n (option_map (contract_reading ns (own_mode f)) (contract_form f)) && list_all (is_valid_judgement_rule C M n) (rules_reading S ns j (own_mode f) f.rules)) (ap mode_or_none own)
+            ∙ and_both (is_valid_judgement_contract M m (option_map (contract_reading ns (own_mode f)) (contract_form f))) (list_all (is_valid_judgement_rule C M m) (rules_reading S ns j (own_mode f) f.rules)) contract.1 good.1;
       }
     where
       by_contract : (m : Mode) → own_mode f ≡ Some m → AloneHave (IsPattern M ns) (options_patterns (judgement_in f) [] f.options) → (c : Option Headed) → contract_form f ≡ c
-          → IsJudgementContract M ns c × (is_valid_judgement_contract M m (option_map (contract_reading ns) c) ≡ true)
+          → AreGoodContracts m (Some m) c
       by_contract m own alone None g = (tt, refl)
       by_contract m own alone (Some c) g =
           contract-valid m c (subst (λ (o : Option Mode). IsGoodContract o c) own (contract-passed (judgement_in f) (own_mode f) [] f.options c alone options g))

@@ -4,7 +4,7 @@ use Rattle.rdx_base.specs.declared.place.Span.{Span}
 use Rattle.rdx_sexp.specs.Sexp.{keyword, text, Sexp, leaf}
 use Rattle.rdx_term.specs.Tree.{symbol}
 use Rattle.rdx_lang.specs.Patterns as patterns
-use Rattle.rdx_lang.specs.Patterns.{Pattern, nt, named}
+use Rattle.rdx_lang.specs.Patterns.{Pattern, nt, named, closed}
 use Rattle.rdx_lang.specs.Programs.{Extra, provided, holds, Judgement}
 use Rattle.rdx_lang.specs.Templates.{Template, lit, var, term}
 use Rattle.rdx_lang.specs.declared.pattern.Ref.TheVariants.{Nt}
@@ -97,6 +97,26 @@ ConfirmsTerm =
     (judgement s
     (group s (asks s (codes "J") (codes "n_1") (codes "n_1") ∷ group s (word s (codes "side-condition") ∷ word s (codes "n_1") ∷ []) ∷ [])))
     (from_number None (provided (term (var (codes "n_1") 0)) ∷ []) (var (codes "n_1") 0))
+
+-- a list pattern of one number of this name, closed
+abbrev closed_number : List ℕ → Pattern
+closed_number x = patterns.seq (patterns.one (closed (named x (nt (Nt (codes "n"))))) patterns.nil)
+
+-- `(define-judgment-form L #:contract (J n_1 n_2) #:mode (J I O))`: the contract is one of the list of inputs and one of the list of outputs
+abbrev pub DividesContract : Type 0
+DividesContract =
+    (s : Span)
+    → MeansJudgement
+    (group s (word s (codes "define-judgment-form") ∷ word s (codes "L")
+    ∷ leaf (keyword (codes "contract")) s ∷ asks s (codes "J") (codes "n_1") (codes "n_2")
+    ∷ leaf (keyword (codes "mode")) s ∷ asks s (codes "J") (codes "I") (codes "O") ∷ []))
+    (record {
+      name = codes "J";
+      language = codes "L";
+      mode = true ∷ false ∷ [];
+      contract = Some (closed_number (codes "n_1"), closed_number (codes "n_2"));
+      rules = [];
+    })
 
 -- ---- refusals
 

@@ -4,7 +4,7 @@ use Rattle.rdx_sexp.specs.Sexp.{Sexp}
 use Rattle.rdx_lang.specs.Patterns.{Pattern, seq}
 use Rattle.rdx_lang.specs.Programs.{Mode, JudgementRule, Judgement}
 use Rattle.rdx_patterns.specs.Parts.{text_of}
-use Rattle.rdx_parts.specs.Arguments.{patterns_in, templates_in}
+use Rattle.rdx_parts.specs.Arguments.{in_conclusion, in_premise, patterns_in, templates_in}
 use Rattle.rdx_parts.specs.ExtraForms.{of_rule}
 use Rattle.rdx_parts.specs.ExtraReading.{extras_reading, items_reading, list_reading, templates_reading}
 use Rattle.rdx_parts.specs.Headed.{Headed}
@@ -34,9 +34,14 @@ abbrev pub rules_reading : Scope → List (List ℕ) → Option Sexp → Option 
 rules_reading S ns j m [] = []
 rules_reading S ns j m (d ∷ ds) = with_rule S ns m (own_rule j (rule_form d)) (rules_reading S ns j m ds)
 
--- the contract of a form: each pattern is closed, so that equal names in two of them do not ask for equal terms
-abbrev pub contract_reading : List (List ℕ) → Headed → Pattern
-contract_reading ns h = seq (closed_items (items_reading ns h.arguments))
+-- the pattern of lists by these patterns, each closed, so that equal names in two of them do not ask for equal terms
+abbrev pub closed_list : List (List ℕ) → List Sexp → Pattern
+closed_list ns ds = seq (closed_items (items_reading ns ds))
+
+-- the contract of a form by its mode, of the list of inputs and of that of outputs
+abbrev pub contract_reading : List (List ℕ) → Option Mode → Headed → Pattern × Pattern
+contract_reading ns m h =
+    (closed_list ns (patterns_in (in_conclusion m h.arguments)), closed_list ns (patterns_in (in_premise m h.arguments)))
 
 -- a mode, where there is one
 abbrev pub mode_or_none : Option Mode → Mode
@@ -49,6 +54,6 @@ judgement_reading S ns f = record {
   name = text_in (judgement_in f);
   language = text_of f.language;
   mode = mode_or_none (own_mode f);
-  contract = option_map (contract_reading ns) (contract_form f);
+  contract = option_map (contract_reading ns (own_mode f)) (contract_form f);
   rules = rules_reading S ns (judgement_in f) (own_mode f) f.rules;
 }

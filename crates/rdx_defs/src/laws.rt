@@ -1,6 +1,6 @@
 //! Laws of the definitions: functions that do nothing, whose contracts are the laws.
 ghost use Rattle.rdx_defs.specs.JudgementExamples as judgements;
-ghost use Rattle.rdx_defs.specs.JudgementExamples.{AheadMeans, BehindMeans, SeesNoOutput, ConfirmsTerm, ConclusionRefused, NoModeRefused, UnknownRefused};
+ghost use Rattle.rdx_defs.specs.JudgementExamples.{AheadMeans, BehindMeans, SeesNoOutput, ConfirmsTerm, DividesContract, ConclusionRefused, NoModeRefused, UnknownRefused};
 ghost use Rattle.rdx_defs.specs.JudgementLaws.{NeverBothJudgement, NeverNeitherJudgement, OneJudgement, OneJudgementRefusal};
 ghost use Rattle.rdx_defs.specs.MetafunctionExamples as metafunctions;
 ghost use Rattle.rdx_defs.specs.MetafunctionExamples.{CallsAnother, ClosesContract, NamedClauseRefused, OtherNameRefused};
@@ -41,6 +41,7 @@ pub fn worked_judgements()
     ensures behind { BehindMeans }
     ensures own_output { SeesNoOutput }
     ensures side_condition { ConfirmsTerm }
+    ensures contract { DividesContract }
     ensures conclusion { ConclusionRefused }
     ensures no_mode { NoModeRefused }
     ensures unknown_first { UnknownRefused }

@@ -127,7 +127,7 @@ module _ (R S T : Binding → Type 0) (maps_first : (b : Binding) → R b → Ha
 -- ---- a name
 
 -- a name alone is a finite map
-alone-ascends : (n : Naming) (t : Tree) → HasAscendingNames (alone n t)
+pub alone-ascends : (n : Naming) (t : Tree) → HasAscendingNames (alone n t)
 alone-ascends (binds x) t = one_name-ascends x (one t)
 alone-ascends (differs x) t = one_differs-ascends x t
 

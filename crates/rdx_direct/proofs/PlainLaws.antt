@@ -1,6 +1,7 @@
 -- Patterns that bind nothing: as they match and as they split, they bind no name, and no mismatch name.
-use Rattle.std.proofs.Common.{◌≡◌, ◌∙◌, ℕ, true, List, [], ◌∷◌, Option, Some, None, refl, sym, ap, subst}
+use Rattle.std.proofs.Common.{◌≡◌, ◌∙◌, ℕ, Bool, true, IsTrue, List, [], ◌∷◌, Option, Some, None, refl, sym, ap, subst}
 use Rattle.std.proofs.lemmas.Bool.{and_parts, and_from}
+use Rattle.std.specs.Prelude.{◌↔◌}
 use Rattle.rdx_term.specs.Tree.{Tree, Trees, cons}
 use Rattle.rdx_lang.proofs.JoinLaws.{none_left, none_left-only, unit_left}
 use Rattle.rdx_lang.proofs.NameLaws.{run-ascends}
@@ -13,8 +14,12 @@ use Rattle.rdx_lang.specs.Names.{names, item_names, add_names}
 use Rattle.rdx_lang.specs.Patterns.{Pattern, wild, of_kind, except, prefix, hole, lit, nt, named, differ, in_hole, hide_hole, closed, seq, Items, nil, one, many, Language}
 use Rattle.rdx_lang.specs.Rules.{Match, MatchItems, MatchRun, match_wild, match_kind, match_except, match_prefix, match_hole, match_lit, match_nt, match_named, match_differ, match_in_hole, match_hide_hole, match_closed, match_seq, match_none, match_one, match_many, run_end, run_more}
 use Rattle.rdx_lang.specs.Rules.{Split, SplitItems, SplitRun, split_hole, split_nt, split_named, split_differ, split_in_hole, split_closed, split_seq, split_here, split_behind, split_many, run_here, run_there, run_behind}
+use Rattle.rdx_bind.proofs.Namings.{match_under, under_inside}
 use Rattle.rdx_bind.proofs.NoSets.{repetition_plain}
 use Rattle.rdx_bind.proofs.NoSets.{nothing_bound as neither_bound}
+use Rattle.rdx_bind.specs.Namings.{Naming, under, alone}
+use Rattle.rdx_direct.proofs.GoingLaws.{alone-ascends}
+use Rattle.rdx_direct.specs.Inside.Going.{Fits}
 use Rattle.rdx_direct.specs.Inside.Plain.{is_plain, are_plain}
 
 -- ---- their names
@@ -179,3 +184,23 @@ module _ {L : Language} where
   -- no turn more
   pub no_turn_more : {p : Pattern} {ps : Items} {ts : Trees} → is_plain p ≡ true → are_plain ps ≡ true → MatchItems L ps ts no_names → MatchItems L (many p None ps) ts no_names
   no_turn_more e f m = run_matches e f (run_end m)
+
+-- ---- under a name
+
+-- a pattern with a name or a mismatch name matches exactly where its part does, if that binds nothing
+pub fits_under : {L : Language} {q : Pattern} {t : Tree} (n : Naming) (so : Bool) → is_plain q ≡ true → (IsTrue so ↔ Fits L q t)
+    → (IsTrue so ↔ Fits L (under n q) t)
+fits_under {L} {q} {t} n so e f = (onward, back)
+  where
+    onward : IsTrue so → Fits L (under n q) t
+    onward h =
+        let k = f.0 h in
+        record {
+          binding = alone n t;
+          matched =
+              match_under n k.matched
+              (subst (λ c. IsJoin c (alone n t) (alone n t)) (sym (match-empty e k.matched)) (unit_left (alone n t) (alone-ascends n t)));
+        }
+
+    back : Fits L (under n q) t → IsTrue so
+    back k = let i = under_inside n k.matched in f.1 (record { binding = i.inside; matched = i.matched })

@@ -334,13 +334,38 @@ impl<'a> Walk<'a> {
             Pat::Wild | Pat::Kind(_) | Pat::Except(_) | Pat::Prefix(_) | Pat::Hole | Pat::Lit(_) =>
                 Err(Halt::Spent),
             Pat::Nt(name) => self.fits_nt(name, self.choices(name), t, inside, fuel),
-            Pat::Named(_, _) | Pat::Differ(_, _) | Pat::InHole(_, _) => {
-                self.some(pat, t, inside, fuel)
+            Pat::Named(name, part) => self.fits_named(Naming::Binds(name), part, t, inside, fuel),
+            Pat::Differ(name, part) => {
+                self.fits_named(Naming::Differs(name), part, t, inside, fuel)
             }
+            Pat::InHole(_, _) => self.some(pat, t, inside, fuel),
             Pat::HideHole(part) => self.fits(part, t, inside, fuel),
             Pat::Closed(part) => self.fits(part, t, inside, fuel),
             Pat::Seq(items) => self.fits_list(items, t, inside, fuel),
         }
+    }
+
+    // Whether a pattern with a name or a mismatch name matches: where its part binds nothing, whether
+    // that does.
+    #[cycle(walk)]
+    #[inline(never)]
+    fn fits_named(
+        &self,
+        name: Naming<'_>,
+        part: &Pat,
+        t: &Term,
+        room: Room,
+        fuel: &mut Fuel,
+    ) -> Result<bool, Halt>
+        ensures { IfOk result (λ any. IsTrue any ↔ Fits (language_in self.now.language.now)
+            (under (naming_of name.entry) (pattern_of part.now)) (tree_of t.now)) }
+    {
+        if is_plain(part) {
+            return self.fits(part, t, room, fuel);
+        }
+        let given = empty_where(self.alloc, true)?;
+        let found = self.go_named(name, part, t, given, room, fuel)?;
+        Ok(!found.is_empty())
     }
 
     // A pattern with a name or a mismatch name: what its part binds, and the name for the term.

@@ -8,6 +8,8 @@ pub mod Sequences
 pub mod OneAnswer
 pub mod FiniteMaps
 pub mod SomeAnswer
+pub mod ContractLaws
+pub mod TakingAll
 pub mod Reached
 pub mod Staying
 pub mod ItemEquations
@@ -30,6 +32,7 @@ pub mod CallExamples
 pub mod JudgementExamples
 pub mod FreshExamples
 pub mod ClauseExamples
+pub mod ContractExamples
 pub mod FreshLaws
 pub mod HeldPremises
 pub mod TakenOutputs

@@ -10,3 +10,4 @@ pub mod Extras
 pub mod Frames
 pub mod Weights
 pub mod Memos
+pub mod Asked

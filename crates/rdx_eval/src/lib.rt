@@ -8,6 +8,7 @@
 //! is a fault.
 #![tactic(auto)]
 
+mod asking;
 mod at_once;
 mod digest;
 mod engine;
@@ -30,4 +31,4 @@ mod turns;
 mod values;
 
 pub use engine::Engine;
-pub use fault::{EvalFault, Fault};
+pub use fault::{EvalFault, Fault, Side};

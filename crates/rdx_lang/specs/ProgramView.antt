@@ -2,9 +2,11 @@
 use Rattle.std.specs.Prelude.{List, map, option_map}
 use Rattle.std.specs.Rc.{rc_str_bytes}
 use Rattle.rdx_lang.specs.Checked.{language_in, pattern_in}
+use Rattle.rdx_lang.specs.Patterns.{Pattern}
 use Rattle.rdx_lang.specs.Programs as model
 use Rattle.rdx_lang.specs.Programs.{such_as, provided, holds, fresh}
 use Rattle.rdx_lang.specs.TemplateView.{template_of, host_of}
+use Rattle.rdx_lang.specs.declared.checked.CheckedPat.{CheckedPat}
 use Rattle.rdx_lang.specs.declared.program.Clause.{Clause}
 use Rattle.rdx_lang.specs.declared.program.Extra.{Extra}
 use Rattle.rdx_lang.specs.declared.program.Extra.TheVariants.{Where, Side, Holds, Fresh}
@@ -39,12 +41,16 @@ clause_of c = record { arguments = pattern_in c.args; extras = extras_of c.extra
 abbrev pub clauses_of : List Clause → List model.Clause
 clauses_of cs = map clause_of cs
 
+-- both patterns of a contract
+abbrev pub contract_of : CheckedPat × CheckedPat → Pattern × Pattern
+contract_of c = (pattern_in c.0, pattern_in c.1)
+
 -- the metafunction that a metafunction of the code stands for
 abbrev pub metafunction_of : Metafunction → model.Metafunction
 metafunction_of f = record {
   name = f.name;
   language = f.language;
-  contract = option_map (λ c. (pattern_in c.0, pattern_in c.1)) f.contract;
+  contract = option_map contract_of f.contract;
   clauses = clauses_of f.clauses.items;
 }
 
@@ -67,7 +73,7 @@ judgement_of j = record {
   name = j.name;
   language = j.language;
   mode = j.inputs.items;
-  contract = option_map pattern_in j.contract;
+  contract = option_map contract_of j.contract;
   rules = judgement_rules_of j.rules.items;
 }
 

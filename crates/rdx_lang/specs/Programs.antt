@@ -44,13 +44,13 @@ pub record JudgementRule : Type 0 where
   pub extras : List Extra
   pub outputs : List Template
 
--- a judgement: its name, that of its language, its mode, its contract, where it has one, of the list of all arguments, and its rules in their
--- order
+-- a judgement: its name, that of its language, its mode, its contract, where it has one, of the list of inputs and of the list of outputs, and its
+-- rules in their order
 pub record Judgement : Type 0 where
   pub name : List ℕ
   pub language : List ℕ
   pub mode : Mode
-  pub contract : Option Pattern
+  pub contract : Option (Pattern × Pattern)
   pub rules : List JudgementRule
 
 -- a rule of a relation: its name, which terms it takes a step from, what each binding has to meet, one after the other, and what the step leads to

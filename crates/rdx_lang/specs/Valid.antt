@@ -1,9 +1,9 @@
 -- When what a file defines is valid: each name that it uses is defined, once; its patterns are well formed; its templates fit.
-use Rattle.std.specs.Prelude.{ℕ, Bool, true, false, not, ◌&&◌, List, [], ◌∷◌, ◌++◌, Option, Some, None, is_some, map, option_map, length, bytes_eq}
+use Rattle.std.specs.Prelude.{ℕ, Bool, true, false, not, ◌&&◌, List, [], ◌∷◌, ◌++◌, Option, Some, None, is_some, map, option_map, bytes_eq}
 use Rattle.std.specs.List.{list_all, list_any}
 use Rattle.rdx_lang.specs.Depths.{Use, uses}
 use Rattle.rdx_lang.specs.Fitting.{fits, fits_in}
-use Rattle.rdx_lang.specs.Modes.{Callable, fits_mode, rule_fits_mode, is_list_of}
+use Rattle.rdx_lang.specs.Modes.{Callable, fits_mode, rule_fits_mode, input_count, output_count, is_list_of}
 use Rattle.rdx_lang.specs.Patterns.{Pattern, Language}
 use Rattle.rdx_lang.specs.Programs.{Extra, such_as, provided, holds, fresh, Clause, Metafunction, Mode, JudgementRule, Judgement, Rule, Relation, Program, language_named, metafunction_named, judgement_named}
 use Rattle.rdx_lang.specs.Scopes.{bound_by, extra_uses, case_uses}
@@ -52,10 +52,12 @@ is_valid_judgement_rule C L m r =
     && (is_well_formed_in L r.inputs
     && (are_valid_extras C L (uses 0 r.inputs) r.extras && list_all (fits C.functions (bound_by (case_uses r.inputs r.extras)) 0) r.outputs))
 
--- the contract of a judgement of this mode is well formed and fits it, where there is one
-abbrev pub is_valid_judgement_contract : Language → Mode → Option Pattern → Bool
+-- both patterns of the contract of a judgement of this mode are well formed and have as many items as it has inputs, and outputs, where there is one
+abbrev pub is_valid_judgement_contract : Language → Mode → Option (Pattern × Pattern) → Bool
 is_valid_judgement_contract L m None = true
-is_valid_judgement_contract L m (Some p) = is_list_of (length m) p && is_well_formed_in L p
+is_valid_judgement_contract L m (Some c) =
+    is_list_of (input_count m) c.0
+    && (is_list_of (output_count m) c.1 && (is_well_formed_in L c.0 && is_well_formed_in L c.1))
 
 -- a judgement over this language is valid, if there is one
 abbrev pub is_valid_judgement : Callable → Option Language → Judgement → Bool

@@ -75,8 +75,8 @@ pub struct Judgement {
     pub language: Name,
     /// Its mode: for each argument whether it is an input; else it is an output.
     pub inputs: Vec<bool>,
-    /// Its contract, where it has one: of the list of all arguments.
-    pub contract: Option<CheckedPat>,
+    /// Its contract, where it has one: of the list of inputs, and of the list of outputs.
+    pub contract: Option<(CheckedPat, CheckedPat)>,
     /// Its rules, in their order.
     pub rules: Vec<JRule>,
 }

@@ -85,17 +85,24 @@ pub fn in_conclusion<'m, 'a>(mode: Option<&'m [bool]>, arguments: &'a [Datum]) -
     }
 }
 
+/// Those of a premise.
+pub fn in_premise<'m, 'a>(mode: Option<&'m [bool]>, arguments: &'a [Datum]) -> Arguments<'m, 'a>
+    ensures { arguments_of result
+        ≡ model.in_premise (option_map (λ m. m.now) mode.entry) arguments.now }
+{
+    Arguments {
+        mode: fitting(mode, arguments),
+        at_inputs: false,
+        items: arguments,
+    }
+}
+
 /// The arguments of a premise in a file of this scope.
 pub(crate) fn premise_arguments<'m, 'a>(scope: &'m Scope, premise: Headed<'a>) -> Arguments<'m, 'a>
     ensures { arguments_of result
         ≡ stands.premise_arguments (scopes.scope_of scope.now) (headed_of premise.entry) }
 {
-    let mode = mode_of(scope, text(premise.head));
-    Arguments {
-        mode: fitting(mode, premise.arguments),
-        at_inputs: false,
-        items: premise.arguments,
-    }
+    in_premise(mode_of(scope, text(premise.head)), premise.arguments)
 }
 
 impl<'m, 'a> Arguments<'m, 'a> {

@@ -338,8 +338,8 @@ abbrev both_steps : List Step
 both_steps = step 0 ∷ step 1 ∷ []
 
 -- each rule takes one
-one_taken : (C : Calls) (i : ℕ) (x : List ℕ) → RuleSteps L C (tree.integer (pos 1)) i (rule_named x) (value (step i ∷ []))
-one_taken C i x = goes (goes (lists second_listing) refl) (goes (goes (goes refl refl) refl) (goes refl refl))
+one_taken : (C : Calls) (i : ℕ) (x : List ℕ) → RuleSteps L C R (tree.integer (pos 1)) i (rule_named x) (value (step i ∷ []))
+one_taken C i x = goes (goes (lists second_listing) refl) (goes (goes (goes (goes refl refl) refl) refl) (goes refl refl))
 
 -- and these are all
 taken : AreSteps program_R R (tree.integer (pos 1)) (value both_steps)
@@ -552,8 +552,10 @@ value_of_f : HostValue program_f call_of_f (value (tree.integer (pos 2)))
 unfolding calls_at
 value_of_f =
     goes (goes (goes (goes refl refl) (goes refl refl)) (listed (record { shallow = omega arith; small = omega arith })))
+    (goes
     (goes (goes (lists taken_by_f) refl)
     (goes (goes (goes refl refl) (goes refl refl)) (one_of (one_alone (tree.integer (pos 2)) (here refl) (λ t i. only_member t (tree.integer (pos 2)) i)))))
+    refl)
 
 two_printed : codes "value 2\n" ≡ value_line (tree.integer (pos 2))
 two_printed = λ i. codes "value " ++ digit_2 i ++ codes "\n"
@@ -600,9 +602,10 @@ abbrev no_outputs : tree.Tree
 no_outputs = tree.list None tree.nil
 
 -- the rule gives it
-given_none : (C : Calls) → RuleOutputs L C arguments_of_f (rule_of_J []) (value (no_outputs ∷ []))
+given_none : (C : Calls) → RuleOutputs L C (codes "J") None arguments_of_f (rule_of_J []) (value (no_outputs ∷ []))
 given_none C =
-    goes (goes (lists taken_by_f) refl) (goes (goes (goes refl (listed (record { shallow = omega arith; small = omega arith }))) refl) (goes refl refl))
+    goes (goes (lists taken_by_f) refl)
+    (goes (goes (goes (goes refl (listed (record { shallow = omega arith; small = omega arith }))) refl) refl) (goes refl refl))
 
 -- it matches with no names
 only_empty : (b : Binding) → Match L (seq nil) no_outputs b → b ≡ no_names
@@ -653,10 +656,11 @@ abbrev output : ℕ → tree.Tree
 output n = tree.list None (tree.cons (tree.integer (pos n)) tree.nil)
 
 -- a rule gives it
-given_one : (C : Calls) (n : ℕ) → RuleOutputs L C arguments_of_f (rule_of_J (n ∷ [])) (value (output n ∷ []))
+given_one : (C : Calls) (n : ℕ) → RuleOutputs L C (codes "J") None arguments_of_f (rule_of_J (n ∷ [])) (value (output n ∷ []))
 given_one C n =
     goes (goes (lists taken_by_f) refl)
-    (goes (goes (goes (goes (goes refl refl) (goes refl refl)) (listed (record { shallow = omega arith; small = omega arith }))) refl) (goes refl refl))
+    (goes (goes (goes (goes (goes (goes refl refl) (goes refl refl)) (listed (record { shallow = omega arith; small = omega arith }))) refl) refl)
+    (goes refl refl))
 
 -- `any` binds it
 abbrev output_pattern : Pattern

@@ -169,14 +169,14 @@ module _ (one_listing : OneListing) (one_splits : OneSplitsListing) (one_term : 
   -- ---- steps
 
   -- a relation has one listing of its steps at most, or one fault
-  once-over : (P : Program) (o : Option Language) (t : Tree) (rs : List Rule) → Once (StepsOver o (calls_at P height) t rs)
-  once-over P None t rs a b h k = absurd h
-  once-over P (Some L) t rs a b h k = one_stepping L P height t rs a b h k
+  once-over : (P : Program) (o : Option Language) (R : Relation) (t : Tree) → Once (StepsOver o (calls_at P height) R t)
+  once-over P None R t a b h k = absurd h
+  once-over P (Some L) R t a b h k = one_stepping L P height R t a b h k
 
   -- of what is known by one name
   one_relation : (P : Program) (name : List ℕ) (t : Tree) (R S : Relation) (a b : Answer (List Step)) → R ≡ S → AreSteps P R t a → AreSteps P S t b → a ≡ b
   one_relation P name t R S a b e h k =
-      once-over P (language_named P S.language) t S.rules a b (subst (λ (Q : Relation). AreSteps P Q t a) e h) k
+      once-over P (language_named P S.language) S t a b (subst (λ (Q : Relation). AreSteps P Q t a) e h) k
 
   once-by-reducts : (P : Program) (name : List ℕ) (t : Tree) → OnceWritten (IsReductsAnswer P name t)
   once-by-reducts P name t text other m n a b =

@@ -143,8 +143,8 @@ module _ (decided : FreeOrRecursive) (some : SomeListing) (some_splits : SomeSpl
   are_steps : (P : Program) (R : Relation) (t : Tree) → AreFree P → (o : Option Language) → language_named P R.language ≡ o → IsSome o → HasAnswer (AreSteps P R t)
   are_steps P R t f None e n = absurd cc
   are_steps P R t f (Some L) e n =
-      let s = some_stepping L P height t R.rules (f L (language-among P.languages R.language L e)) f in
-      record { answer = s.answer; allowed = subst (λ (o : Option Language). StepsOver o (calls_at P height) t R.rules s.answer) (sym e) s.allowed }
+      let s = some_stepping L P height R t (f L (language-among P.languages R.language L e)) f in
+      record { answer = s.answer; allowed = subst (λ (o : Option Language). StepsOver o (calls_at P height) R t s.answer) (sym e) s.allowed }
 
   -- ---- the answers over a premise
 

@@ -29,7 +29,7 @@ use Rattle.rdx_eval.specs.Extending.{joined, joins_none, joins_more}
 use Rattle.rdx_eval.specs.FreshExamples.{x, fresh_x}
 use Rattle.rdx_eval.specs.Making.{filled, filled_no_context}
 use Rattle.rdx_reduce.specs.ClosureExamples.{alone, around, inside, NameStays, NameIsTaken, ClosureOfClosure, StepsInside, NoStepAtTop, FreshAvoidsContext, StepsInEachPlace, FaultInside, FirstPlaceFails}
-use Rattle.rdx_reduce.specs.Examples.{leads, leads_where, step}
+use Rattle.rdx_reduce.specs.Examples.{leads, leads_where, step, of_rules}
 use Rattle.rdx_reduce.specs.Steps.{Steps}
 use Rattle.rdx_reduce.proofs.ClosureLaws.{matches_in_context}
 use Rattle.rdx_reduce.proofs.Examples.{one_taken, two_taken, none_taken, of_one, after_extra}
@@ -130,7 +130,7 @@ abbrev with_fresh : List ℕ → Binding
 with_fresh w = of_pairs ((codes "context", one_term (marked_first the_hole x)) ∷ (codes "x", one_term (symbol w)) ∷ [])
 
 fresh_in_context : (P : Program) (n : ℕ)
-    → Steps Numbers (calls_at P n) (list_of_two (int 1) x) (closed_rule (seq_of_two hole any) to_fresh ∷ [])
+    → Steps Numbers (calls_at P n) (of_rules None (closed_rule (seq_of_two hole any) to_fresh ∷ [])) (list_of_two (int 1) x)
     (value (step 0 (list_of_two (symbol (variant (codes "x") 1)) x) ∷ []))
 fresh_in_context P n =
     let w : List ℕ = variant (codes "x") 1 in
@@ -140,15 +140,17 @@ fresh_in_context P n =
     (in_context (marked_first the_hole x))
     (with_fresh w ∷ []) (step 0 (list_of_two (symbol w) x) ∷ []) (first_matches x)
     (joined (joins_more (two_pairs (codes "context", one_term (marked_first the_hole x)) (codes "x", one_term (symbol w)) refl) joins_none)) (tt, tt)
-    (goes (goes (goes (goes refl (goes refl (filled refl (record { shallow = omega arith; small = omega arith })))) refl) refl) (goes refl refl)))
+    (goes (goes (goes (goes (goes refl (goes refl (filled refl (record { shallow = omega arith; small = omega arith })))) refl) refl) refl)
+    (goes refl refl)))
 
 pub fresh_avoids_context : FreshAvoidsContext
 fresh_avoids_context = (
   λ P n. of_one Numbers (calls_at P n) (int 1) to_fresh (step 0 x ∷ []) (tt, tt)
       (after_extra (calls_at P n) (int 1) 0 (pattern.lit (int 1)) (var (codes "x") 0) fresh_x no_names (binds (codes "x") x ∷ [])
       (step 0 x ∷ []) one_matches
-      (joined (joins_more (unit_left (binds (codes "x") x) ((tt, tt), (tt, tt))) joins_none)) (tt, tt) (goes (goes (goes refl refl) refl) (goes refl refl))),
-  λ P n. subst (λ (w : List ℕ). Steps Numbers (calls_at P n) (list_of_two (int 1) x) (closed_rule (seq_of_two hole any) to_fresh ∷ [])
+      (joined (joins_more (unit_left (binds (codes "x") x) ((tt, tt), (tt, tt))) joins_none)) (tt, tt)
+      (goes (goes (goes (goes refl refl) refl) refl) (goes refl refl))),
+  λ P n. subst (λ (w : List ℕ). Steps Numbers (calls_at P n) (of_rules None (closed_rule (seq_of_two hole any) to_fresh ∷ [])) (list_of_two (int 1) x)
       (value (step 0 (list_of_two (symbol w) x) ∷ [])))
       x_one (fresh_in_context P n),
 )
@@ -271,7 +273,7 @@ to_no_context = leads (pattern.lit (int 1)) (fill (lit (int 2)) (lit (int 2)))
 pub fault_inside : FaultInside
 fault_inside = (
   λ P n. stops (stops (goes (goes (lists (first_matches (int 1))) refl)
-      (stops (stops (stops (goes refl (stops (goes refl (goes refl (filled_no_context (refl, refl))))))))))),
+      (stops (stops (stops (stops (goes refl (stops (goes refl (goes refl (filled_no_context (refl, refl)))))))))))),
   λ P n. of_one Numbers (calls_at P n) (int 1) (closed_rule (seq_of_two hole any) to_no_context) [] tt
       (none_taken Numbers (calls_at P n) (int 1) 0 first_pattern (inside (codes "context") (fill (lit (int 2)) (lit (int 2))))
       (matches_listed tt (no_member (λ b h. no_split ((matches_in_context Numbers (seq_of_two hole any) to_no_context (int 1) b).0 h).split)))),
@@ -280,4 +282,4 @@ fault_inside = (
 pub first_place_fails : FirstPlaceFails
 first_place_fails P n =
     stops (stops (goes (goes (lists each_matches) refl)
-    (stops (stops (stops (goes refl (stops (goes (goes (goes refl refl) (goes (goes (goes refl refl) (goes refl refl)) refl)) refl))))))))
+    (stops (stops (stops (stops (goes refl (stops (goes (goes (goes refl refl) (goes (goes (goes refl refl) (goes refl refl)) refl)) refl)))))))))

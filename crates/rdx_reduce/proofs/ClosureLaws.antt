@@ -1,5 +1,5 @@
 -- What closures do.
-use Rattle.std.proofs.Common.{◌≡◌, ◌<◌, inl, inr, ℕ, zero, suc, true, List, [], ◌∷◌, Some, map, refl, sym, ◌∙◌, ap, subst, slice_get}
+use Rattle.std.proofs.Common.{◌≡◌, ◌<◌, ◌⊎◌, inl, inr, ℕ, zero, suc, true, List, [], ◌∷◌, Some, map, refl, sym, ◌∙◌, ap, subst, slice_get}
 use Rattle.std.proofs.lemmas.Bool.{and_parts}
 use Rattle.std.specs.Prelude.{◌↔◌, ◌&&◌}
 use Rattle.rdx_term.specs.Fill.{fill_of}
@@ -8,7 +8,7 @@ use Rattle.rdx_term.specs.Tree.{Tree}
 use Rattle.rdx_term.specs.Tree.{hole as the_hole}
 use Rattle.rdx_lang.specs.Bindings.{Value, Binding, one_name, value_at, visible}
 use Rattle.rdx_lang.specs.Bindings.{one as one_term}
-use Rattle.rdx_lang.specs.Closures.{context_name, closed_rule}
+use Rattle.rdx_lang.specs.Closures.{context_name, closed_rule, context_closure}
 use Rattle.rdx_lang.specs.Depths.{uses}
 use Rattle.rdx_lang.specs.Fitting.{fits}
 use Rattle.rdx_lang.specs.Join.{IsJoin}
@@ -17,7 +17,7 @@ use Rattle.rdx_lang.specs.Listing.{IsSeen}
 use Rattle.rdx_lang.specs.Members.{In, here, there}
 use Rattle.rdx_lang.specs.Modes.{Callable}
 use Rattle.rdx_lang.specs.Patterns.{Pattern, Language, named, in_hole, closed}
-use Rattle.rdx_lang.specs.Programs.{Rule}
+use Rattle.rdx_lang.specs.Programs.{Relation, Rule}
 use Rattle.rdx_lang.specs.Rules.{Match, match_in_hole, Split, split_named, split_closed}
 use Rattle.rdx_lang.specs.Scopes.{bound_by, case_uses, extras_uses}
 use Rattle.rdx_lang.specs.Templates.{Template, var, fill}
@@ -32,19 +32,21 @@ use Rattle.rdx_lang.proofs.RuleSteps.{in_hole_inside, named_splits, closed_split
 use Rattle.rdx_lang.proofs.SeenListings.{seen-ascends}
 use Rattle.rdx_lang.proofs.SetJoins.{no_sets_left}
 use Rattle.rdx_lang.proofs.SplitLaws.{split-along, split-fills}
-use Rattle.rdx_eval.specs.Answers.{Answer, value, fault, Fault, Then, stops, goes}
+use Rattle.rdx_eval.specs.Answers.{Answer, value, fault, Fault, not_contract, Then, stops, goes}
 use Rattle.rdx_eval.specs.Calls.{Calls}
 use Rattle.rdx_eval.specs.Fresh.{avoiding}
 use Rattle.rdx_eval.specs.Heights.{calls_at}
 use Rattle.rdx_eval.specs.Instantiation.{Makes}
 use Rattle.rdx_eval.specs.Making.{IsFilled, filled}
 use Rattle.rdx_eval.specs.Turns.{term_or}
+use Rattle.rdx_eval.specs.declared.fault.Side.TheVariants as sides
 use Rattle.rdx_eval.proofs.OneAnswer.{same_value}
-use Rattle.rdx_reduce.specs.ClosureLaws.{MatchesInside, MatchesInContext, LeavesAName, ContextIsJoined, TakesStepInside, StepsInContext, KeepsOwnSteps, IsTakenInside, ClosureLists, MeetsFaultInside, FaultsInContext, KeepsOwnFaults, ClosureFaults}
-use Rattle.rdx_reduce.specs.FirstFaults.{FailsAfter, MeetsFault, IsFirstMet}
-use Rattle.rdx_reduce.specs.Steps.{Step}
-use Rattle.rdx_reduce.specs.TakenSteps.{LeadTo, TakesStep, IsTaken}
+use Rattle.rdx_reduce.specs.ClosureLaws.{MatchesInside, MatchesInContext, LeavesAName, ContextIsJoined, TakesStepInside, StepsInContext, KeepsOwnSteps, IsTakenInside, ClosureLists, ReductsInside, MeetsFaultInside, FaultsInContext, KeepsOwnFaults, ClosureFaults}
+use Rattle.rdx_reduce.specs.FirstFaults.{FailsAfter, MeetsFault, IsFirstMet, IsFirst, at_term, by_rules}
+use Rattle.rdx_reduce.specs.Steps.{Step, Reducts}
+use Rattle.rdx_reduce.specs.TakenSteps.{LeadTo, TakesStep, IsTaken, IsInDomain}
 use Rattle.rdx_reduce.proofs.AlongExtras.{IsWithout, Differs, leads-along, fails-along}
+use Rattle.rdx_reduce.proofs.Domains.{asked-fails}
 use Rattle.rdx_reduce.proofs.ContextBindings.{IsUsed, used_first, used_last, bound-used, context-free, context-unbound, join_with_name, joined_name, other_name}
 use Rattle.rdx_eval.proofs.Reached.{reached}
 use Rattle.rdx_reduce.proofs.FirstFaults.{answers_first}
@@ -306,84 +308,115 @@ module _ (L : Language) (C : Calls) (F : Callable) (q : Pattern) (r : Rule) (w t
       (λ i. context-free r leaves (used_first (context_name r) (uses 0 r.pattern) (extras_uses r.extras) i))
       (λ i. context-free r leaves (used_last (context_name r) (uses 0 r.pattern) (extras_uses r.extras) i)) (λ i. elim i [ ]) parts_valid.0 k
 
-  -- a fault of the closed rule's result is one of the rule's result, or of the context that is filled with it
-  fault-put : (D : Tree) (f : Fault) (c b : Binding) → IsWider (context_name r) (one_term D) b c → Makes C c (closed_rule q r).result (fault f)
-      → Then (Makes C b r.result) (IsFilled D) (fault f)
-  fault-put D f c b h (stops e) = absurd cc
-  fault-put D f c b h (goes {x = u} e k) =
+  -- what the closed rule's result makes, or its fault, is what the rule's result makes, put into the context
+  into-context : (D : Tree) (a : Answer Tree) (c b : Binding) → IsWider (context_name r) (one_term D) b c → Makes C c (closed_rule q r).result a
+      → Then (Makes C b r.result) (IsFilled D) a
+  into-context D a c b h (stops e) = absurd cc
+  into-context D a c b h (goes {x = u} e k) =
       let same : u ≡ D = sym (same_value u (term_or (context_name r) (value_at c (context_name r))) e) ∙ stands-for D b c h in
-      subst (λ (R : Answer Tree → Type 0). Then R (IsFilled D) (fault f)) (makes-same (one_term D) b c h)
-      (subst (λ (d : Tree). Then (Makes C c r.result) (IsFilled d) (fault f)) same k)
+      subst (λ (R : Answer Tree → Type 0). Then R (IsFilled D) a) (makes-same (one_term D) b c h)
+      (subst (λ (d : Tree). Then (Makes C c r.result) (IsFilled d) a) same k)
 
   -- and the other way round
-  put-fault : (D : Tree) (f : Fault) (b c : Binding) → IsWider (context_name r) (one_term D) b c → Then (Makes C b r.result) (IsFilled D) (fault f)
-      → Makes C c (closed_rule q r).result (fault f)
-  put-fault D f b c h k =
+  from-context : (D : Tree) (a : Answer Tree) (b c : Binding) → IsWider (context_name r) (one_term D) b c → Then (Makes C b r.result) (IsFilled D) a
+      → Makes C c (closed_rule q r).result a
+  from-context D a b c h k =
       goes (ap value (sym (stands-for D b c h)))
-      (subst (λ (R : Answer Tree → Type 0). Then R (IsFilled D) (fault f)) (sym (makes-same (one_term D) b c h)) k)
+      (subst (λ (R : Answer Tree → Type 0). Then R (IsFilled D) a) (sym (makes-same (one_term D) b c h)) k)
 
-  -- a fault that the closed rule meets is one that the rule meets inside of a context
-  fault_inside : (n : ℕ) (b : Binding) (f : Fault) → MeetsFault L C w t (closed_rule q r) n b f → MeetsFaultInside L C w q t r n b f
-  fault_inside n b f h =
-      let x : List ℕ = context_name r in
-      let m = seen_inside L q x r.pattern t h.first h.matched in
-      let wider : IsWider x (one_term m.context) m.inner h.first =
-      record { less = seen_without L r m.part m.inner leaves m.matched; joined = m.joined } in
-      let e = fails-alike (λ c d. IsWider x (one_term m.context) d c) (narrower_differs x (one_term m.context)) (λ c. Makes C c (closed_rule q r).result)
-      (λ c. Then (Makes C c r.result) (IsFilled m.context)) f (fault-put m.context f) h.first m.inner b n wider h.fails in
-      record {
-        context = m.context;
-        part = m.part;
-        forgotten = m.forgotten;
-        first = m.inner;
-        last = e.0;
-        split = m.split;
-        matched = m.matched;
-        fails = e.1;
-        joined = e.2.joined;
-      }
+  module _ (R : Relation) where
+    -- so a fault of the closed rule's reducts is one of the rule's reducts inside of the context
+    fault-put : (D : Tree) (f : Fault) (c b : Binding) → IsWider (context_name r) (one_term D) b c → Reducts L C R (closed_rule q r) c (fault f)
+        → ReductsInside L C R D r b (fault f)
+    fault-put D f c b h (stops k) = stops (into-context D (fault f) c b h k)
+    fault-put D f c b h (goes {x = u} k l) = goes (into-context D (value u) c b h k) l
 
-  -- and the other way round
-  fault_outside : (n : ℕ) (b : Binding) (f : Fault) → MeetsFaultInside L C w q t r n b f → MeetsFault L C w t (closed_rule q r) n b f
-  fault_outside n b f h =
-      let x : List ℕ = context_name r in
-      let j = seen_outside L q r t h.context h.part h.forgotten h.first leaves h.split h.matched in
-      let wider : IsWider x (one_term h.context) h.first j.0 = record { less = seen_without L r h.part h.first leaves h.matched; joined = j.1 } in
-      let e = fails-alike (IsWider x (one_term h.context)) (wider_differs x (one_term h.context)) (λ c. Then (Makes C c r.result) (IsFilled h.context))
-      (λ c. Makes C c (closed_rule q r).result) f (put-fault h.context f) h.first j.0 h.last n wider h.fails in
-      let same : e.0 ≡ b = one_join (one_name x (one_term h.context)) h.last e.0 b e.2.joined h.joined in
-      record {
-        first = j.0;
-        matched = j.2;
-        fails = subst (λ (c : Binding). FailsAfter L C (λ d. Makes C d (closed_rule q r).result) (avoiding w) r.extras j.0 n c f) same e.1;
-      }
+    -- and the other way round
+    put-fault : (D : Tree) (f : Fault) (b c : Binding) → IsWider (context_name r) (one_term D) b c → ReductsInside L C R D r b (fault f)
+        → Reducts L C R (closed_rule q r) c (fault f)
+    put-fault D f b c h (stops k) = stops (from-context D (fault f) b c h k)
+    put-fault D f b c h (goes {x = u} k l) = goes (from-context D (value u) b c h k) l
 
-  -- where q splits the term with nothing in the context, the closed rule meets the faults that the rule meets
-  fault_kept : SplitsWhole L q t → (n : ℕ) (b : Binding) (f : Fault) → MeetsFault L C w t r n b f
-      → (c : Binding) × IsJoin (one_name (context_name r) (one_term the_hole)) b c × MeetsFault L C w t (closed_rule q r) n c f
-  fault_kept whole n b f h =
-      let x : List ℕ = context_name r in
-      let part : whole.part ≡ t = (split-along whole.split).part in
-      let matched : IsSeen (Match L r.pattern whole.part) h.first = subst (λ (u : Tree). IsSeen (Match L r.pattern u) h.first) (sym part) h.matched in
-      let j = seen_outside L q r t the_hole whole.part whole.binding h.first leaves whole.split matched in
-      let wider : IsWider x (one_term the_hole) h.first j.0 = record { less = seen_without L r t h.first leaves h.matched; joined = j.1 } in
-      let e = fails-alike (IsWider x (one_term the_hole)) (wider_differs x (one_term the_hole)) (λ c. Makes C c r.result)
-      (λ c. Makes C c (closed_rule q r).result) f (λ c d k m. put-fault the_hole f c d k (stops m)) h.first j.0 b n wider h.fails in (
-        e.0,
-        e.2.joined,
-        record { first = j.0; matched = j.2; fails = e.1 },
-      )
+    -- in the hole, a fault of the rule's own reducts is one, where a reduct that is not in the domain is within the limits
+    kept-fault : (f : Fault) → ((u : Tree) → f ≡ not_contract R.name sides.Out u → KeepsLimits u) → (b c : Binding)
+        → IsWider (context_name r) (one_term the_hole) b c → Reducts L C R r b (fault f) → Reducts L C R (closed_rule q r) c (fault f)
+    kept-fault f small b c h (stops k) = stops (from-context the_hole (fault f) b c h (stops k))
+    kept-fault f small b c h (goes {x = u} k l) =
+        by_domain (asked-fails L R.domain u (not_contract R.name sides.Out u) (λ a. a ≡ value u) f l)
+      where
+        by_domain : ((IsInDomain L R.domain u → ⊥) × (f ≡ not_contract R.name sides.Out u)) ⊎ (IsInDomain L R.domain u × (fault f ≡ value u))
+            → Reducts L C R (closed_rule q r) c (fault f)
+        by_domain (inl d) = goes (from-context the_hole (value u) b c h (goes k (filled refl (small u d.1)))) l
+        by_domain (inr d) = absurd (no_value d.1)
+          where
+            no_value : ◌≡◌ {A = Answer Tree} (fault f) (value u) → ⊥
+            no_value e = absurd cc
+
+    -- a fault that the closed rule meets is one that the rule meets inside of a context
+    fault_inside : (n : ℕ) (b : Binding) (f : Fault) → MeetsFault L C (Reducts L C R) w t (closed_rule q r) n b f
+        → MeetsFaultInside L C (ReductsInside L C R) w q t r n b f
+    fault_inside n b f h =
+        let x : List ℕ = context_name r in
+        let m = seen_inside L q x r.pattern t h.first h.matched in
+        let wider : IsWider x (one_term m.context) m.inner h.first =
+        record { less = seen_without L r m.part m.inner leaves m.matched; joined = m.joined } in
+        let e = fails-alike (λ c d. IsWider x (one_term m.context) d c) (narrower_differs x (one_term m.context)) (Reducts L C R (closed_rule q r))
+        (ReductsInside L C R m.context r) f (fault-put m.context f) h.first m.inner b n wider h.fails in
+        record {
+          context = m.context;
+          part = m.part;
+          forgotten = m.forgotten;
+          first = m.inner;
+          last = e.0;
+          split = m.split;
+          matched = m.matched;
+          fails = e.1;
+          joined = e.2.joined;
+        }
+
+    -- and the other way round
+    fault_outside : (n : ℕ) (b : Binding) (f : Fault) → MeetsFaultInside L C (ReductsInside L C R) w q t r n b f
+        → MeetsFault L C (Reducts L C R) w t (closed_rule q r) n b f
+    fault_outside n b f h =
+        let x : List ℕ = context_name r in
+        let j = seen_outside L q r t h.context h.part h.forgotten h.first leaves h.split h.matched in
+        let wider : IsWider x (one_term h.context) h.first j.0 = record { less = seen_without L r h.part h.first leaves h.matched; joined = j.1 } in
+        let e = fails-alike (IsWider x (one_term h.context)) (wider_differs x (one_term h.context)) (ReductsInside L C R h.context r)
+        (Reducts L C R (closed_rule q r)) f (put-fault h.context f) h.first j.0 h.last n wider h.fails in
+        let same : e.0 ≡ b = one_join (one_name x (one_term h.context)) h.last e.0 b e.2.joined h.joined in
+        record {
+          first = j.0;
+          matched = j.2;
+          fails = subst (λ (c : Binding). FailsAfter L C (Reducts L C R (closed_rule q r)) (avoiding w) r.extras j.0 n c f) same e.1;
+        }
+
+    -- where q splits the term with nothing in the context, the closed rule meets the faults that the rule meets
+    fault_kept : SplitsWhole L q t → (n : ℕ) (b : Binding) (f : Fault)
+        → ((u : Tree) → f ≡ not_contract R.name sides.Out u → KeepsLimits u) → MeetsFault L C (Reducts L C R) w t r n b f
+        → (c : Binding) × IsJoin (one_name (context_name r) (one_term the_hole)) b c × MeetsFault L C (Reducts L C R) w t (closed_rule q r) n c f
+    fault_kept whole n b f small h =
+        let x : List ℕ = context_name r in
+        let part : whole.part ≡ t = (split-along whole.split).part in
+        let matched : IsSeen (Match L r.pattern whole.part) h.first = subst (λ (u : Tree). IsSeen (Match L r.pattern u) h.first) (sym part) h.matched in
+        let j = seen_outside L q r t the_hole whole.part whole.binding h.first leaves whole.split matched in
+        let wider : IsWider x (one_term the_hole) h.first j.0 = record { less = seen_without L r t h.first leaves h.matched; joined = j.1 } in
+        let e = fails-alike (IsWider x (one_term the_hole)) (wider_differs x (one_term the_hole)) (Reducts L C R r)
+        (Reducts L C R (closed_rule q r)) f (kept-fault f small) h.first j.0 b n wider h.fails in (
+          e.0,
+          e.2.joined,
+          record { first = j.0; matched = j.2; fails = e.1 },
+        )
 
 pub steps_in_context : StepsInContext
 steps_in_context L P n F q r w t u valid leaves =
     (step_inside L (calls_at P n) F q r w t valid leaves u, step_outside L (calls_at P n) F q r w t valid leaves u)
 
 pub faults_in_context : FaultsInContext
-faults_in_context L P n F q r w t k b f valid leaves =
-    (fault_inside L (calls_at P n) F q r w t valid leaves k b f, fault_outside L (calls_at P n) F q r w t valid leaves k b f)
+faults_in_context L P n F R q r w t k b f valid leaves =
+    (fault_inside L (calls_at P n) F q r w t valid leaves R k b f, fault_outside L (calls_at P n) F q r w t valid leaves R k b f)
 
 pub keeps_own_faults : KeepsOwnFaults
-keeps_own_faults L P n F q r w t k b f valid leaves whole h = fault_kept L (calls_at P n) F q r w t valid leaves whole k b f h
+keeps_own_faults L P n F R q r w t k b f valid leaves whole small h = fault_kept L (calls_at P n) F q r w t valid leaves R whole k b f small h
 
 pub keeps_own_steps : KeepsOwnSteps
 keeps_own_steps L P n F q r w t u valid leaves whole small h =
@@ -421,7 +454,7 @@ placed-in (z ∷ xs) zero x h = let e : x ≡ z = cc in here e
 placed-in (z ∷ xs) (suc k) x h = there (placed-in xs k x h)
 
 pub closure_lists : ClosureLists
-closure_lists L P n F q x R t ss valid leaves h = listing_of inner outer (lists_taken L P n t (map (closed_rule q) R.rules) ss h)
+closure_lists L P n F q x R t ss valid leaves h = listing_of inner outer (lists_taken L P n (context_closure q x R) t ss h)
   where
     at_rule : (r : Rule) (k : ℕ) (u : Tree) → slice_get R.rules k ≡ Some r
         → TakesStep L (calls_at P n) t (closed_rule q r) t u ↔ TakesStepInside L (calls_at P n) t q r t u
@@ -488,15 +521,30 @@ module _ (g : Rule → Rule) (M N : Rule → ℕ → Binding → Fault → Type 
           let p = placed-map g rs j r e in
           h.first_rule j p.0 n b k l p.1 ((same p.0 (placed-in rs j p.0 p.1) n b k).0 (subst (λ (s : Rule). M s n b k) p.2 m))
 
+-- so is the first fault of a relation, which asks the same of the term
+module _ (L : Language) (Z : Relation) (t : Tree) (g : Rule → Rule) (M N : Rule → ℕ → Binding → Fault → Type 0) (rs : List Rule)
+    (same : (r : Rule) → In r rs → (n : ℕ) (b : Binding) (f : Fault) → M (g r) n b f ↔ N r n b f) (f : Fault) where
+  first-inside : IsFirst L Z M (map g rs) t f → IsFirst L Z N rs t f
+  first-inside (at_term h) = at_term h
+  first-inside (by_rules h) = by_rules (record { inside = h.inside; first = first-of_rules g M N rs same f h.first })
+
+  first-outside : IsFirst L Z N rs t f → IsFirst L Z M (map g rs) t f
+  first-outside (at_term h) = at_term h
+  first-outside (by_rules h) = by_rules (record { inside = h.inside; first = first-of_images g M N rs same f h.first })
+
 pub closure_faults : ClosureFaults
 closure_faults L P n F q x R t f a valid leaves h =
-    let M : Rule → ℕ → Binding → Fault → Type 0 = MeetsFault L (calls_at P n) t t in
-    let N : Rule → ℕ → Binding → Fault → Type 0 = MeetsFaultInside L (calls_at P n) t q t in
-    let k = answers_first L P n t (map (closed_rule q) R.rules) f a h in (
-      λ e. first-of_rules (closed_rule q) M N R.rules same f (k.0 e),
-      λ m. k.1 (first-of_images (closed_rule q) M N R.rules same f m),
+    let Z : Relation = context_closure q x R in
+    let C : Calls = calls_at P n in
+    let M : Rule → ℕ → Binding → Fault → Type 0 = MeetsFault L C (Reducts L C Z) t t in
+    let N : Rule → ℕ → Binding → Fault → Type 0 = MeetsFaultInside L C (ReductsInside L C Z) t q t in
+    let k = answers_first L P n Z t f a h in (
+      λ e. first-inside L Z t (closed_rule q) M N R.rules same f (k.0 e),
+      λ m. k.1 (first-outside L Z t (closed_rule q) M N R.rules same f m),
     )
   where
     same : (r : Rule) → In r R.rules → (m : ℕ) (b : Binding) (g : Fault)
-        → MeetsFault L (calls_at P n) t t (closed_rule q r) m b g ↔ MeetsFaultInside L (calls_at P n) t q t r m b g
-    same r i m b g = faults_in_context L P n F q r t t m b g (member_passes (is_valid_rule F L) r R.rules valid i) (leaves r i)
+        → MeetsFault L (calls_at P n) (Reducts L (calls_at P n) (context_closure q x R)) t t (closed_rule q r) m b g
+        ↔ MeetsFaultInside L (calls_at P n) (ReductsInside L (calls_at P n) (context_closure q x R)) t q t r m b g
+    same r i m b g =
+        faults_in_context L P n F (context_closure q x R) q r t t m b g (member_passes (is_valid_rule F L) r R.rules valid i) (leaves r i)

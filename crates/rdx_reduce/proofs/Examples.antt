@@ -1,19 +1,19 @@
 -- The worked examples hold.
-use Rattle.std.proofs.Common.{◌≡◌, ℕ, List, [], ◌∷◌, refl, sym, ◌∙◌, ap, subst, ◌⊎◌, inl, inr, append-nil, codes}
+use Rattle.std.proofs.Common.{◌≡◌, ℕ, List, [], ◌∷◌, None, Some, refl, sym, ◌∙◌, ap, subst, ◌⊎◌, inl, inr, append-nil, codes}
 use Rattle.rdx_term.specs.Bare.{bare}
 use Rattle.rdx_term.specs.Tree.{Tree}
 use Rattle.rdx_term.specs.Tree.{hole as the_hole}
 use Rattle.rdx_lang.specs.Ascending.{IsAscending}
 use Rattle.rdx_lang.specs.Bindings.{Binding, no_names, visible}
 use Rattle.rdx_lang.specs.Decompositions.{Decomposition}
-use Rattle.rdx_lang.specs.Examples.{int, binds, list_of_two, seq_of_two, first_marked, second_marked, split_into, E, E_1, Numbers, Contexts}
+use Rattle.rdx_lang.specs.Examples.{int, binds, list_of_two, seq_of_two, first_marked, second_marked, split_into, E, E_1, number, Numbers, Contexts}
 use Rattle.rdx_lang.specs.Join.{IsJoin}
 use Rattle.rdx_lang.specs.Listing.{Matches, SplitsInto}
 use Rattle.rdx_lang.specs.Members.{In, here, there}
 use Rattle.rdx_lang.specs.Order.{binding_cmp}
 use Rattle.rdx_lang.specs.Patterns as pattern
 use Rattle.rdx_lang.specs.Patterns.{Pattern, Language, hole, nt, in_hole}
-use Rattle.rdx_lang.specs.Programs.{Extra, such_as, Rule}
+use Rattle.rdx_lang.specs.Programs.{Extra, such_as, Relation, Rule}
 use Rattle.rdx_lang.specs.RepetitionExamples.{any_1}
 use Rattle.rdx_lang.specs.Rules.{Match, match_kind, match_lit, match_hole, match_named, match_in_hole, match_seq, match_none, match_one, Split, split_named}
 use Rattle.rdx_lang.specs.Templates.{Template, lit, var, fill}
@@ -22,7 +22,7 @@ use Rattle.rdx_lang.proofs.Examples.{listed, one_alone, no_member, named_kind_bi
 use Rattle.rdx_lang.proofs.JoinLaws.{unit_left, unit_right, unit_left-only, unit_right-only}
 use Rattle.rdx_lang.proofs.NameLaws.{match-ascends, split-ascends}
 use Rattle.rdx_lang.proofs.RepetitionExamples.{each_division}
-use Rattle.rdx_lang.proofs.RuleSteps.{lit_inside, hole_inside, in_hole_inside, nt_splits, named_splits}
+use Rattle.rdx_lang.proofs.RuleSteps.{kind_inside, lit_inside, hole_inside, in_hole_inside, nt_splits, named_splits}
 use Rattle.rdx_lang.proofs.SeenListings.{matches_listed}
 use Rattle.rdx_eval.specs.Answers.{value, stops, goes, Gather, Single, Lists, lists}
 use Rattle.rdx_eval.specs.Calls.{Calls}
@@ -33,7 +33,7 @@ use Rattle.rdx_eval.specs.Examples.{x}
 use Rattle.rdx_eval.specs.Examples.{any_1 as template_any_1}
 use Rattle.rdx_eval.specs.Instantiation.{Makes}
 use Rattle.rdx_eval.specs.Making.{filled_no_context}
-use Rattle.rdx_reduce.specs.Examples.{leads, leads_where, step, is_two, OneStep, StepByEach, OnceForTwo, FaultAlone, RulesInOrder, MarksCount, FirstFault, ConditionHolds, ConditionFails, WhereFails}
+use Rattle.rdx_reduce.specs.Examples.{leads, leads_where, step, of_rules, is_two, OneStep, StepByEach, OnceForTwo, FaultAlone, RulesInOrder, MarksCount, FirstFault, ConditionHolds, ConditionFails, WhereFails, TermOutside, ReductOutside, BothInside}
 use Rattle.rdx_reduce.specs.Steps.{Step, step_cmp, StepBy, RuleSteps, Steps}
 
 -- ---- what patterns bind
@@ -61,25 +61,30 @@ pair_matches =
 
 -- ---- steps by a rule
 
+-- a relation without a domain; of its rules the steps by one of them say nothing
+abbrev pub anywhere : Relation
+anywhere = of_rules None []
+
 -- a rule whose pattern has one binding takes one step
 pub one_taken : (L : Language) (C : Calls) (t : Tree) (i : ℕ) (p : Pattern) (s : Template) (b : Binding) (u : Tree) → Matches L p t (b ∷ [])
-    → Makes C b s (value u) → RuleSteps L C t i (leads p s) (value (step i u ∷ []))
-one_taken L C t i p s b u m h = goes (goes (lists m) refl) (goes (goes (goes h refl) refl) (goes refl refl))
+    → Makes C b s (value u) → RuleSteps L C anywhere t i (leads p s) (value (step i u ∷ []))
+one_taken L C t i p s b u m h = goes (goes (lists m) refl) (goes (goes (goes (goes h refl) refl) refl) (goes refl refl))
 
 -- a rule whose pattern has two bindings takes two
 pub two_taken : (L : Language) (C : Calls) (t : Tree) (i : ℕ) (p : Pattern) (s : Template) (b c : Binding) (u v : Tree) → Matches L p t (b ∷ c ∷ [])
-    → Makes C b s (value u) → Makes C c s (value v) → RuleSteps L C t i (leads p s) (value (step i u ∷ step i v ∷ []))
+    → Makes C b s (value u) → Makes C c s (value v) → RuleSteps L C anywhere t i (leads p s) (value (step i u ∷ step i v ∷ []))
 two_taken L C t i p s b c u v m h k =
-    goes (goes (lists m) refl) (goes (goes (goes h refl) refl) (goes (goes (goes (goes k refl) refl) (goes refl refl)) refl))
+    goes (goes (lists m) refl)
+    (goes (goes (goes (goes h refl) refl) refl) (goes (goes (goes (goes (goes k refl) refl) refl) (goes refl refl)) refl))
 
 -- one whose pattern has none takes none
 pub none_taken : (L : Language) (C : Calls) (t : Tree) (i : ℕ) (p : Pattern) (s : Template) → Matches L p t []
-    → RuleSteps L C t i (leads p s) (value [])
+    → RuleSteps L C anywhere t i (leads p s) (value [])
 none_taken L C t i p s m = goes (goes (lists m) refl) refl
 
 -- the steps of a rule alone
-pub of_one : (L : Language) (C : Calls) (t : Tree) (r : Rule) (ss : List Step) → IsAscending step_cmp ss → RuleSteps L C t 0 r (value ss)
-    → Steps L C t (r ∷ []) (value ss)
+pub of_one : (L : Language) (C : Calls) (t : Tree) (r : Rule) (ss : List Step) → IsAscending step_cmp ss → RuleSteps L C anywhere t 0 r (value ss)
+    → Steps L C (of_rules None (r ∷ [])) t (value ss)
 of_one L C t r ss a h =
     goes (goes h (goes refl refl)) (subst (λ (us : List Step). Lists step_cmp (λ s. In s us) (value ss)) (sym (append-nil ss))
     (lists (record { ascending = a; sound = λ s i. i; complete = λ s i. i })))
@@ -106,13 +111,13 @@ step_by_each P n =
 pub once_for_two : OnceForTwo
 once_for_two P n =
     goes (goes (goes (goes (lists each_division) refl)
-    (goes (goes (goes refl refl) refl) (goes (goes (goes (goes refl refl) refl) (goes refl refl)) refl))) (goes refl refl))
+    (goes (goes (goes (goes refl refl) refl) refl) (goes (goes (goes (goes (goes refl refl) refl) refl) (goes refl refl)) refl))) (goes refl refl))
     (lists (one_alone (step 0 (int 1)) (here refl) (λ s i. twice i)))
 
 pub fault_alone : FaultAlone
 fault_alone P n =
     stops (goes (one_taken Numbers (calls_at P n) (int 1) 0 any_1 (template_any_1 0) one_bound (int 1) one_matches refl)
-    (stops (stops (goes (goes (lists one_matches) refl) (stops (stops (stops (goes refl (goes refl (filled_no_context (refl, refl)))))))))))
+    (stops (stops (goes (goes (lists one_matches) refl) (stops (stops (stops (stops (goes refl (goes refl (filled_no_context (refl, refl))))))))))))
 
 pub rules_in_order : RulesInOrder
 rules_in_order P n =
@@ -180,15 +185,15 @@ marks_count P n =
 
 pub first_fault : FirstFault
 first_fault P n =
-    stops (stops (goes (goes (lists one_matches) refl) (stops (stops (stops (goes refl (goes refl (filled_no_context (refl, refl)))))))))
+    stops (stops (goes (goes (lists one_matches) refl) (stops (stops (stops (stops (goes refl (goes refl (filled_no_context (refl, refl))))))))))
 
 -- ---- extras
 
 -- the steps of a rule with an extra that leaves these bindings of one
 pub after_extra : (C : Calls) (t : Tree) (i : ℕ) (p : Pattern) (s : Template) (e : Extra) (b : Binding) (cs : List Binding) (ss : List Step)
     → Matches Numbers p t (b ∷ []) → By Numbers C (avoiding t) e b (value cs) → IsAscending binding_cmp cs
-    → Gather (λ c. Single (StepBy C i (leads_where p s e) c)) cs (value ss)
-    → RuleSteps Numbers C t i (leads_where p s e) (value ss)
+    → Gather (λ c. Single (StepBy Numbers C anywhere i (leads_where p s e) c)) cs (value ss)
+    → RuleSteps Numbers C anywhere t i (leads_where p s e) (value ss)
 after_extra C t i p s e b cs ss m h a g =
     goes (goes (lists m) (goes (goes (goes h (goes refl refl))
     (subst (λ (ds : List Binding). Lists binding_cmp (λ c. In c ds) (value cs)) (sym (append-nil cs))
@@ -208,7 +213,7 @@ condition_holds P n =
     of_one Numbers (calls_at P n) (int 2) (leads_where any_1 (lit (int 3)) is_two) (step 0 (int 3) ∷ []) (tt, tt)
     (after_extra (calls_at P n) (int 2) 0 any_1 (lit (int 3)) is_two (bound_to 2) (bound_to 2 ∷ []) (step 0 (int 3) ∷ []) (any_matches 2)
     (goes (goes (goes (goes refl refl) (goes (goes (goes refl refl) (goes refl refl)) refl)) refl) refl) (tt, tt)
-    (goes (goes (goes refl refl) refl) (goes refl refl)))
+    (goes (goes (goes (goes refl refl) refl) refl) (goes refl refl)))
 
 pub condition_fails : ConditionFails
 condition_fails P n =
@@ -229,3 +234,38 @@ where_fails P n =
     of_one Numbers (calls_at P n) (int 1) where_two [] tt
     (after_extra (calls_at P n) (int 1) 0 any_1 (fill (template_any_1 0) (lit (int 1))) (such_as (pattern.lit (int 2)) (template_any_1 0))
     (bound_to 1) [] [] (any_matches 1) (goes refl (matched (matches_listed tt (no_member (λ b h. other_number h))) joins_none)) tt refl)
+
+-- ---- domains
+
+-- a number is one, and x is none
+number_matches : (n : ℕ) → Matches Numbers number (int n) (no_names ∷ [])
+number_matches n = matches_listed (refl, tt) (one_alone no_names (match_kind refl) (λ b h. (kind_inside h).1))
+
+x_is_no_number : {b : Binding} → Match Numbers number x b → ⊥
+x_is_no_number (match_kind e) = absurd cc
+
+x_matches_none : Matches Numbers number x []
+x_matches_none = matches_listed tt (no_member (λ b h. x_is_no_number h))
+
+-- a relation of numbers; of its rules the steps by one of them say nothing
+abbrev on_numbers : Relation
+on_numbers = of_rules (Some number) []
+
+-- its rule `(--> any_1 n)` takes a step from 1
+number_taken : (C : Calls) (i n : ℕ) → RuleSteps Numbers C on_numbers (int 1) i (leads any_1 (lit (int n))) (value (step i (int n) ∷ []))
+number_taken C i n =
+    goes (goes (lists one_matches) refl) (goes (goes (goes (goes refl (goes (lists (number_matches n)) refl)) refl) refl) (goes refl refl))
+
+pub term_outside : TermOutside
+term_outside P n = goes (lists x_matches_none) refl
+
+pub reduct_outside : ReductOutside
+reduct_outside P n =
+    goes (lists (number_matches 1))
+    (stops (goes (number_taken (calls_at P n) 0 2)
+    (stops (stops (goes (goes (lists one_matches) refl) (stops (stops (stops (goes refl (goes (lists x_matches_none) refl))))))))))
+
+pub both_inside : BothInside
+both_inside P n =
+    goes (lists (number_matches 1))
+    (goes (goes (number_taken (calls_at P n) 0 2) (goes refl refl)) (lists (one_alone (step 0 (int 2)) (here refl) (λ s i. only i))))

@@ -1,4 +1,4 @@
--- Where steps have a fault, it is the first that the rules meet.
+-- Where steps have a fault, it is that the term is not in the domain, or the first that the rules meet.
 use Rattle.std.proofs.Common.{◌≡◌, ◌<◌, ◌⊎◌, inl, inr, ℕ, zero, suc, List, [], ◌∷◌, Some, refl, sym, ◌∙◌, ap, subst, slice_get, arith}
 use Rattle.std.proofs.lemmas.Bool.{cases_order}
 use Rattle.std.specs.Cmp.{IsTotalOrder}
@@ -13,21 +13,23 @@ use Rattle.rdx_lang.specs.Members.{In, here, there}
 use Rattle.rdx_lang.specs.Model.TotalOrders.{binding_cmp-total}
 use Rattle.rdx_lang.specs.Order.{binding_cmp}
 use Rattle.rdx_lang.specs.Patterns.{Language}
-use Rattle.rdx_lang.specs.Programs.{Extra, Rule}
+use Rattle.rdx_lang.specs.Programs.{Extra, Relation, Rule}
 use Rattle.rdx_lang.specs.Rules.{Match}
 use Rattle.rdx_lang.proofs.OrderLaws.{binding_cmp-tells, below_member, not_a_member}
-use Rattle.rdx_eval.specs.Answers.{Answer, value, fault, Fault, Then, stops, goes, Gather, Single, Lists, lists}
+use Rattle.rdx_eval.specs.Answers.{Answer, value, fault, Fault, not_contract, Then, stops, goes, Gather, Single, Lists, lists}
 use Rattle.rdx_eval.specs.Calls.{Calls}
 use Rattle.rdx_eval.specs.Extending.{By, ByEach, Extend}
 use Rattle.rdx_eval.specs.Fresh.{Avoided, avoiding, behind}
 use Rattle.rdx_eval.specs.Heights.{calls_at}
-use Rattle.rdx_eval.specs.Instantiation.{Makes}
 use Rattle.rdx_eval.specs.Laws.{Once}
-use Rattle.rdx_eval.proofs.OneAnswer.{once-call, once-outputs, once-extend, once-inst, same_value}
+use Rattle.rdx_eval.specs.declared.fault.Side.TheVariants as sides
+use Rattle.rdx_eval.proofs.OneAnswer.{once-call, once-outputs, once-extend, same_value}
 use Rattle.rdx_eval.proofs.Reached.{reached, gathered-sound, gathered-complete}
-use Rattle.rdx_reduce.specs.FirstFaults.{FailsAfter, in_result, in_extra, behind_extra, MeetsFault, IsFirstMet, AnswersFirst}
-use Rattle.rdx_reduce.specs.Steps.{Step, StepBy, RuleSteps, AllSteps, Steps}
-use Rattle.rdx_reduce.proofs.TakenSteps.{by_alone, by-same}
+use Rattle.rdx_reduce.specs.FirstFaults.{FailsAfter, in_result, in_extra, behind_extra, MeetsFault, IsFirstMet, IsFirst, at_term, by_rules, AnswersFirst}
+use Rattle.rdx_reduce.specs.Steps.{Step, Reducts, StepBy, RuleSteps, AllSteps, Listed, Steps}
+use Rattle.rdx_reduce.proofs.Domains.{asked-inside, asked-fails}
+use Rattle.rdx_reduce.proofs.OneAnswer.{once-reduct}
+use Rattle.rdx_reduce.proofs.TakenSteps.{by_alone, by-same, steps-listed}
 
 -- ---- answers
 
@@ -118,38 +120,38 @@ module _ (L : Language) (C : Calls) (calls : (f : List ℕ) (a : Tree) → Once 
         let l = gathered-complete (By L C a e) bs ds b g i in
         record { less = m; start = d; same = refl; among = l.gathered d (by-same L C calls outputs a e b d gs l.given h l.gives j); fails = k }
 
-  module _ (i : ℕ) (r : Rule) where
-    -- what the result makes
+  module _ (R : Relation) (i : ℕ) (r : Rule) where
+    -- the reducts
     abbrev Result : Binding → Answer Tree → Type 0
-    Result b = Makes C b r.result
+    Result b = Reducts L C R r b
 
     -- the steps by what extras make of bindings
     abbrev Run : Avoided → List Extra → List Binding → Answer (List Step) → Type 0
-    Run a es bs = Then (Extend L C a es bs) (Gather (λ b. Single (StepBy C i r b)))
+    Run a es bs = Then (Extend L C a es bs) (Gather (λ b. Single (StepBy L C R i r b)))
 
-    -- a step's fault is that of the result
-    step-fails : (b : Binding) (f : Fault) → Single (StepBy C i r b) (fault f) → Makes C b r.result (fault f)
+    -- a step's fault is that of the reduct
+    step-fails : (b : Binding) (f : Fault) → Single (StepBy L C R i r b) (fault f) → Reducts L C R r b (fault f)
     step-fails b f (stops (stops h)) = h
     step-fails b f (stops (goes h e)) = absurd (value_no_fault _ f (sym e))
     step-fails b f (goes h e) = absurd (value_no_fault _ f (sym e))
 
-    -- where there is a step the result has none
-    step-made : (b : Binding) (ss : List Step) (f : Fault) → Single (StepBy C i r b) (value ss) → Makes C b r.result (fault f) → ⊥
+    -- where there is a step the reduct has none
+    step-made : (b : Binding) (ss : List Step) (f : Fault) → Single (StepBy L C R i r b) (value ss) → Reducts L C R r b (fault f) → ⊥
     step-made b ss f h k =
-        let l = reached (StepBy C i r b) (λ u a. a ≡ value (u ∷ [])) ss h in
-        let m = reached (Makes C b r.result) (λ u a. a ≡ value (record { rule = i; reduct = u })) l.between l.before in
-        value_no_fault m.between f (once-inst C calls b [] r.result (value m.between) (fault f) m.before k)
+        let l = reached (StepBy L C R i r b) (λ u a. a ≡ value (u ∷ [])) ss h in
+        let m = reached (Reducts L C R r b) (λ u a. a ≡ value (record { rule = i; reduct = u })) l.between l.before in
+        value_no_fault m.between f (once-reduct L C calls R r b (value m.between) (fault f) m.before k)
 
     -- where there are steps, no fault is met from any of these bindings on
     run-made : (a : Avoided) (es : List Extra) (bs : List Binding) (ss : List Step) → Run a es bs (value ss) → (b : Binding) (n : ℕ) (c : Binding) (f : Fault)
         → In b bs → FailsAfter L C Result a es b n c f → ⊥
     run-made a [] bs ss h b n c f j (in_result k) =
-        let l = reached (Extend L C a [] bs) (Gather (λ d. Single (StepBy C i r d))) ss h in
-        let g = gathered-complete (λ d. Single (StepBy C i r d)) l.between ss b l.behind
+        let l = reached (Extend L C a [] bs) (Gather (λ d. Single (StepBy L C R i r d))) ss h in
+        let g = gathered-complete (λ d. Single (StepBy L C R i r d)) l.between ss b l.behind
         (subst (λ (ds : List Binding). In b ds) (same_value l.between bs l.before) j) in
         step-made b g.given f g.gives k
     run-made a (e ∷ es) bs ss h b n c f j k =
-        let l = reached (Extend L C a (e ∷ es) bs) (Gather (λ d. Single (StepBy C i r d))) ss h in
+        let l = reached (Extend L C a (e ∷ es) bs) (Gather (λ d. Single (StepBy L C R i r d))) ss h in
         let m = reached (ByEach L C a e bs) (Extend L C (behind a e) es) l.between l.before in
         let o = reached (Gather (By L C a e) bs) (λ ds. Lists binding_cmp (λ d. In d ds)) m.between m.before in
         let p = later Result a e es bs o.between b c n f o.before j k in
@@ -170,10 +172,10 @@ module _ (L : Language) (C : Calls) (calls : (f : List ℕ) (a : Tree) → Once 
       first_binding : (b c : Binding) (g : Fault) → In b bs → binding_cmp c binding ≡ Less → FailsAfter L C Result a es b extras c g → ⊥
 
     -- so it is where the result has it
-    result-fails : (a : Avoided) (bs : List Binding) (f : Fault) → IsAscending binding_cmp bs → Gather (λ b. Single (StepBy C i r b)) bs (fault f)
+    result-fails : (a : Avoided) (bs : List Binding) (f : Fault) → IsAscending binding_cmp bs → Gather (λ b. Single (StepBy L C R i r b)) bs (fault f)
         → RunFails a [] bs f
     result-fails a bs f s h =
-        let k = gathered-fails binding_cmp binding_cmp-total (λ b. Single (StepBy C i r b)) bs f s h in
+        let k = gathered-fails binding_cmp binding_cmp-total (λ b. Single (StepBy L C R i r b)) bs f s h in
         record {
           start = k.at;
           extras = 0;
@@ -185,7 +187,7 @@ module _ (L : Language) (C : Calls) (calls : (f : List ℕ) (a : Tree) → Once 
               let y = k.before c (subst (λ (d : Binding). In d bs) x.1 j) l in step-made c y.0 g y.1 x.0;
         }
       where
-        made : (b c : Binding) (g : Fault) → FailsAfter L C Result a [] b 0 c g → Makes C c r.result (fault g) × (b ≡ c)
+        made : (b c : Binding) (g : Fault) → FailsAfter L C Result a [] b 0 c g → Reducts L C R r c (fault g) × (b ≡ c)
         made b c g (in_result m) = (m, refl)
 
     -- and where the first extra has it
@@ -225,7 +227,7 @@ module _ (L : Language) (C : Calls) (calls : (f : List ℕ) (a : Tree) → Once 
     run-fails : (a : Avoided) (es : List Extra) (bs : List Binding) (f : Fault) → IsAscending binding_cmp bs → Run a es bs (fault f) → RunFails a es bs f
     run-fails a [] bs f s (stops e) = absurd (value_no_fault _ f (sym e))
     run-fails a [] bs f s (goes {x = cs} e h) =
-        result-fails a bs f s (subst (λ (ds : List Binding). Gather (λ b. Single (StepBy C i r b)) ds (fault f)) (sym (same_value cs bs e)) h)
+        result-fails a bs f s (subst (λ (ds : List Binding). Gather (λ b. Single (StepBy L C R i r b)) ds (fault f)) (sym (same_value cs bs e)) h)
     run-fails a (e ∷ es) bs f s (stops (stops (stops h))) = extra-fails a e es bs f s h
     run-fails a (e ∷ es) bs f s (stops (stops (goes h l))) = elim l [ ]
     run-fails a (e ∷ es) bs f s (stops (goes {x = cs} (goes {x = ds} g (lists l)) k)) =
@@ -235,22 +237,23 @@ module _ (L : Language) (C : Calls) (calls : (f : List ℕ) (a : Tree) → Once 
 
   -- ---- rules
 
-  module _ (t : Tree) where
+  module _ (R : Relation) (t : Tree) where
     -- where a rule has steps it meets no fault
-    rule-made : (i : ℕ) (r : Rule) (ss : List Step) → RuleSteps L C t i r (value ss) → (n : ℕ) (b : Binding) (f : Fault) → MeetsFault L C t t r n b f → ⊥
+    rule-made : (i : ℕ) (r : Rule) (ss : List Step) → RuleSteps L C R t i r (value ss) → (n : ℕ) (b : Binding) (f : Fault)
+        → MeetsFault L C (Reducts L C R) t t r n b f → ⊥
     rule-made i r ss (goes {x = vs} (goes {x = bs} (lists l) h) k) n b f m =
-        run-made i r (avoiding t) r.extras bs ss (goes h k) m.first n b f (l.complete m.first m.matched) m.fails
+        run-made R i r (avoiding t) r.extras bs ss (goes h k) m.first n b f (l.complete m.first m.matched) m.fails
 
     -- the fault is the first that the rule meets
     record RuleFails (r : Rule) (f : Fault) : Type 0 where
       extras : ℕ
       binding : Binding
-      met : MeetsFault L C t t r extras binding f
-      first_extra : (n : ℕ) (b : Binding) (g : Fault) → n < extras → MeetsFault L C t t r n b g → ⊥
-      first_binding : (b : Binding) (g : Fault) → binding_cmp b binding ≡ Less → MeetsFault L C t t r extras b g → ⊥
+      met : MeetsFault L C (Reducts L C R) t t r extras binding f
+      first_extra : (n : ℕ) (b : Binding) (g : Fault) → n < extras → MeetsFault L C (Reducts L C R) t t r n b g → ⊥
+      first_binding : (b : Binding) (g : Fault) → binding_cmp b binding ≡ Less → MeetsFault L C (Reducts L C R) t t r extras b g → ⊥
 
     run-rule : (i : ℕ) (r : Rule) (bs : List Binding) (f : Fault) → IsListing binding_cmp bs (IsSeen (Match L r.pattern t))
-        → RunFails i r (avoiding t) r.extras bs f → RuleFails r f
+        → RunFails R i r (avoiding t) r.extras bs f → RuleFails r f
     run-rule i r bs f l k = record {
       extras = k.extras;
       binding = k.binding;
@@ -260,23 +263,23 @@ module _ (L : Language) (C : Calls) (calls : (f : List ℕ) (a : Tree) → Once 
     }
 
     -- so it is where the steps by it have the fault
-    rule-fails : (i : ℕ) (r : Rule) (f : Fault) → RuleSteps L C t i r (fault f) → RuleFails r f
+    rule-fails : (i : ℕ) (r : Rule) (f : Fault) → RuleSteps L C R t i r (fault f) → RuleFails r f
     rule-fails i r f (stops (stops l)) = elim l [ ]
     rule-fails i r f (stops (goes {x = bs} (lists l) h)) =
-        run-rule i r bs f l (run-fails i r (avoiding t) r.extras bs f l.ascending (stops h))
+        run-rule i r bs f l (run-fails R i r (avoiding t) r.extras bs f l.ascending (stops h))
     rule-fails i r f (goes {x = vs} (goes {x = bs} (lists l) h) k) =
-        run-rule i r bs f l (run-fails i r (avoiding t) r.extras bs f l.ascending (goes h k))
+        run-rule i r bs f l (run-fails R i r (avoiding t) r.extras bs f l.ascending (goes h k))
 
     -- where rules have steps none of them meets a fault
-    all-made : (i : ℕ) (rs : List Rule) (ss : List Step) → AllSteps L C t i rs (value ss) → (j : ℕ) (r : Rule) (n : ℕ) (b : Binding) (f : Fault)
-        → slice_get rs j ≡ Some r → MeetsFault L C t t r n b f → ⊥
+    all-made : (i : ℕ) (rs : List Rule) (ss : List Step) → AllSteps L C R t i rs (value ss) → (j : ℕ) (r : Rule) (n : ℕ) (b : Binding) (f : Fault)
+        → slice_get rs j ≡ Some r → MeetsFault L C (Reducts L C R) t t r n b f → ⊥
     all-made i [] ss h j r n b f p m = absurd cc
     all-made i (q ∷ rs) ss (goes {x = us} h k) zero r n b f p m =
-        let e : r ≡ q = cc in rule-made i q us h n b f (subst (λ (z : Rule). MeetsFault L C t t z n b f) e m)
+        let e : r ≡ q = cc in rule-made i q us h n b f (subst (λ (z : Rule). MeetsFault L C (Reducts L C R) t t z n b f) e m)
     all-made i (q ∷ rs) ss (goes {x = us} h (goes {x = vs} k l)) (suc j) r n b f p m = all-made (suc i) rs vs k j r n b f p m
 
     -- where they have a fault it is the first that they meet
-    all-fails : (i : ℕ) (rs : List Rule) (f : Fault) → AllSteps L C t i rs (fault f) → IsFirstMet (MeetsFault L C t t) rs f
+    all-fails : (i : ℕ) (rs : List Rule) (f : Fault) → AllSteps L C R t i rs (fault f) → IsFirstMet (MeetsFault L C (Reducts L C R) t t) rs f
     all-fails i [] f e = absurd (value_no_fault _ f (sym e))
     all-fails i (r ∷ rs) f (stops h) =
         let k = rule-fails i r f h in
@@ -305,16 +308,16 @@ module _ (L : Language) (C : Calls) (calls : (f : List ℕ) (a : Tree) → Once 
           first_binding = l.first_binding;
         }
       where
-        before : (k : ℕ) → ((j : ℕ) (q : Rule) (n : ℕ) (b : Binding) (g : Fault) → j < k → slice_get rs j ≡ Some q → MeetsFault L C t t q n b g → ⊥)
-            → (j : ℕ) (q : Rule) (n : ℕ) (b : Binding) (g : Fault) → j < suc k → slice_get (r ∷ rs) j ≡ Some q → MeetsFault L C t t q n b g → ⊥
-        before k d zero q n b g l p m = let e : q ≡ r = cc in rule-made i r us h n b g (subst (λ (z : Rule). MeetsFault L C t t z n b g) e m)
+        before : (k : ℕ) → ((j : ℕ) (q : Rule) (n : ℕ) (b : Binding) (g : Fault) → j < k → slice_get rs j ≡ Some q → MeetsFault L C (Reducts L C R) t t q n b g → ⊥)
+            → (j : ℕ) (q : Rule) (n : ℕ) (b : Binding) (g : Fault) → j < suc k → slice_get (r ∷ rs) j ≡ Some q → MeetsFault L C (Reducts L C R) t t q n b g → ⊥
+        before k d zero q n b g l p m = let e : q ≡ r = cc in rule-made i r us h n b g (subst (λ (z : Rule). MeetsFault L C (Reducts L C R) t t z n b g) e m)
         before k d (suc j) q n b g l p m = d j q n b g (omega (arith, l)) p m
     all-fails i (r ∷ rs) f (goes h (goes k e)) = absurd (value_no_fault _ f (sym e))
 
     -- a rule meets one fault behind so many extras with one binding
-    meets-one : (r : Rule) (n : ℕ) (b : Binding) (f g : Fault) → MeetsFault L C t t r n b f → MeetsFault L C t t r n b g → f ≡ g
+    meets-one : (r : Rule) (n : ℕ) (b : Binding) (f g : Fault) → MeetsFault L C (Reducts L C R) t t r n b f → MeetsFault L C (Reducts L C R) t t r n b g → f ≡ g
     meets-one r n b f g h k =
-        fails-one (λ c. Makes C c r.result) (λ c. once-inst C calls c [] r.result) (avoiding t) r.extras h.first k.first b n f g h.fails k.fails
+        fails-one (Reducts L C R r) (once-reduct L C calls R r) (avoiding t) r.extras h.first k.first b n f g h.fails k.fails
 
 -- ---- the first fault
 
@@ -357,18 +360,51 @@ module _ (M : Rule → ℕ → Binding → Fault → Type 0) (one : (r : Rule) (
       by_place (inr (inl l)) = absurd (k.first_rule h.place h.rule h.extras h.binding f l h.placed h.met)
       by_place (inr (inr l)) = absurd (h.first_rule k.place k.rule k.extras k.binding g l k.placed k.met)
 
+-- ---- the answer of a relation
+
+module _ (L : Language) (C : Calls) (calls : (f : List ℕ) (a : Tree) → Once (C.value_of f a))
+    (outputs : (j : List ℕ) (a : Tree) → Once (C.outputs_of j a)) (R : Relation) (t : Tree) where
+  -- what is first here
+  abbrev First : Fault → Type 0
+  First f = IsFirst L R (MeetsFault L C (Reducts L C R) t t) R.rules t f
+
+  -- where rules have a fault it is the first that they meet
+  listed-fails : (f : Fault) → Listed L C R t (fault f) → IsFirstMet (MeetsFault L C (Reducts L C R) t t) R.rules f
+  listed-fails f (stops k) = all-fails L C calls outputs R t 0 R.rules f k
+  listed-fails f (goes k l) = elim l [ ]
+
+  -- where they have steps they meet none
+  listed-made : (ss : List Step) (f : Fault) → Listed L C R t (value ss) → IsFirstMet (MeetsFault L C (Reducts L C R) t t) R.rules f → ⊥
+  listed-made ss f (goes {x = us} k l) m = all-made L C calls outputs R t 0 R.rules us k m.place m.rule m.extras m.binding f m.placed m.met
+
+  -- a fault of the relation is the first
+  steps-fail : (f : Fault) → Steps L C R t (fault f) → First f
+  steps-fail f h = elim (asked-fails L R.domain t (not_contract R.name sides.In t) (Listed L C R t) f h) [
+    | inl k ↦ at_term (record { outside = k.0; named = k.1 })
+    | inr k ↦ by_rules (record { inside = k.0; first = listed-fails f k.1 })
+  ]
+
+  -- where it has steps there is none
+  steps-made : (ss : List Step) (f : Fault) → Steps L C R t (value ss) → First f → ⊥
+  steps-made ss f h (at_term k) = k.outside (asked-inside L R.domain t (not_contract R.name sides.In t) (Listed L C R t) ss h)
+  steps-made ss f h (by_rules k) = listed-made ss f (steps-listed L C calls outputs R t ss h) k.first
+
+  -- and there is one
+  first-one : (f g : Fault) → First f → First g → f ≡ g
+  first-one f g (at_term h) (at_term k) = h.named ∙ sym k.named
+  first-one f g (at_term h) (by_rules k) = absurd (h.outside k.inside)
+  first-one f g (by_rules h) (at_term k) = absurd (k.outside h.inside)
+  first-one f g (by_rules h) (by_rules k) =
+      one_first (MeetsFault L C (Reducts L C R) t t) (meets-one L C calls outputs R t) R.rules f g h.first k.first
+
+  -- so whatever it is answered, the first fault is the answer
+  first-answered : (f : Fault) (r : Answer (List Step)) → Steps L C R t r → First f → r ≡ fault f
+  first-answered f (value ss) k m = absurd (steps-made ss f k m)
+  first-answered f (fault g) k m = ap fault (first-one g f (steps-fail g k) m)
+
 pub answers_first : AnswersFirst
-answers_first L P n t rs f a h = (λ e. fails f (subst (Steps L (calls_at P n) t rs) e h), first a h)
-  where
-    fails : (g : Fault) → Steps L (calls_at P n) t rs (fault g) → IsFirstMet (MeetsFault L (calls_at P n) t t) rs g
-    fails g (stops k) = all-fails L (calls_at P n) (once-call P n) (once-outputs P n) t 0 rs g k
-    fails g (goes k l) = elim l [ ]
-
-    made : (ss : List Step) → Steps L (calls_at P n) t rs (value ss) → IsFirstMet (MeetsFault L (calls_at P n) t t) rs f → ⊥
-    made ss (goes {x = us} k l) m =
-        all-made L (calls_at P n) (once-call P n) (once-outputs P n) t 0 rs us k m.place m.rule m.extras m.binding f m.placed m.met
-
-    first : (r : Answer (List Step)) → Steps L (calls_at P n) t rs r → IsFirstMet (MeetsFault L (calls_at P n) t t) rs f → r ≡ fault f
-    first (value ss) k m = absurd (made ss k m)
-    first (fault g) k m =
-        ap fault (one_first (MeetsFault L (calls_at P n) t t) (meets-one L (calls_at P n) (once-call P n) (once-outputs P n) t) rs g f (fails g k) m)
+answers_first L P n R t f a h =
+    let C : Calls = calls_at P n in (
+      λ e. steps-fail L C (once-call P n) (once-outputs P n) R t f (subst (Steps L C R t) e h),
+      first-answered L C (once-call P n) (once-outputs P n) R t f a h,
+    )

@@ -8,6 +8,7 @@ pub mod ClosureExamples
 pub mod ContextBindings
 pub mod SameTemplates
 pub mod AlongExtras
+pub mod Domains
 pub mod TakenSteps
 pub mod FirstFaults
 pub mod ClosureLaws

@@ -8,22 +8,25 @@ use Rattle.rdx_lang.specs.Members.{In, here}
 use Rattle.rdx_lang.specs.Model.TotalOrders.{binding_cmp-total}
 use Rattle.rdx_lang.specs.Order.{binding_cmp}
 use Rattle.rdx_lang.specs.Patterns.{Language}
-use Rattle.rdx_lang.specs.Programs.{Extra, Rule}
+use Rattle.rdx_lang.specs.Programs.{Extra, Relation, Rule}
 use Rattle.rdx_lang.specs.Rules.{Match}
 use Rattle.rdx_lang.proofs.Collecting.{only, listing_of}
 use Rattle.rdx_lang.proofs.MemberLaws.{in-append, append-left, append-right}
 use Rattle.rdx_lang.proofs.OrderLaws.{binding_cmp-tells}
-use Rattle.rdx_eval.specs.Answers.{Answer, value, Then, goes, Gather, Single, Lists, lists}
+use Rattle.rdx_eval.specs.Answers.{Answer, value, not_contract, Then, goes, Gather, Single, Lists, lists}
 use Rattle.rdx_eval.specs.Calls.{Calls}
 use Rattle.rdx_eval.specs.Extending.{By, ByEach, Extend, Survivors}
 use Rattle.rdx_eval.specs.Fresh.{Avoided, avoiding, behind}
 use Rattle.rdx_eval.specs.Heights.{calls_at}
 use Rattle.rdx_eval.specs.Instantiation.{Makes}
 use Rattle.rdx_eval.specs.Laws.{Once}
+use Rattle.rdx_eval.specs.declared.fault.Side.TheVariants as sides
+use Rattle.rdx_eval.proofs.ContractLaws.{asked-value}
 use Rattle.rdx_eval.proofs.OneAnswer.{once-call, once-outputs, once-extend, once-inst, same_value}
 use Rattle.rdx_eval.proofs.SomeAnswer.{some-lists}
-use Rattle.rdx_reduce.specs.Steps.{Step, step_cmp, StepBy, RuleSteps, AllSteps, Steps}
-use Rattle.rdx_reduce.specs.TakenSteps.{LeadTo, no_extra, one_extra, TakesStep, IsTaken, ListsTaken}
+use Rattle.rdx_reduce.specs.Steps.{Step, step_cmp, Reducts, StepBy, RuleSteps, AllSteps, Listed, Steps}
+use Rattle.rdx_reduce.specs.TakenSteps.{LeadTo, no_extra, one_extra, TakesStep, IsTaken, ListsTaken, IsInDomain, StaysInDomain}
+use Rattle.rdx_reduce.proofs.Domains.{asked-inside, reduct_made, reduct_inside}
 use Rattle.rdx_eval.proofs.Reached.{reached, gathered-sound, gathered-complete}
 
 -- what lists the members of a set lists them
@@ -83,49 +86,54 @@ module _ (L : Language) (C : Calls) (calls : (f : List ℕ) (a : Tree) → Once 
       let o : In d l.between = g.gathered d (by-same a e b d ds g.given m g.gives j) in
       extended-complete (behind a e) es k.between cs d c k.behind (listing.complete d o) n
 
-  module _ (t : Tree) where
-    -- a step that is listed by one binding leads to what the result makes of it
-    one_step_in : (i : ℕ) (r : Rule) (b : Binding) (s : Step) (ss : List Step) → Single (StepBy C i r b) (value ss) → In s ss
-        → Makes C b r.result (value s.reduct) × (s.rule ≡ i)
+  module _ (R : Relation) (t : Tree) where
+    -- a step that is listed by one binding leads to a reduct
+    one_step_in : (i : ℕ) (r : Rule) (b : Binding) (s : Step) (ss : List Step) → Single (StepBy L C R i r b) (value ss) → In s ss
+        → Reducts L C R r b (value s.reduct) × (s.rule ≡ i)
     one_step_in i r b s ss h k =
-        let l = reached (StepBy C i r b) (λ u a. a ≡ value (u ∷ [])) ss h in
-        let m = reached (Makes C b r.result) (λ u a. a ≡ value (record { rule = i; reduct = u })) l.between l.before in
+        let l = reached (StepBy L C R i r b) (λ u a. a ≡ value (u ∷ [])) ss h in
+        let m = reached (Reducts L C R r b) (λ u a. a ≡ value (record { rule = i; reduct = u })) l.between l.before in
         let e : record { rule = i; reduct = m.between } ≡ s =
         same_value l.between (record { rule = i; reduct = m.between }) m.behind
         ∙ sym (only (subst (λ (us : List Step). In s us) (sym (same_value ss (l.between ∷ []) l.behind)) k)) in
-        (subst (λ (u : Step). Makes C b r.result (value u.reduct)) e m.before, sym (ap (λ (u : Step). u.rule) e))
+        (subst (λ (u : Step). Reducts L C R r b (value u.reduct)) e m.before, sym (ap (λ (u : Step). u.rule) e))
 
     -- and the step to what the result makes is listed
-    step_there : (i : ℕ) (r : Rule) (b : Binding) (u : Tree) (ss : List Step) → Single (StepBy C i r b) (value ss) → Makes C b r.result (value u)
+    step_there : (i : ℕ) (r : Rule) (b : Binding) (u : Tree) (ss : List Step) → Single (StepBy L C R i r b) (value ss) → Makes C b r.result (value u)
         → In (record { rule = i; reduct = u }) ss
     step_there i r b u ss h k =
-        let l = reached (StepBy C i r b) (λ v a. a ≡ value (v ∷ [])) ss h in
-        let m = reached (Makes C b r.result) (λ v a. a ≡ value (record { rule = i; reduct = v })) l.between l.before in
-        let e : u ≡ m.between = same_value m.between u (once-inst C calls b [] r.result (value m.between) (value u) m.before k) in
+        let l = reached (StepBy L C R i r b) (λ v a. a ≡ value (v ∷ [])) ss h in
+        let m = reached (Reducts L C R r b) (λ v a. a ≡ value (record { rule = i; reduct = v })) l.between l.before in
+        let e : u ≡ m.between =
+        same_value m.between u (once-inst C calls b [] r.result (value m.between) (value u) (reduct_made L C R r b m.between m.before) k) in
         subst (λ (us : List Step). In (record { rule = i; reduct = u }) us) (same_value ss (l.between ∷ []) l.behind)
         (here ((λ j. record { rule = i; reduct = e j }) ∙ same_value l.between (record { rule = i; reduct = m.between }) m.behind))
 
-    -- each step that is listed by a rule is one that it takes
-    rule-sound : (i : ℕ) (r : Rule) (ss : List Step) (s : Step) → RuleSteps L C t i r (value ss) → In s ss
-        → TakesStep L C t r t s.reduct × (s.rule ≡ i)
+    -- each step that is listed by a rule is one that it takes, to a term in the domain
+    rule-sound : (i : ℕ) (r : Rule) (ss : List Step) (s : Step) → RuleSteps L C R t i r (value ss) → In s ss
+        → TakesStep L C t r t s.reduct × (s.rule ≡ i) × IsInDomain L R.domain s.reduct
     rule-sound i r ss s h k =
-        let l = reached (Survivors L C t r.pattern r.extras) (Gather (λ b. Single (StepBy C i r b))) ss h in
+        let l = reached (Survivors L C t r.pattern r.extras) (Gather (λ b. Single (StepBy L C R i r b))) ss h in
         let m = reached (Lists binding_cmp (IsSeen (Match L r.pattern t))) (Extend L C (avoiding t) r.extras) l.between l.before in
         let listing = listing_in binding_cmp (IsSeen (Match L r.pattern t)) m.between m.before in
-        let g = gathered-sound (λ b. Single (StepBy C i r b)) l.between ss s l.behind k in
+        let g = gathered-sound (λ b. Single (StepBy L C R i r b)) l.between ss s l.behind k in
         let o = one_step_in i r g.from s g.given g.gives g.one in
         let e = extended-sound (avoiding t) r.extras m.between l.between g.from m.behind g.among in
-        (record { first = e.start; last = g.from; matched = listing.sound e.start e.among; extended = e.leads; made = o.0 }, o.1)
+        let made : Makes C g.from r.result (value s.reduct) = reduct_made L C R r g.from s.reduct o.0 in (
+          record { first = e.start; last = g.from; matched = listing.sound e.start e.among; extended = e.leads; made = made },
+          o.1,
+          reduct_inside L C R r g.from s.reduct o.0,
+        )
 
     -- and each that it takes is listed
-    rule-complete : (i : ℕ) (r : Rule) (ss : List Step) (u : Tree) → RuleSteps L C t i r (value ss) → TakesStep L C t r t u
+    rule-complete : (i : ℕ) (r : Rule) (ss : List Step) (u : Tree) → RuleSteps L C R t i r (value ss) → TakesStep L C t r t u
         → In (record { rule = i; reduct = u }) ss
     rule-complete i r ss u h k =
-        let l = reached (Survivors L C t r.pattern r.extras) (Gather (λ b. Single (StepBy C i r b))) ss h in
+        let l = reached (Survivors L C t r.pattern r.extras) (Gather (λ b. Single (StepBy L C R i r b))) ss h in
         let m = reached (Lists binding_cmp (IsSeen (Match L r.pattern t))) (Extend L C (avoiding t) r.extras) l.between l.before in
         let listing = listing_in binding_cmp (IsSeen (Match L r.pattern t)) m.between m.before in
         let e = extended-complete (avoiding t) r.extras m.between l.between k.first k.last m.behind (listing.complete k.first k.matched) k.extended in
-        let g = gathered-complete (λ b. Single (StepBy C i r b)) l.between ss k.last l.behind e in
+        let g = gathered-complete (λ b. Single (StepBy L C R i r b)) l.between ss k.last l.behind e in
         g.gathered (record { rule = i; reduct = u }) (step_there i r k.last u g.given g.gives k.made)
 
     -- the rule that is so far behind the first takes the step, whose place is counted from i on
@@ -135,30 +143,31 @@ module _ (L : Language) (C : Calls) (calls : (f : List ℕ) (a : Tree) → Once 
       placed : slice_get rs behind ≡ Some rule
       same : s.rule ≡ i + behind
       taken : TakesStep L C t rule t s.reduct
+      inside : IsInDomain L R.domain s.reduct
 
     -- each step that is listed by the rules is such a step
-    all-sound : (i : ℕ) (rs : List Rule) (ss : List Step) (s : Step) → AllSteps L C t i rs (value ss) → In s ss → TakenFrom i rs s
+    all-sound : (i : ℕ) (rs : List Rule) (ss : List Step) (s : Step) → AllSteps L C R t i rs (value ss) → In s ss → TakenFrom i rs s
     all-sound i [] ss s h k = elim (subst (λ (us : List Step). In s us) (sym (same_value ss [] h)) k) [ ]
     all-sound i (r ∷ rs) ss s h k =
-        let l = reached (RuleSteps L C t i r) (λ us. Then (AllSteps L C t (suc i) rs) (λ vs a. a ≡ value (us ++ vs))) ss h in
-        let m = reached (AllSteps L C t (suc i) rs) (λ vs a. a ≡ value (l.between ++ vs)) ss l.behind in
+        let l = reached (RuleSteps L C R t i r) (λ us. Then (AllSteps L C R t (suc i) rs) (λ vs a. a ≡ value (us ++ vs))) ss h in
+        let m = reached (AllSteps L C R t (suc i) rs) (λ vs a. a ≡ value (l.between ++ vs)) ss l.behind in
         elim (in-append l.between m.between s (subst (λ (us : List Step). In s us) (sym (same_value ss (l.between ++ m.between) m.behind)) k)) [
           | inl j ↦ let o = rule-sound i r l.between s l.before j in
-              record { rule = r; behind = 0; placed = refl; same = o.1 ∙ sym (add-zero i); taken = o.0 }
+              record { rule = r; behind = 0; placed = refl; same = o.1 ∙ sym (add-zero i); taken = o.0; inside = o.2 }
           | inr j ↦ let o = all-sound (suc i) rs m.between s m.before j in
-              record { rule = o.rule; behind = suc o.behind; placed = o.placed; same = o.same ∙ next o.behind; taken = o.taken }
+              record { rule = o.rule; behind = suc o.behind; placed = o.placed; same = o.same ∙ next o.behind; taken = o.taken; inside = o.inside }
         ]
       where
         next : (k : ℕ) → suc i + k ≡ i + suc k
         next k = omega arith
 
     -- and each such step is listed
-    all-complete : (i k : ℕ) (rs : List Rule) (ss : List Step) (r : Rule) (u : Tree) → AllSteps L C t i rs (value ss) → slice_get rs k ≡ Some r
+    all-complete : (i k : ℕ) (rs : List Rule) (ss : List Step) (r : Rule) (u : Tree) → AllSteps L C R t i rs (value ss) → slice_get rs k ≡ Some r
         → TakesStep L C t r t u → In (record { rule = i + k; reduct = u }) ss
     all-complete i k [] ss r u h e s = absurd cc
     all-complete i zero (z ∷ rs) ss r u h e s =
-        let l = reached (RuleSteps L C t i z) (λ us. Then (AllSteps L C t (suc i) rs) (λ vs a. a ≡ value (us ++ vs))) ss h in
-        let m = reached (AllSteps L C t (suc i) rs) (λ vs a. a ≡ value (l.between ++ vs)) ss l.behind in
+        let l = reached (RuleSteps L C R t i z) (λ us. Then (AllSteps L C R t (suc i) rs) (λ vs a. a ≡ value (us ++ vs))) ss h in
+        let m = reached (AllSteps L C R t (suc i) rs) (λ vs a. a ≡ value (l.between ++ vs)) ss l.behind in
         let d : r ≡ z = cc in
         let o : In (record { rule = i; reduct = u }) l.between =
         rule-complete i z l.between u l.before (subst (λ (q : Rule). TakesStep L C t q t u) d s) in
@@ -167,8 +176,8 @@ module _ (L : Language) (C : Calls) (calls : (f : List ℕ) (a : Tree) → Once 
         subst (λ (us : List Step). In (record { rule = i + 0; reduct = u }) us) (same_value ss (l.between ++ m.between) m.behind)
         (append-left l.between m.between (record { rule = i + 0; reduct = u }) j)
     all-complete i (suc k) (z ∷ rs) ss r u h e s =
-        let l = reached (RuleSteps L C t i z) (λ us. Then (AllSteps L C t (suc i) rs) (λ vs a. a ≡ value (us ++ vs))) ss h in
-        let m = reached (AllSteps L C t (suc i) rs) (λ vs a. a ≡ value (l.between ++ vs)) ss l.behind in
+        let l = reached (RuleSteps L C R t i z) (λ us. Then (AllSteps L C R t (suc i) rs) (λ vs a. a ≡ value (us ++ vs))) ss h in
+        let m = reached (AllSteps L C R t (suc i) rs) (λ vs a. a ≡ value (l.between ++ vs)) ss l.behind in
         let o : In (record { rule = suc i + k; reduct = u }) m.between = all-complete (suc i) k rs m.between r u m.before e s in
         let next : suc i + k ≡ i + suc k = omega arith in
         let j : In (record { rule = i + suc k; reduct = u }) m.between =
@@ -177,23 +186,44 @@ module _ (L : Language) (C : Calls) (calls : (f : List ℕ) (a : Tree) → Once 
         (append-right l.between m.between (record { rule = i + suc k; reduct = u }) j)
 
     -- the listing of them
-    pub taken-listed : (rs : List Rule) (ss : List Step) → Steps L C t rs (value ss) → IsListing step_cmp ss (IsTaken L C t rs)
-    taken-listed rs ss h = let k = reached (AllSteps L C t 0 rs) (λ us. Lists step_cmp (λ s. In s us)) ss h in
-        listing_of (sound k.between k.before) (complete k.between k.before)
-        (listing_in step_cmp (λ s. In s k.between) ss k.behind)
+    listed-taken : (ss : List Step) → Listed L C R t (value ss)
+        → IsListing step_cmp ss (IsTaken L C t R.rules) × ((s : Step) → In s ss → IsInDomain L R.domain s.reduct)
+    listed-taken ss h =
+        let k = reached (AllSteps L C R t 0 R.rules) (λ us. Lists step_cmp (λ s. In s us)) ss h in
+        let l = listing_in step_cmp (λ s. In s k.between) ss k.behind in (
+          listing_of (sound k.between k.before) (complete k.between k.before) l,
+          λ s i. (all-sound 0 R.rules k.between s k.before (l.sound s i)).inside,
+        )
       where
         from_none : (n : ℕ) → 0 + n ≡ n
         from_none n = omega arith
 
-        sound : (us : List Step) → AllSteps L C t 0 rs (value us) → (s : Step) → In s us → IsTaken L C t rs s
-        sound us l s i = let g = all-sound 0 rs us s l i in
+        sound : (us : List Step) → AllSteps L C R t 0 R.rules (value us) → (s : Step) → In s us → IsTaken L C t R.rules s
+        sound us l s i = let g = all-sound 0 R.rules us s l i in
             let e : s.rule ≡ g.behind = g.same ∙ from_none g.behind in
-            record { rule = g.rule; placed = ap (slice_get rs) e ∙ g.placed; taken = g.taken }
+            record { rule = g.rule; placed = ap (slice_get R.rules) e ∙ g.placed; taken = g.taken }
 
-        complete : (us : List Step) → AllSteps L C t 0 rs (value us) → (s : Step) → IsTaken L C t rs s → In s us
+        complete : (us : List Step) → AllSteps L C R t 0 R.rules (value us) → (s : Step) → IsTaken L C t R.rules s → In s us
         complete us l s g =
             subst (λ (n : ℕ). In (record { rule = n; reduct = s.reduct }) us) (from_none s.rule)
-            (all-complete 0 s.rule rs us g.rule s.reduct l g.placed g.taken)
+            (all-complete 0 s.rule R.rules us g.rule s.reduct l g.placed g.taken)
+
+    -- a relation that takes steps lists them
+    pub steps-listed : (ss : List Step) → Steps L C R t (value ss) → Listed L C R t (value ss)
+    steps-listed ss h = asked-value L R.domain t (not_contract R.name sides.In t) (Listed L C R t) ss h
+
+    -- they are those that its rules take
+    pub steps-taken : (ss : List Step) → Steps L C R t (value ss) → IsListing step_cmp ss (IsTaken L C t R.rules)
+    steps-taken ss h = (listed-taken ss (steps-listed ss h)).0
+
+    -- the term is in the domain, and so is each that they lead to
+    pub steps-inside : (ss : List Step) → Steps L C R t (value ss)
+        → IsInDomain L R.domain t × ((s : Step) → In s ss → IsInDomain L R.domain s.reduct)
+    steps-inside ss h =
+        (asked-inside L R.domain t (not_contract R.name sides.In t) (Listed L C R t) ss h, (listed-taken ss (steps-listed ss h)).1)
 
 pub lists_taken : ListsTaken
-lists_taken L P n t rs ss h = taken-listed L (calls_at P n) (once-call P n) (once-outputs P n) t rs ss h
+lists_taken L P n R t ss h = steps-taken L (calls_at P n) (once-call P n) (once-outputs P n) R t ss h
+
+pub stays_in_domain : StaysInDomain
+stays_in_domain L P n R t ss h = steps-inside L (calls_at P n) (once-call P n) (once-outputs P n) R t ss h

@@ -18,14 +18,16 @@ use Rattle.rdx_lang.specs.Patterns.{Pattern, Language}
 use Rattle.rdx_lang.specs.Programs.{Program, Relation, Rule}
 use Rattle.rdx_lang.specs.Rules.{Match, Split}
 use Rattle.rdx_lang.specs.Valid.{is_valid_rule}
-use Rattle.rdx_eval.specs.Answers.{Answer, value, fault, Fault, Then}
+use Rattle.rdx_eval.specs.Answers.{Answer, value, fault, Fault, not_contract, Then}
 use Rattle.rdx_eval.specs.Calls.{Calls}
+use Rattle.rdx_eval.specs.Asking.{AskedIf}
 use Rattle.rdx_eval.specs.Fresh.{avoiding}
 use Rattle.rdx_eval.specs.Heights.{calls_at}
 use Rattle.rdx_eval.specs.Instantiation.{Makes}
 use Rattle.rdx_eval.specs.Making.{IsFilled}
-use Rattle.rdx_reduce.specs.FirstFaults.{FailsAfter, MeetsFault, IsFirstMet}
-use Rattle.rdx_reduce.specs.Steps.{Step, step_cmp, Steps}
+use Rattle.rdx_eval.specs.declared.fault.Side.TheVariants as sides
+use Rattle.rdx_reduce.specs.FirstFaults.{FailsAfter, MeetsFault, IsFirst}
+use Rattle.rdx_reduce.specs.Steps.{Step, step_cmp, Reducts, Steps}
 use Rattle.rdx_reduce.specs.TakenSteps.{TakesStep}
 
 -- ---- matching
@@ -94,18 +96,25 @@ pub record IsTakenInside (L : Language) (C : Calls) (q : Pattern) (t : Tree) (rs
   pub placed : slice_get rs s.rule ≡ Some rule
   pub taken : TakesStepInside L C t q rule t s.reduct
 
--- where there is no fault, the steps of a closure of a relation with valid rules are a listing of those that its rules take inside of contexts
+-- where there is no fault, the steps of a closure of a relation with valid rules are a listing of those that its rules take inside of contexts; the
+-- domain of the relation is that of the closure, and asked of whole terms
 abbrev pub ClosureLists : Type 0
 ClosureLists =
     (L : Language) (P : Program) (n : ℕ) (F : Callable) (q : Pattern) (x : List ℕ) (R : Relation) (t : Tree) (ss : List Step)
     → IsTrue (list_all (is_valid_rule F L) R.rules) → LeaveNames R.rules
-    → Steps L (calls_at P n) t (context_closure q x R).rules (value ss) → IsListing step_cmp ss (IsTakenInside L (calls_at P n) q t R.rules)
+    → Steps L (calls_at P n) (context_closure q x R) t (value ss) → IsListing step_cmp ss (IsTakenInside L (calls_at P n) q t R.rules)
 
 -- ---- faults
 
--- q splits t into a context and a part; with the part the rule meets the fault behind so many of its extras, where what its result makes is put
--- into the context; and b is the binding that it meets it with, joined with the name of the context
-pub record MeetsFaultInside (L : Language) (C : Calls) (w : Tree) (q : Pattern) (t : Tree) (r : Rule) (n : ℕ) (b : Binding) (f : Fault) : Type 0 where
+-- what the result of a rule makes, put into a context, where that is in the domain of R, if R has one
+abbrev pub ReductsInside : Language → Calls → Relation → Tree → Rule → Binding → Answer Tree → Type 0
+ReductsInside L C R c r b =
+    Then (Then (Makes C b r.result) (IsFilled c)) (λ u. AskedIf L R.domain u (not_contract R.name sides.Out u) (λ a. a ≡ value u))
+
+-- q splits t into a context and a part; with the part the rule meets the fault behind so many of its extras, where S is what its result makes in
+-- that context; and b is the binding that it meets it with, joined with the name of the context
+pub record MeetsFaultInside (L : Language) (C : Calls) (S : Tree → Rule → Binding → Answer Tree → Type 0) (w : Tree) (q : Pattern) (t : Tree) (r : Rule)
+    (n : ℕ) (b : Binding) (f : Fault) : Type 0 where
   pub context : Tree
   pub part : Tree
   pub forgotten : Binding
@@ -113,27 +122,35 @@ pub record MeetsFaultInside (L : Language) (C : Calls) (w : Tree) (q : Pattern) 
   pub last : Binding
   pub split : Split L q t context part forgotten
   pub matched : IsSeen (Match L r.pattern part) first
-  pub fails : FailsAfter L C (λ c. Then (Makes C c r.result) (IsFilled context)) (avoiding w) r.extras first n last f
+  pub fails : FailsAfter L C (S context r) (avoiding w) r.extras first n last f
   pub joined : IsJoin (one_name (context_name r) (one_term context)) last b
 
--- where a rule is valid, the closed rule meets exactly the faults that the rule meets inside of contexts
+-- where a rule is valid, the closed rule meets exactly the faults that the rule meets inside of contexts, in a relation with whatever domain
 abbrev pub FaultsInContext : Type 0
 FaultsInContext =
-    (L : Language) (P : Program) (n : ℕ) (F : Callable) (q : Pattern) (r : Rule) (w t : Tree) (k : ℕ) (b : Binding) (f : Fault)
+    (L : Language) (P : Program) (n : ℕ) (F : Callable) (R : Relation) (q : Pattern) (r : Rule) (w t : Tree) (k : ℕ) (b : Binding) (f : Fault)
     → IsTrue (is_valid_rule F L r) → LeavesAName r
-    → (MeetsFault L (calls_at P n) w t (closed_rule q r) k b f ↔ MeetsFaultInside L (calls_at P n) w q t r k b f)
+    → (MeetsFault L (calls_at P n) (Reducts L (calls_at P n) R) w t (closed_rule q r) k b f
+    ↔ MeetsFaultInside L (calls_at P n) (ReductsInside L (calls_at P n) R) w q t r k b f)
 
--- so such a closing pattern leaves to a valid rule its own faults, too, behind as many of its extras; the context is the hole
+-- so such a closing pattern leaves to a valid rule its own faults, too, behind as many of its extras, where the domain is the same and a reduct that is
+-- not in it is within the limits of terms; the context is the hole
 abbrev pub KeepsOwnFaults : Type 0
 KeepsOwnFaults =
-    (L : Language) (P : Program) (n : ℕ) (F : Callable) (q : Pattern) (r : Rule) (w t : Tree) (k : ℕ) (b : Binding) (f : Fault)
-    → IsTrue (is_valid_rule F L r) → LeavesAName r → SplitsWhole L q t → MeetsFault L (calls_at P n) w t r k b f
-    → (c : Binding) × IsJoin (one_name (context_name r) (one_term hole)) b c × MeetsFault L (calls_at P n) w t (closed_rule q r) k c f
+    (L : Language) (P : Program) (n : ℕ) (F : Callable) (R : Relation) (q : Pattern) (r : Rule) (w t : Tree) (k : ℕ) (b : Binding) (f : Fault)
+    → IsTrue (is_valid_rule F L r) → LeavesAName r → SplitsWhole L q t
+    → ((u : Tree) → f ≡ not_contract R.name sides.Out u → KeepsLimits u)
+    → MeetsFault L (calls_at P n) (Reducts L (calls_at P n) R) w t r k b f
+    → (c : Binding) × IsJoin (one_name (context_name r) (one_term hole)) b c
+    × MeetsFault L (calls_at P n) (Reducts L (calls_at P n) R) w t (closed_rule q r) k c f
 
--- whatever the steps of a closure of a relation with valid rules are answered, it is a fault exactly where this is the first that its rules meet
--- inside of contexts; bindings are in order with the name of the context among theirs
+-- whatever the steps of a closure of a relation with valid rules are answered, it is a fault exactly where this is the first: that the whole term is
+-- not in the domain, or else of those that the rules of the relation meet inside of contexts; bindings are in order with the name of the context
+-- among theirs
 abbrev pub ClosureFaults : Type 0
 ClosureFaults =
     (L : Language) (P : Program) (n : ℕ) (F : Callable) (q : Pattern) (x : List ℕ) (R : Relation) (t : Tree) (f : Fault) (a : Answer (List Step))
-    → IsTrue (list_all (is_valid_rule F L) R.rules) → LeaveNames R.rules
-    → Steps L (calls_at P n) t (context_closure q x R).rules a → (a ≡ fault f ↔ IsFirstMet (MeetsFaultInside L (calls_at P n) t q t) R.rules f)
+    → IsTrue (list_all (is_valid_rule F L) R.rules) → LeaveNames R.rules → Steps L (calls_at P n) (context_closure q x R) t a
+    → (a ≡ fault f
+    ↔ IsFirst L (context_closure q x R)
+    (MeetsFaultInside L (calls_at P n) (ReductsInside L (calls_at P n) (context_closure q x R)) t q t) R.rules t f)

@@ -1,12 +1,12 @@
 -- Which steps a rule takes, one by one: a step is there by a binding of the rule's pattern, by what its extras make of that, and by what its
 -- result makes of this. Where there is no fault the steps that are listed are exactly these.
-use Rattle.std.specs.Prelude.{◌≡◌, ℕ, List, [], ◌∷◌, Some, slice_get}
+use Rattle.std.specs.Prelude.{◌≡◌, ℕ, List, [], ◌∷◌, Option, Some, None, slice_get}
 use Rattle.rdx_term.specs.Tree.{Tree}
 use Rattle.rdx_lang.specs.Bindings.{Binding}
 use Rattle.rdx_lang.specs.Listing.{IsListing, IsSeen}
 use Rattle.rdx_lang.specs.Members.{In}
-use Rattle.rdx_lang.specs.Patterns.{Language}
-use Rattle.rdx_lang.specs.Programs.{Extra, Program, Rule}
+use Rattle.rdx_lang.specs.Patterns.{Pattern, Language}
+use Rattle.rdx_lang.specs.Programs.{Extra, Program, Relation, Rule}
 use Rattle.rdx_lang.specs.Rules.{Match}
 use Rattle.rdx_eval.specs.Answers.{value}
 use Rattle.rdx_eval.specs.Calls.{Calls}
@@ -38,8 +38,19 @@ pub record IsTaken (L : Language) (C : Calls) (t : Tree) (rs : List Rule) (s : S
   pub placed : slice_get rs s.rule ≡ Some rule
   pub taken : TakesStep L C t rule t s.reduct
 
--- where there is no fault, the steps by the rules are a listing of those that the rules take
+-- where there is no fault, the steps of a relation are a listing of those that its rules take
 abbrev pub ListsTaken : Type 0
 ListsTaken =
-    (L : Language) (P : Program) (n : ℕ) (t : Tree) (rs : List Rule) (ss : List Step) → Steps L (calls_at P n) t rs (value ss)
-    → IsListing step_cmp ss (IsTaken L (calls_at P n) t rs)
+    (L : Language) (P : Program) (n : ℕ) (R : Relation) (t : Tree) (ss : List Step) → Steps L (calls_at P n) R t (value ss)
+    → IsListing step_cmp ss (IsTaken L (calls_at P n) t R.rules)
+
+-- the term is in the domain, if there is one: its pattern matches the term by some binding
+abbrev pub IsInDomain : Language → Option Pattern → Tree → Type 0
+IsInDomain L None t = Unit {0}
+IsInDomain L (Some p) t = (b : Binding) × Match L p t b
+
+-- and then the term is in the domain of the relation, and so is each that a step leads to
+abbrev pub StaysInDomain : Type 0
+StaysInDomain =
+    (L : Language) (P : Program) (n : ℕ) (R : Relation) (t : Tree) (ss : List Step) → Steps L (calls_at P n) R t (value ss)
+    → IsInDomain L R.domain t × ((s : Step) → In s ss → IsInDomain L R.domain s.reduct)

@@ -19,9 +19,9 @@ use Rattle.rdx_run.specs.Walks.{Walk, done, no_such_reduct, stopped, chosen, at_
 pub steps-once : OneStepping → (P : Program) (R : Relation) (t : Tree) → Once (AreSteps P R t)
 steps-once law P R t = by_language (language_named P R.language)
   where
-    by_language : (o : Option Language) → Once (StepsOver o (calls_at P height) t R.rules)
+    by_language : (o : Option Language) → Once (StepsOver o (calls_at P height) R t)
     by_language None = λ r s p q. absurd p
-    by_language (Some L) = law L P height t R.rules
+    by_language (Some L) = law L P height R t
 
 module _ (R : Tree → Answer (List Step) → Type 0) (once : (t : Tree) → Once (R t)) where
   -- one fault, one list, and never both

@@ -26,8 +26,8 @@ use Rattle.rdx_run.proofs.Leading.{none-lead, lead-more}
 pub steps-some : SomeStepping → (P : Program) (R : Relation) → AreFree P → (o : Option Language) → language_named P R.language ≡ o → IsSome o → (t : Tree) → HasAnswer (AreSteps P R t)
 steps-some law P R f None e n t = absurd cc
 steps-some law P R f (Some L) e n t =
-    let s = law L P height t R.rules (f L (language_among-in P.languages R.language L e)) f in
-    record { answer = s.answer; allowed = subst (λ (o : Option Language). StepsOver o (calls_at P height) t R.rules s.answer) (sym e) s.allowed }
+    let s = law L P height R t (f L (language_among-in P.languages R.language L e)) f in
+    record { answer = s.answer; allowed = subst (λ (o : Option Language). StepsOver o (calls_at P height) R t s.answer) (sym e) s.allowed }
 
 -- some of these steps lead elsewhere than s, or all of the ones do
 lead_or_differ : (s : Step) (all : List Step) → In s all → (ss : List Step) → ((u : Step) → In u ss → In u all) → AllLead s.reduct ss ⊎ Differ all

@@ -2,6 +2,7 @@
 use Rattle.std.specs.Prelude.{ℕ, IsTrue, List, Option, Some, None}
 use Rattle.rdx_lang.specs.PatternView.{Slot, just, repeated}
 use Rattle.rdx_lang.specs.Patterns.{Language, closed}
+use Rattle.rdx_lang.specs.Programs.{Mode}
 use Rattle.rdx_lang.specs.WellFormed.{is_well_formed_in}
 use Rattle.rdx_parts.specs.Headed.{Headed}
 use Rattle.rdx_defs.specs.JudgementReading as judgements
@@ -23,7 +24,12 @@ abbrev pub IsContractIn : Language → List (List ℕ) → Option ContractForm �
 IsContractIn L ns None = Unit {0}
 IsContractIn L ns (Some c) = IsContract L ns c
 
--- the pattern of the contract of a judgement is, where there is one
-abbrev pub IsJudgementContract : Language → List (List ℕ) → Option Headed → Type 0
-IsJudgementContract L ns None = Unit {0}
-IsJudgementContract L ns (Some h) = IsTrue (is_well_formed_in L (judgements.contract_reading ns h))
+-- both patterns of the contract of a judgement of this mode are
+pub record IsJudgementContract (L : Language) (ns : List (List ℕ)) (m : Option Mode) (h : Headed) : Type 0 where
+  pub inputs : IsTrue (is_well_formed_in L (judgements.contract_reading ns m h).0)
+  pub outputs : IsTrue (is_well_formed_in L (judgements.contract_reading ns m h).1)
+
+-- where there is one
+abbrev pub IsJudgementContractIn : Language → List (List ℕ) → Option Mode → Option Headed → Type 0
+IsJudgementContractIn L ns m None = Unit {0}
+IsJudgementContractIn L ns m (Some h) = IsJudgementContract L ns m h

@@ -3,36 +3,36 @@ ghost use Rattle.std.specs.Prelude.{◌≡◌, IfOk, IsTrue, Some, map, option_m
 ghost use Rattle.std.specs.Rc.{rc_str_bytes};
 ghost use Rattle.rdx_term.specs.Spelling.{is_name};
 ghost use Rattle.rdx_lang.specs.Checked.{language_in, pattern_in};
-ghost use Rattle.rdx_lang.specs.PatternView.{items_of, slot_of};
-ghost use Rattle.rdx_lang.specs.ProgramView.{extras_of, judgement_of, judgement_rule_of, judgement_rules_of};
+ghost use Rattle.rdx_lang.specs.ProgramView.{contract_of, extras_of, judgement_of, judgement_rule_of, judgement_rules_of};
 ghost use Rattle.rdx_lang.specs.TemplateView.{template_of};
+ghost use Rattle.rdx_lang.specs.WellFormed.{is_well_formed_in};
 ghost use Rattle.rdx_patterns.specs.Parts.{text_of};
-ghost use Rattle.rdx_parts.specs.Arguments.{templates_in};
+ghost use Rattle.rdx_parts.specs.Arguments.{patterns_in, templates_in};
 ghost use Rattle.rdx_parts.specs.ByNames as by_names;
 ghost use Rattle.rdx_parts.specs.ExtraForms.{of_rule};
-ghost use Rattle.rdx_parts.specs.ExtraReading.{items_reading, templates_reading};
+ghost use Rattle.rdx_parts.specs.ExtraReading.{templates_reading};
 ghost use Rattle.rdx_defs.specs.Inside.FormOutlines as inside;
-ghost use Rattle.rdx_defs.specs.Inside.Contracts.{IsJudgementContract};
+ghost use Rattle.rdx_defs.specs.Inside.Contracts.{IsJudgementContract, IsJudgementContractIn};
 ghost use Rattle.rdx_defs.specs.Inside.FormViews.{judgement_form_of, rule_form_of};
 ghost use Rattle.rdx_parts.specs.PartViews.{arguments_of, headed_of, rule_branch_of};
 ghost use Rattle.rdx_parts.specs.PartsHave.{RuleHas, RulesHave, can_bind, can_read};
 ghost use Rattle.rdx_defs.specs.JudgementForms as forms;
 ghost use Rattle.rdx_defs.specs.JudgementReading as model;
-ghost use Rattle.rdx_defs.specs.MetafunctionReading.{closed_items};
 ghost use Rattle.rdx_templates.specs.Scope.{scope_of};
 ghost use Rattle.rdx_parts.specs.StandChecks as checks;
 
 use crate::judgements::forms::{
     JudgementForm, RuleForm, contract_form, judgement_in, own_rule, rule_branch,
 };
-use rdx_lang::{CheckedLang, CheckedPat, Extra, Item, JRule, Judgement, Pat, Template};
-use rdx_parts::arguments::Headed;
+use crate::metafunctions::readings::closed_items;
+use rdx_lang::{CheckedLang, CheckedPat, Extra, JRule, Judgement, Pat, Template};
+use rdx_parts::arguments::{Arguments, Headed, in_conclusion, in_premise};
 use rdx_parts::branches::RuleBranch;
 use rdx_parts::extras::ExtraPlace;
 use rdx_parts::stands::checks::label;
 use rdx_parts::stands::names::{input_names, rule_names};
-use rdx_parts::stands::readings::{read_extras, read_patterns, read_templates};
-use rdx_patterns::{Names, Position, readings, symbol_name};
+use rdx_parts::stands::readings::{read_extras, read_items, read_patterns, read_templates};
+use rdx_patterns::{Names, symbol_name};
 use rdx_sexp::Datum;
 use rdx_templates::Scope;
 use rdx_term::{Name, NoMemory};
@@ -210,37 +210,65 @@ fn read_named_rules(
     Ok((rules, symbol_name(name)?, symbol_name(form.language)?))
 }
 
-// An item for each of these patterns, each closed.
-fn closed_patterns(alloc: Global, names: &Names, patterns: &[Datum]) -> Result<Vec<Item>, NoMemory>
-    ensures { IfOk result (λ items.
-        items_of (map slot_of items.items) ≡ closed_items (items_reading names.now patterns.now)) }
+// The pattern of lists by the patterns among arguments, each closed.
+fn closed_list(
+    alloc: Global,
+    language: &CheckedLang,
+    names: &Names,
+    arguments: Arguments<'_, '_>,
+) -> Result<CheckedPat, NoMemory>
+    requires { IsTrue (is_well_formed_in (language_in language.now)
+        (model.closed_list names.now (patterns_in (arguments_of arguments)))) }
+    ensures { IfOk result (λ c.
+        pattern_in c ≡ model.closed_list names.now (patterns_in (arguments_of arguments.entry))) }
 {
-    let mut items = Vec::new(alloc);
-    for d in patterns {
-        let pattern = readings::read_datum(alloc, names, Position::Query, d)?;
-        items.push(Item::One(Pat::Closed(Box::new(alloc, pattern)?)))?;
-    }
-    Ok(items)
+    let items = closed_items(alloc, read_items(alloc, names, arguments)?)?;
+    Ok(CheckedPat::known(language, Pat::Seq(items)))
 }
 
-// The pattern of a contract, where there is one.
+// The patterns of a contract by the mode of its form: of the list of inputs, and of that of
+// outputs.
 fn read_contract(
     alloc: Global,
     language: &CheckedLang,
     names: &Names,
+    mode: &[bool],
+    contract: Headed<'_>,
+) -> Result<(CheckedPat, CheckedPat), NoMemory>
+    requires { IsJudgementContract (language_in language.now) names.now (Some mode.now)
+        (headed_of contract) }
+    ensures { IfOk result (λ c.
+        contract_of c
+        ≡ model.contract_reading names.now (Some mode.now) (headed_of contract.entry)) }
+{
+    let by = Some(mode);
+    let inputs = in_conclusion(by, contract.arguments);
+    let outputs = in_premise(by, contract.arguments);
+    Ok((
+        closed_list(alloc, language, names, inputs)?,
+        closed_list(alloc, language, names, outputs)?,
+    ))
+}
+
+// The same, where there is a contract.
+fn read_any_contract(
+    alloc: Global,
+    language: &CheckedLang,
+    names: &Names,
+    mode: &[bool],
     contract: Option<Headed<'_>>,
-) -> Result<Option<CheckedPat>, NoMemory>
-    requires { IsJudgementContract (language_in language.now) names.now
+) -> Result<Option<(CheckedPat, CheckedPat)>, NoMemory>
+    requires { IsJudgementContractIn (language_in language.now) names.now (Some mode.now)
         (option_map headed_of contract) }
     ensures { IfOk result (λ read.
-        option_map pattern_in read
-        ≡ option_map (model.contract_reading names.now) (option_map headed_of contract.entry)) }
+        option_map contract_of read
+        ≡ option_map (model.contract_reading names.now (Some mode.now))
+        (option_map headed_of contract.entry)) }
 {
-    let Some(contract) = contract else {
-        return Ok(None);
-    };
-    let pattern = Pat::Seq(closed_patterns(alloc, names, contract.arguments)?);
-    Ok(Some(CheckedPat::known(language, pattern)))
+    match contract {
+        Some(contract) => Ok(Some(read_contract(alloc, language, names, mode, contract)?)),
+        None => Ok(None),
+    }
 }
 
 /// The judgement of this name and this mode that a form with these parts stands for.
@@ -256,8 +284,8 @@ pub(crate) fn read_parts(
     requires rules { RulesHave (scope_of scope.now)
         (can_read (scope_of scope.now) (language_in language.now) names.now)
         (inside.judgement_outline (judgement_form_of form)).rules }
-    requires contract { IsJudgementContract (language_in language.now) names.now
-        (forms.contract_form (judgement_form_of form)) }
+    requires contract { IsJudgementContractIn (language_in language.now) names.now
+        (forms.own_mode (judgement_form_of form)) (forms.contract_form (judgement_form_of form)) }
     requires language { IsTrue (is_name (text_of form.language.now)) }
     requires name { IsTrue (is_name (text_of name.now)) }
     requires named { forms.judgement_in (judgement_form_of form) ≡ Some name.now }
@@ -267,7 +295,7 @@ pub(crate) fn read_parts(
         ≡ model.judgement_reading (scope_of scope.now) names.now
         (judgement_form_of form.entry)) }
 {
-    let contract = read_contract(alloc, language, names, contract_form(form))?;
+    let contract = read_any_contract(alloc, language, names, &mode, contract_form(form))?;
     let (rules, name, language) = read_named_rules(
         alloc, scope, language, names, form, name, &mode,
     )?;

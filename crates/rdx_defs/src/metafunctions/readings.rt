@@ -78,8 +78,8 @@ fn closed_item(alloc: Global, item: Item) -> Result<Item, NoMemory>
     }
 }
 
-// The same items with each pattern closed.
-fn closed_items(alloc: Global, mut items: Vec<Item>) -> Result<Vec<Item>, NoMemory>
+/// The same items with each pattern closed.
+pub(crate) fn closed_items(alloc: Global, mut items: Vec<Item>) -> Result<Vec<Item>, NoMemory>
     ensures { IfOk result (λ closed.
         items_of (map slot_of closed.items)
         ≡ model.closed_items (items_of (map slot_of items.items))) }

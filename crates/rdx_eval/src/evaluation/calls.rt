@@ -5,6 +5,7 @@ ghost use Rattle.rdx_lang.specs.Checked.{language_in};
 ghost use Rattle.rdx_lang.specs.ProgramView.{clauses_of, judgement_rules_of};
 ghost use Rattle.rdx_lang.specs.Shown.{bindings_of};
 ghost use Rattle.rdx_lang.specs.TemplateView.{template_of};
+ghost use Rattle.rdx_eval.specs.Inside.Asked.{pattern_found};
 ghost use Rattle.rdx_eval.specs.Inside.Memos.{IsMemoIn};
 ghost use Rattle.rdx_eval.specs.Inside.Scopes.{calls_in};
 ghost use Rattle.rdx_eval.specs.Inside.Stops.{Tells};
@@ -12,6 +13,8 @@ ghost use Rattle.rdx_eval.specs.Judgements.{OutputLists, Rules};
 ghost use Rattle.rdx_eval.specs.Metafunctions.{Clauses, Results};
 ghost use Rattle.rdx_eval.specs.Views.{terms_in};
 
+use crate::Side;
+use crate::asking::{ask, in_pattern, out_pattern};
 use crate::evaluation::extras::survivors;
 use crate::evaluation::{make, make_list};
 use crate::frames::Next;
@@ -22,7 +25,7 @@ use crate::scope::{Scope, Setting};
 use crate::stop::Stop;
 use crate::stopping::{spent, undefined};
 use crate::values::{ascending, one_of};
-use rdx_lang::{Binding, CheckedLang, Clause, JRule, Matcher, Template};
+use rdx_lang::{Binding, CheckedLang, CheckedPat, Clause, JRule, Matcher, Template};
 use rdx_term::{Name, Term};
 
 /// The value of the metafunction of this name for the list of arguments: as it is kept, or anew.
@@ -50,7 +53,8 @@ pub(crate) fn call<M: Matcher, H: Host>(
     Ok(t)
 }
 
-// The value of the metafunction of this name for the list of arguments.
+// The value of the metafunction of this name for the list of arguments, which match its contract,
+// where it has one.
 #[cycle(evaluation)]
 #[inline(never)]
 fn value<M: Matcher, H: Host>(
@@ -78,8 +82,10 @@ fn value<M: Matcher, H: Host>(
     else {
         return Err(undefined(setting.alloc, f, args)?);
     };
+    let ins = in_pattern(&metafunction.contract);
+    ask(setting.alloc, matcher, language, ins, f, Side::In, args)?;
     let clauses = metafunction.clauses.as_slice();
-    by_clauses(
+    let t = by_clauses(
         setting,
         matcher,
         memo,
@@ -88,7 +94,10 @@ fn value<M: Matcher, H: Host>(
         clauses,
         f,
         args,
-    )
+    )?;
+    let outs = out_pattern(&metafunction.contract);
+    ask(setting.alloc, matcher, language, outs, f, Side::Out, &t)?;
+    Ok(t)
 }
 
 // What the clauses of a metafunction make of the arguments: the first that takes them decides.
@@ -210,11 +219,16 @@ fn outputs<M: Matcher, H: Host>(
     else {
         return Ok(Vec::new(setting.alloc));
     };
+    let asked = in_pattern(&judgement.contract);
+    ask(setting.alloc, matcher, language, asked, j, Side::In, ins)?;
+    let outs = out_pattern(&judgement.contract);
     let rules = judgement.rules.as_slice();
-    by_rules(setting, matcher, memo, height - 1, language, rules, ins)
+    let left = height - 1;
+    by_rules(setting, matcher, memo, left, language, outs, rules, j, ins)
 }
 
-// The lists of outputs that the rules of a judgement make of the inputs, ascending and each once.
+// The lists of outputs that the rules of a judgement make of the inputs, ascending and each once;
+// each has to match the pattern, where there is one.
 #[cycle(evaluation)]
 #[inline(never)]
 fn by_rules<M: Matcher, H: Host>(
@@ -223,12 +237,14 @@ fn by_rules<M: Matcher, H: Host>(
     memo: &mut Memo,
     height: usize,
     language: &CheckedLang,
+    asked: Option<&CheckedPat>,
     rules: &[JRule],
+    j: &Name,
     ins: &Term,
 ) -> Result<Vec<Term>, Stop>
     requires kept { IsMemoIn setting.now memo.old }
     ensures answer { Tells terms_in (Rules (language_in language.now) (calls_in setting.now height)
-        (tree_of ins.now) (judgement_rules_of rules.now)) result }
+        j.now (pattern_found asked.entry) (tree_of ins.now) (judgement_rules_of rules.now)) result }
     ensures kept { IsMemoIn setting.now memo.new }
 {
     let mut found = Vec::new(setting.alloc);
@@ -243,13 +259,16 @@ fn by_rules<M: Matcher, H: Host>(
             &rule.extras,
             ins,
         )?;
-        let mut more = output_lists(setting, matcher, memo, height, &rule.outs, &bs)?;
+        let mut more = output_lists(
+            setting, matcher, memo, height, language, asked, j, &rule.outs, &bs,
+        )?;
         found.append(&mut more)?;
     }
     Ok(ascending(setting.alloc, found)?)
 }
 
-// The lists that the outputs of a rule make of all these bindings, in their order.
+// The lists that the outputs of a rule make of all these bindings, in their order; each has to match
+// the pattern, where there is one.
 #[cycle(evaluation)]
 #[inline(never)]
 fn output_lists<'x, 'n, M: Matcher, H: Host>(
@@ -257,11 +276,15 @@ fn output_lists<'x, 'n, M: Matcher, H: Host>(
     matcher: &mut M,
     memo: &mut Memo,
     height: usize,
+    language: &CheckedLang,
+    asked: Option<&CheckedPat>,
+    j: &Name,
     templates: &[Template],
     bs: &'x [Binding],
 ) -> Result<Vec<Term>, Stop>
     requires kept { IsMemoIn setting.now memo.old }
-    ensures answer { Tells terms_in (OutputLists (calls_in setting.now height)
+    ensures answer { Tells terms_in (OutputLists (language_in language.now)
+        (calls_in setting.now height) j.now (pattern_found asked.entry)
         (map template_of templates.now) (bindings_of bs.now)) result }
     ensures kept { IsMemoIn setting.now memo.new }
 {
@@ -273,6 +296,7 @@ fn output_lists<'x, 'n, M: Matcher, H: Host>(
             b: binding,
         };
         let t = make_list(&scope, matcher, memo, templates)?;
+        ask(setting.alloc, matcher, language, asked, j, Side::Out, &t)?;
         found.push(t)?;
     }
     Ok(found)

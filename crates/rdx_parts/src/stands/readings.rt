@@ -82,8 +82,8 @@ fn add_item(
     Ok(())
 }
 
-// The items for the patterns among arguments.
-fn read_items(
+/// The items for the patterns among arguments.
+pub fn read_items(
     alloc: Global,
     names: &Names,
     arguments: Arguments<'_, '_>,

@@ -1,4 +1,4 @@
-use Rattle.rdx_defs.proofs.FormExamples.{ahead_means, behind_means, sees_no_output, confirms_term, conclusion_refused, no_mode_refused, unknown_refused, judgement_head, judgement_language, judgement_shape}
+use Rattle.rdx_defs.proofs.FormExamples.{ahead_means, behind_means, sees_no_output, confirms_term, divides_contract, conclusion_refused, no_mode_refused, unknown_refused, judgement_head, judgement_language, judgement_shape}
 use Rattle.rdx_defs.proofs.laws.worked_judgements.Goals as goal
 
 pub returns-clause-ahead : goal.returns-clause-ahead
@@ -12,6 +12,9 @@ returns-clause-own_output c = sees_no_output
 
 pub returns-clause-side_condition : goal.returns-clause-side_condition
 returns-clause-side_condition c = confirms_term
+
+pub returns-clause-contract : goal.returns-clause-contract
+returns-clause-contract c = divides_contract
 
 pub returns-clause-conclusion : goal.returns-clause-conclusion
 returns-clause-conclusion c = conclusion_refused

@@ -18,6 +18,15 @@ calls::value-returns-in_default-clause-answer = calls.value-returns-in_default-c
 pub calls::value-returns-in_default-language_named-clause-answer : goal.calls::value-returns-in_default-language_named-clause-answer
 calls::value-returns-in_default-language_named-clause-answer = calls.value-returns-in_default-language_named-clause-answer
 
+pub calls::value-returns-in_err-ask-clause-answer : goal.calls::value-returns-in_err-ask-clause-answer
+calls::value-returns-in_err-ask-clause-answer = calls.value-returns-in_err-ask-clause-answer
+
+pub calls::value-returns-in_err-t-clause-answer : goal.calls::value-returns-in_err-t-clause-answer
+calls::value-returns-in_err-t-clause-answer = calls.value-returns-in_err-t-clause-answer
+
+pub calls::value-returns-in_err-ask-2-clause-answer : goal.calls::value-returns-in_err-ask-2-clause-answer
+calls::value-returns-in_err-ask-2-clause-answer = calls.value-returns-in_err-ask-2-clause-answer
+
 pub calls::value-returns-clause-answer : goal.calls::value-returns-clause-answer
 calls::value-returns-clause-answer = calls.value-returns-clause-answer
 
@@ -51,6 +60,9 @@ calls::outputs-returns-in_default-clause-answer = calls.outputs-returns-in_defau
 pub calls::outputs-returns-in_default-language_named-clause-answer : goal.calls::outputs-returns-in_default-language_named-clause-answer
 calls::outputs-returns-in_default-language_named-clause-answer = calls.outputs-returns-in_default-language_named-clause-answer
 
+pub calls::outputs-returns-in_err-ask-clause-answer : goal.calls::outputs-returns-in_err-ask-clause-answer
+calls::outputs-returns-in_err-ask-clause-answer = calls.outputs-returns-in_err-ask-clause-answer
+
 pub calls::outputs-returns-clause-answer : goal.calls::outputs-returns-clause-answer
 calls::outputs-returns-clause-answer = calls.outputs-returns-clause-answer
 
@@ -68,6 +80,9 @@ calls::by_rules-returns-clause-answer = calls.by_rules-returns-clause-answer
 
 pub calls::output_lists-returns-in_err-t-clause-answer : goal.calls::output_lists-returns-in_err-t-clause-answer
 calls::output_lists-returns-in_err-t-clause-answer = calls.output_lists-returns-in_err-t-clause-answer
+
+pub calls::output_lists-returns-in_err-ask-clause-answer : goal.calls::output_lists-returns-in_err-ask-clause-answer
+calls::output_lists-returns-in_err-ask-clause-answer = calls.output_lists-returns-in_err-ask-clause-answer
 
 pub calls::output_lists-loop-binding-preserved : goal.calls::output_lists-loop-binding-preserved
 calls::output_lists-loop-binding-preserved = calls.output_lists-loop-binding-preserved

@@ -8,13 +8,14 @@ use Rattle.rdx_lang.specs.TemplateView.{host_of, template_of}
 use Rattle.rdx_eval.specs.Answers.{Single}
 use Rattle.rdx_eval.specs.Extending.{ByPremise}
 use Rattle.rdx_eval.specs.Fresh.{avoiding}
+use Rattle.rdx_eval.specs.Inside.Asked.{pattern_found}
 use Rattle.rdx_eval.specs.Inside.Extras.{WhereOne, SideOne}
 use Rattle.rdx_eval.specs.Inside.Frames.{Gives, IsPending}
 use Rattle.rdx_eval.specs.Inside.Memos.{IsMemoIn}
 use Rattle.rdx_eval.specs.Inside.Scopes.{calls_in, calls_here, bound_here}
 use Rattle.rdx_eval.specs.Inside.Weights.{frames_weight, next_weight}
-use Rattle.rdx_eval.specs.Instantiation.{Inst, Makes, MakeList}
-use Rattle.rdx_eval.specs.Judgements.{RuleOutputs}
+use Rattle.rdx_eval.specs.Instantiation.{Inst, Makes}
+use Rattle.rdx_eval.specs.Judgements.{OutputList, RuleOutputs}
 use Rattle.rdx_eval.specs.Views.{terms_in, bindings_in}
 use Rattle.rdx_lang.specs.Bindings.{Binding}
 use Rattle.rdx_eval.proofs.ExtraAfterExtra.{Extends}
@@ -95,14 +96,14 @@ invariant-calls::result_of-loop-b g l = record {
 
 abbrev pub invariant-calls::by_rules-loop-rule : goal.invariant-calls::by_rules-loop-rule
 invariant-calls::by_rules-loop-rule g l = record {
-  answer : Gathers (RuleOutputs (language_in l.language) (calls_in l.setting l.height) (tree_of l.ins))
+  answer : Gathers (RuleOutputs (language_in l.language) (calls_in l.setting l.height) l.j (pattern_found l.asked) (tree_of l.ins))
       (judgement_rules_of l.rules) (judgement_rules_of (drop l.rule-index l.rules)) (terms_in l.found);
   kept : IsMemoIn l.setting l.memo;
 }
 
 abbrev pub invariant-calls::output_lists-loop-binding : goal.invariant-calls::output_lists-loop-binding
 invariant-calls::output_lists-loop-binding g l = record {
-  answer : Gathers (λ (b : Binding). Single (MakeList (calls_in l.setting l.height) b (map template_of l.templates)))
+  answer : Gathers (λ (b : Binding). Single (OutputList (language_in l.language) (calls_in l.setting l.height) l.j (pattern_found l.asked) (map template_of l.templates) b))
       (bindings_of l.bs) (bindings_of (drop l.binding-index l.bs)) (terms_in l.found);
   kept : IsMemoIn l.setting l.memo;
 }

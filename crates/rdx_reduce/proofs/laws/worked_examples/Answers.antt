@@ -1,4 +1,4 @@
-use Rattle.rdx_reduce.proofs.Examples.{one_step, step_by_each, once_for_two, fault_alone, rules_in_order, marks_count, first_fault, condition_holds, condition_fails, where_fails}
+use Rattle.rdx_reduce.proofs.Examples.{one_step, step_by_each, once_for_two, fault_alone, rules_in_order, marks_count, first_fault, condition_holds, condition_fails, where_fails, term_outside, reduct_outside, both_inside}
 use Rattle.rdx_reduce.proofs.laws.worked_examples.Goals as goal
 
 pub returns-clause-one_step : goal.returns-clause-one_step
@@ -30,3 +30,12 @@ returns-clause-condition_fails c = condition_fails
 
 pub returns-clause-where_fails : goal.returns-clause-where_fails
 returns-clause-where_fails c = where_fails
+
+pub returns-clause-term_outside : goal.returns-clause-term_outside
+returns-clause-term_outside c = term_outside
+
+pub returns-clause-reduct_outside : goal.returns-clause-reduct_outside
+returns-clause-reduct_outside c = reduct_outside
+
+pub returns-clause-both_inside : goal.returns-clause-both_inside
+returns-clause-both_inside c = both_inside

@@ -11,7 +11,7 @@ use Rattle.rdx_patterns.specs.Nonterminals.{names_of}
 use Rattle.rdx_patterns.specs.Refusal.{refusal_of}
 use Rattle.rdx_patterns.specs.Readable.{IsReadable}
 use Rattle.rdx_defs.specs.Inside.FormOutlines.{judgement_outline}
-use Rattle.rdx_defs.specs.Inside.Contracts.{IsJudgementContract}
+use Rattle.rdx_defs.specs.Inside.Contracts.{IsJudgementContractIn}
 use Rattle.rdx_defs.specs.Inside.FormViews.{judgement_form_of}
 use Rattle.rdx_parts.specs.PartsHave.{RulesHave, can_read, IsReadableTaken}
 use Rattle.rdx_defs.specs.JudgementForms.{judgement_form, judgement_in, contract_form, own_mode}
@@ -87,8 +87,8 @@ read_parts-requires-clause-contract c =
     (λ i. judgement_refusal S (sym n i) d) ∙ sym c.in_ok-refusal.ensures ∙ ap (option_map refusal_of) c.in_default-2.is in
     let v = judgement-valid S L d f c.requires.readable g (judgement-none S (names_of L) d f g e).1 in
     let w : language_in c.add_asked.new.language ≡ gained L d = c.in_ok-add_asked.ensures.added in
-    subst (λ (xs : List (List ℕ)). IsJudgementContract (language_in c.add_asked.new.language) xs (contract_form f)) (sym n)
-    (subst (λ (M : Language). IsJudgementContract M (names_of L) (contract_form f)) (sym w) v.contract)
+    subst (λ (xs : List (List ℕ)). IsJudgementContractIn (language_in c.add_asked.new.language) xs (own_mode f) (contract_form f)) (sym n)
+    (subst (λ (M : Language). IsJudgementContractIn M (names_of L) (own_mode f) (contract_form f)) (sym w) v.contract)
 
 pub read_parts-requires-clause-language : goal.read_parts-requires-clause-language
 read_parts-requires-clause-language c =

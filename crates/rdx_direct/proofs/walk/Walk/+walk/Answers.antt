@@ -28,6 +28,7 @@ use Rattle.rdx_lang.proofs.ItemsAhead.{ahead-one}
 use Rattle.rdx_bind.proofs.PartListings.{no_bindings}
 use Rattle.rdx_bind.specs.Namings.{naming_of}
 use Rattle.rdx_direct.proofs.GoingLaws.{fits_false, is_zero, rest_done, rest_more}
+use Rattle.rdx_direct.proofs.PlainLaws.{fits_under}
 use Rattle.rdx_direct.proofs.ItemLaws.{fits_short, fits_not, fits_next, fits_end, still_short, still_next, still_nothing, still_done, goes_list, list_fits}
 use Rattle.rdx_direct.specs.Inside.Going.{Alone, Fits, Goes}
 use Rattle.rdx_direct.proofs.walk.Walk.+walk.Goals as goal
@@ -59,6 +60,16 @@ go_named-returns t c =
 
 pub some-returns : goal.some-returns
 some-returns t c =
+    let xs = c.in_ok-found.found.items in
+    let z : length xs ≡ vec_len c.in_ok-found.found = grind (arith, common_steps) in
+    let f : IsTrue c.is_empty.result ↔ (length xs ≡ 0) = is_zero c.is_empty.result (length xs) (c.is_empty.ensures ∙ ap (λ n. nat_eq n 0) (sym z)) in
+    fits_found (bindings_of c.in_ok-given.given.items) xs c.is_empty.result c.in_ok-given.ensures f c.in_ok-found.ensures
+
+pub fits_named-returns-then-is_plain : goal.fits_named-returns-then-is_plain
+fits_named-returns-then-is_plain t c = IfOk-weaker c.fits.result _ _ (λ v f. fits_under (naming_of c.args.name) v (c.if-is_plain.ensures refl) f) c.fits.ensures
+
+pub fits_named-returns : goal.fits_named-returns
+fits_named-returns t c =
     let xs = c.in_ok-found.found.items in
     let z : length xs ≡ vec_len c.in_ok-found.found = grind (arith, common_steps) in
     let f : IsTrue c.is_empty.result ↔ (length xs ≡ 0) = is_zero c.is_empty.result (length xs) (c.is_empty.ensures ∙ ap (λ n. nat_eq n 0) (sym z)) in

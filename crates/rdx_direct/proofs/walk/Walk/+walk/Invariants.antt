@@ -209,6 +209,9 @@ invariant-go_named_reached-loop-path l =
 abbrev pub decreases-fits_inside : goal.decreases-fits_inside
 decreases-fits_inside l = 16 * l.room.left
 
+abbrev pub decreases-fits_named : goal.decreases-fits_named
+decreases-fits_named l = 16 * l.room.left + 2
+
 abbrev pub decreases-fits_plain : goal.decreases-fits_plain
 decreases-fits_plain l = 16 * l.room.left + 5
 

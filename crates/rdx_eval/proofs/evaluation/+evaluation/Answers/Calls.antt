@@ -6,7 +6,7 @@ use Rattle.rdx_term.specs.View.{tree_of}
 use Rattle.rdx_term.specs.declared.term.Term as code_term
 use Rattle.rdx_lang.specs.Bindings.{Binding}
 use Rattle.rdx_lang.specs.Checked.{language_in, pattern_in}
-use Rattle.rdx_lang.specs.Patterns.{Language}
+use Rattle.rdx_lang.specs.Patterns.{Pattern, Language}
 use Rattle.rdx_lang.specs.ProgramView.{clause_of, clauses_of, extras_of, judgement_of, judgement_rule_of, judgement_rules_of, metafunction_of, program_of}
 use Rattle.rdx_lang.specs.Programs.{JudgementRule, Program}
 use Rattle.rdx_lang.specs.Shown.{binding_of, bindings_of}
@@ -18,18 +18,22 @@ use Rattle.rdx_lang.specs.declared.program.Extra as code_extra
 use Rattle.rdx_lang.specs.declared.program.JRule as code_rule
 use Rattle.rdx_lang.specs.declared.template.Template as code_template
 use Rattle.rdx_lang.proofs.Rest.{rest_at, rest_none}
-use Rattle.rdx_eval.specs.Answers.{Answer, value, fault, spent, undefined, stops, goes, Single, lists}
+use Rattle.rdx_eval.specs.Answers.{Answer, value, fault, not_contract, spent, undefined, stops, goes, Single, lists}
+use Rattle.rdx_eval.specs.Asking.{AskedIf}
 use Rattle.rdx_eval.specs.Calls.{Calls}
 use Rattle.rdx_eval.specs.Extending.{Survivors}
 use Rattle.rdx_eval.specs.Languages.{language_found}
+use Rattle.rdx_eval.specs.Inside.Asked.{Passes, passed, pattern_found}
 use Rattle.rdx_eval.specs.Inside.Judgements.{judgement_found}
 use Rattle.rdx_eval.specs.Inside.Metafunctions.{metafunction_found}
 use Rattle.rdx_eval.specs.Inside.Scopes.{calls_in}
 use Rattle.rdx_eval.specs.Instantiation.{Makes, MakeList}
-use Rattle.rdx_eval.specs.Judgements.{OutputLists, RuleOutputs, Rules, RulesOver}
-use Rattle.rdx_eval.specs.Metafunctions.{Clauses, ClausesOver, Results, OneOf}
+use Rattle.rdx_eval.specs.Judgements.{ContractedRules, OutputList, OutputLists, RuleOutputs, Rules, RulesOver}
+use Rattle.rdx_eval.specs.Metafunctions.{Clauses, ClausesOver, Contracted, Results, OneOf}
 use Rattle.rdx_eval.specs.Views.{terms_in, bindings_in}
+use Rattle.rdx_eval.specs.declared.fault.Side.TheVariants as sides
 use Rattle.rdx_eval.proofs.Calling.{at-none, at-some, outputs-no_judgement, outputs-none, outputs-over, outputs-some, value-no_metafunction, value-over}
+use Rattle.rdx_eval.proofs.ContractLaws.{contracted-in, contracted-fault, contracted-out, contracted-value, rules-in, rules-allowed, output-refused, output-allowed}
 use Rattle.rdx_eval.proofs.Gathered.{gathers-next, gathers-fault, gathers-end}
 use Rattle.rdx_eval.proofs.GoingOn.{tries-fault, tries-taken, tries-next}
 use Rattle.rdx_eval.proofs.HandedOn.{stops_for, handed_on, error_handed_on}
@@ -72,8 +76,75 @@ value-returns-in_default-language_named-clause-answer g t c =
     (at-some P n (n - 1) f a _ (omega arith) refl
     (value-over P C f a (metafunction_found c.metafunction_named.result) c.metafunction_named.ensures M d
     (language_found c.language_named.result) c.language_named.ensures _
-    (subst (λ (o : Option Language). ClausesOver o C f a M.clauses (fault (undefined f a)))
+    (subst (λ (o : Option Language). ClausesOver o C M.contract f a M.clauses (fault (undefined f a)))
     (sym (ap language_found c.in_default-language_named.is)) refl)))
+
+pub value-returns-in_err-ask-clause-answer : goal.calls::value-returns-in_err-ask-clause-answer
+value-returns-in_err-ask-clause-answer g t c =
+    let P : Program = program_of c.args.setting.now.program.now in
+    let n : ℕ = c.args.height in
+    let C : Calls = calls_in c.args.setting.now (n - 1) in
+    let f : List ℕ = c.args.f.now in
+    let a : Tree = tree_of c.args.args.now in
+    let M = metafunction_of c.in-Some.metafunction.now in
+    let d : metafunction_found c.metafunction_named.result ≡ Some M = ap metafunction_found c.in-Some.is in
+    let L : Language = language_in c.in-Some-language_named.language.now in
+    let o : Option Pattern = pattern_found c.in_pattern-ins.result in
+    let lift : (r : Answer Tree) → Contracted L C M.contract f a M.clauses r → (calls_in c.args.setting.now n).value_of f a r =
+    (λ r h. at-some P n (n - 1) f a r (omega arith) refl
+    (value-over P C f a (metafunction_found c.metafunction_named.result) c.metafunction_named.ensures M d
+    (language_found c.language_named.result) c.language_named.ensures r
+    (subst (λ (q : Option Language). ClausesOver q C M.contract f a M.clauses r) (sym (ap language_found c.in-Some-language_named.is)) h))) in
+    error_handed_on passed tree_of (AskedIf L o a (not_contract f sides.In a) Passes) ((calls_in c.args.setting.now n).value_of f a)
+    c.from_residual-in_err-ask.result _ c.from_residual-in_err-ask.ensures.1
+    (λ q h. lift (fault q) (contracted-in L C M.contract f a M.clauses o c.in_pattern-ins.ensures q h)) c.in_err-ask.ensures
+
+pub value-returns-in_err-t-clause-answer : goal.calls::value-returns-in_err-t-clause-answer
+value-returns-in_err-t-clause-answer g t c =
+    let P : Program = program_of c.args.setting.now.program.now in
+    let n : ℕ = c.args.height in
+    let C : Calls = calls_in c.args.setting.now (n - 1) in
+    let f : List ℕ = c.args.f.now in
+    let a : Tree = tree_of c.args.args.now in
+    let M = metafunction_of c.in-Some.metafunction.now in
+    let d : metafunction_found c.metafunction_named.result ≡ Some M = ap metafunction_found c.in-Some.is in
+    let L : Language = language_in c.in-Some-language_named.language.now in
+    let o : Option Pattern = pattern_found c.in_pattern-ins.result in
+    let lift : (r : Answer Tree) → Contracted L C M.contract f a M.clauses r → (calls_in c.args.setting.now n).value_of f a r =
+    (λ r h. at-some P n (n - 1) f a r (omega arith) refl
+    (value-over P C f a (metafunction_found c.metafunction_named.result) c.metafunction_named.ensures M d
+    (language_found c.language_named.result) c.language_named.ensures r
+    (subst (λ (q : Option Language). ClausesOver q C M.contract f a M.clauses r) (sym (ap language_found c.in-Some-language_named.is)) h))) in
+    error_handed_on tree_of tree_of (Clauses L C f a (clauses_of c.as_slice-clauses.result.now)) ((calls_in c.args.setting.now n).value_of f a)
+    c.from_residual-in_err-t.result _ c.from_residual-in_err-t.ensures.1
+    (λ q h. lift (fault q) (contracted-fault L C M.contract f a M.clauses o c.in_pattern-ins.ensures c.in_ok-ask.ensures q
+    (subst (λ (cs : List code_clause.Clause). Clauses L C f a (clauses_of cs) (fault q)) c.as_slice-clauses.ensures.value h)))
+    c.in_err-t.ensures.answer
+
+pub value-returns-in_err-ask-2-clause-answer : goal.calls::value-returns-in_err-ask-2-clause-answer
+value-returns-in_err-ask-2-clause-answer g t c =
+    let P : Program = program_of c.args.setting.now.program.now in
+    let n : ℕ = c.args.height in
+    let C : Calls = calls_in c.args.setting.now (n - 1) in
+    let f : List ℕ = c.args.f.now in
+    let a : Tree = tree_of c.args.args.now in
+    let M = metafunction_of c.in-Some.metafunction.now in
+    let d : metafunction_found c.metafunction_named.result ≡ Some M = ap metafunction_found c.in-Some.is in
+    let L : Language = language_in c.in-Some-language_named.language.now in
+    let o : Option Pattern = pattern_found c.in_pattern-ins.result in
+    let lift : (r : Answer Tree) → Contracted L C M.contract f a M.clauses r → (calls_in c.args.setting.now n).value_of f a r =
+    (λ r h. at-some P n (n - 1) f a r (omega arith) refl
+    (value-over P C f a (metafunction_found c.metafunction_named.result) c.metafunction_named.ensures M d
+    (language_found c.language_named.result) c.language_named.ensures r
+    (subst (λ (q : Option Language). ClausesOver q C M.contract f a M.clauses r) (sym (ap language_found c.in-Some-language_named.is)) h))) in
+    let p : Option Pattern = pattern_found c.out_pattern-outs.result in
+    let v : Tree = tree_of c.in_ok-t.t in
+    let k : Clauses L C f a M.clauses (value v) =
+    subst (λ (cs : List code_clause.Clause). Clauses L C f a (clauses_of cs) (value v)) c.as_slice-clauses.ensures.value c.in_ok-t.ensures.answer in
+    error_handed_on passed tree_of (AskedIf L p v (not_contract f sides.Out v) Passes) ((calls_in c.args.setting.now n).value_of f a)
+    c.from_residual-in_err-ask-2.result _ c.from_residual-in_err-ask-2.ensures.1
+    (λ q h. lift (fault q) (contracted-out L C M.contract f a M.clauses o c.in_pattern-ins.ensures c.in_ok-ask.ensures v k p c.out_pattern-outs.ensures q h))
+    c.in_err-ask-2.ensures
 
 pub value-returns-clause-answer : goal.calls::value-returns-clause-answer
 value-returns-clause-answer g t c =
@@ -85,13 +156,18 @@ value-returns-clause-answer g t c =
     let M = metafunction_of c.in-Some.metafunction.now in
     let d : metafunction_found c.metafunction_named.result ≡ Some M = ap metafunction_found c.in-Some.is in
     let L : Language = language_in c.in-Some-language_named.language.now in
-    handed_on tree_of (Clauses L C f a (clauses_of c.as_slice-clauses.result.now)) ((calls_in c.args.setting.now n).value_of f a) c.by_clauses.result
+    let o : Option Pattern = pattern_found c.in_pattern-ins.result in
+    let lift : (r : Answer Tree) → Contracted L C M.contract f a M.clauses r → (calls_in c.args.setting.now n).value_of f a r =
     (λ r h. at-some P n (n - 1) f a r (omega arith) refl
     (value-over P C f a (metafunction_found c.metafunction_named.result) c.metafunction_named.ensures M d
     (language_found c.language_named.result) c.language_named.ensures r
-    (subst (λ (o : Option Language). ClausesOver o C f a M.clauses r) (sym (ap language_found c.in-Some-language_named.is))
-    (subst (λ (cs : List code_clause.Clause). Clauses L C f a (clauses_of cs) r) c.as_slice-clauses.ensures.value h))))
-    c.by_clauses.ensures.answer
+    (subst (λ (q : Option Language). ClausesOver q C M.contract f a M.clauses r) (sym (ap language_found c.in-Some-language_named.is)) h))) in
+    let p : Option Pattern = pattern_found c.out_pattern-outs.result in
+    let v : Tree = tree_of c.in_ok-t.t in
+    let k : Clauses L C f a M.clauses (value v) =
+    subst (λ (cs : List code_clause.Clause). Clauses L C f a (clauses_of cs) (value v)) c.as_slice-clauses.ensures.value c.in_ok-t.ensures.answer in
+    lift (value v)
+    (contracted-value L C M.contract f a M.clauses o c.in_pattern-ins.ensures c.in_ok-ask.ensures v k p c.out_pattern-outs.ensures c.in_ok-ask-2.ensures)
 
 -- ---- clauses
 
@@ -242,7 +318,27 @@ outputs-returns-in_default-language_named-clause-answer g t c =
     (outputs-some P n (n - 1) j a _ (omega arith) refl
     (outputs-over P C j a (judgement_found c.judgement_named.result) c.judgement_named.ensures J d
     (language_found c.language_named.result) c.language_named.ensures _
-    (subst (λ (o : Option Language). RulesOver o C a J.rules (value [])) (sym (ap language_found c.in_default-language_named.is)) refl)))
+    (subst (λ (o : Option Language). RulesOver o C J.contract j a J.rules (value [])) (sym (ap language_found c.in_default-language_named.is)) refl)))
+
+pub outputs-returns-in_err-ask-clause-answer : goal.calls::outputs-returns-in_err-ask-clause-answer
+outputs-returns-in_err-ask-clause-answer g t c =
+    let P : Program = program_of c.args.setting.now.program.now in
+    let n : ℕ = c.args.height in
+    let C : Calls = calls_in c.args.setting.now (n - 1) in
+    let j : List ℕ = c.args.j.now in
+    let a : Tree = tree_of c.args.ins.now in
+    let J = judgement_of c.in-Some.judgement.now in
+    let d : judgement_found c.judgement_named.result ≡ Some J = ap judgement_found c.in-Some.is in
+    let L : Language = language_in c.in-Some-language_named.language.now in
+    let o : Option Pattern = pattern_found c.in_pattern-asked.result in
+    let lift : (r : Answer (List Tree)) → ContractedRules L C J.contract j a J.rules r → (calls_in c.args.setting.now n).outputs_of j a r =
+    (λ r h. outputs-some P n (n - 1) j a r (omega arith) refl
+    (outputs-over P C j a (judgement_found c.judgement_named.result) c.judgement_named.ensures J d
+    (language_found c.language_named.result) c.language_named.ensures r
+    (subst (λ (q : Option Language). RulesOver q C J.contract j a J.rules r) (sym (ap language_found c.in-Some-language_named.is)) h))) in
+    error_handed_on passed terms_in (AskedIf L o a (not_contract j sides.In a) Passes) ((calls_in c.args.setting.now n).outputs_of j a)
+    c.from_residual-in_err-ask.result _ c.from_residual-in_err-ask.ensures.1
+    (λ q h. lift (fault q) (rules-in L C J.contract j a J.rules o c.in_pattern-asked.ensures q h)) c.in_err-ask.ensures
 
 pub outputs-returns-clause-answer : goal.calls::outputs-returns-clause-answer
 outputs-returns-clause-answer g t c =
@@ -254,13 +350,17 @@ outputs-returns-clause-answer g t c =
     let J = judgement_of c.in-Some.judgement.now in
     let d : judgement_found c.judgement_named.result ≡ Some J = ap judgement_found c.in-Some.is in
     let L : Language = language_in c.in-Some-language_named.language.now in
-    handed_on terms_in (Rules L C a (judgement_rules_of c.as_slice-rules.result.now)) ((calls_in c.args.setting.now n).outputs_of j a)
-    c.by_rules.result
+    let o : Option Pattern = pattern_found c.in_pattern-asked.result in
+    let lift : (r : Answer (List Tree)) → ContractedRules L C J.contract j a J.rules r → (calls_in c.args.setting.now n).outputs_of j a r =
     (λ r h. outputs-some P n (n - 1) j a r (omega arith) refl
     (outputs-over P C j a (judgement_found c.judgement_named.result) c.judgement_named.ensures J d
     (language_found c.language_named.result) c.language_named.ensures r
-    (subst (λ (o : Option Language). RulesOver o C a J.rules r) (sym (ap language_found c.in-Some-language_named.is))
-    (subst (λ (rs : List code_rule.JRule). Rules L C a (judgement_rules_of rs) r) c.as_slice-rules.ensures.value h))))
+    (subst (λ (q : Option Language). RulesOver q C J.contract j a J.rules r) (sym (ap language_found c.in-Some-language_named.is)) h))) in
+    let p : Option Pattern = pattern_found c.out_pattern-outs.result in
+    handed_on terms_in (Rules L C j p a (judgement_rules_of c.as_slice-rules.result.now)) ((calls_in c.args.setting.now n).outputs_of j a)
+    c.by_rules.result
+    (λ r h. lift r (rules-allowed L C J.contract j a J.rules o c.in_pattern-asked.ensures c.in_ok-ask.ensures p c.out_pattern-outs.ensures r
+    (subst (λ (rs : List code_rule.JRule). Rules L C j p a (judgement_rules_of rs) r) c.as_slice-rules.ensures.value h)))
     c.by_rules.ensures.answer
 
 -- ---- rules
@@ -269,14 +369,16 @@ pub by_rules-returns-in_err-bs-clause-answer : goal.calls::by_rules-returns-in_e
 by_rules-returns-in_err-bs-clause-answer g t c =
     let C : Calls = calls_in c.args.setting.now c.args.height in
     let L : Language = language_in c.args.language.now in
+    let j : List ℕ = c.args.j.now in
+    let o : Option Pattern = pattern_found c.args.asked in
     let a : Tree = tree_of c.args.ins.now in
-    let R : JudgementRule → Answer (List Tree) → Type 0 = RuleOutputs L C a in
+    let R : JudgementRule → Answer (List Tree) → Type 0 = RuleOutputs L C j o a in
     let xs = c.args.rules.now in
     let i : ℕ = c.loop-rule.rule-index in
     let x = c.rule-item.result in
     let e : judgement_rules_of (drop i xs) ≡ judgement_rule_of x ∷ judgement_rules_of (drop (i + 1) xs) =
     rest_at judgement_rule_of xs i x c.loop-rule-test.true c.rule-item.is in
-    error_handed_on bindings_in terms_in (Survivors L C a (pattern_in x.ins) (extras_of c.deref.result.now)) (Rules L C a (judgement_rules_of xs))
+    error_handed_on bindings_in terms_in (Survivors L C a (pattern_in x.ins) (extras_of c.deref.result.now)) (Rules L C j o a (judgement_rules_of xs))
     c.from_residual.result _ c.from_residual.ensures.1
     (λ f h. stops (gathers-fault R (judgement_rules_of xs) (judgement_rule_of x) _ _ (terms_in c.loop-rule.found) f e
     (stops (subst (λ (es : List code_extra.Extra). Survivors L C a (pattern_in x.ins) (extras_of es) (fault f)) c.deref.ensures.value h))
@@ -287,8 +389,10 @@ pub by_rules-returns-in_err-more-clause-answer : goal.calls::by_rules-returns-in
 by_rules-returns-in_err-more-clause-answer g t c =
     let C : Calls = calls_in c.args.setting.now c.args.height in
     let L : Language = language_in c.args.language.now in
+    let j : List ℕ = c.args.j.now in
+    let o : Option Pattern = pattern_found c.args.asked in
     let a : Tree = tree_of c.args.ins.now in
-    let R : JudgementRule → Answer (List Tree) → Type 0 = RuleOutputs L C a in
+    let R : JudgementRule → Answer (List Tree) → Type 0 = RuleOutputs L C j o a in
     let xs = c.args.rules.now in
     let i : ℕ = c.loop-rule.rule-index in
     let x = c.rule-item.result in
@@ -299,11 +403,11 @@ by_rules-returns-in_err-more-clause-answer g t c =
     rest_at judgement_rule_of xs i x c.loop-rule-test.true c.rule-item.is in
     let s : Survivors L C a (pattern_in x.ins) (extras_of x.extras.items) (value bs) =
     subst (λ (es : List code_extra.Extra). Survivors L C a (pattern_in x.ins) (extras_of es) (value bs)) c.deref.ensures.value c.in_ok-bs.ensures.answer in
-    error_handed_on terms_in terms_in (OutputLists C (map template_of ts) (bindings_of cs)) (Rules L C a (judgement_rules_of xs))
+    error_handed_on terms_in terms_in (OutputLists L C j o (map template_of ts) (bindings_of cs)) (Rules L C j o a (judgement_rules_of xs))
     c.from_residual-in_err-more.result _ c.from_residual-in_err-more.ensures.1
     (λ f h. stops (gathers-fault R (judgement_rules_of xs) (judgement_rule_of x) _ _ (terms_in c.loop-rule.found) f e
-    (goes s (subst (λ (us : List code_template.Template). OutputLists C (map template_of us) bs (fault f)) c.deref-in-loop-rule.ensures.value
-    (subst (λ (ds : List code_binding.Binding). OutputLists C (map template_of ts) (bindings_of ds) (fault f)) c.deref-in-loop-rule-2.ensures.value h)))
+    (goes s (subst (λ (us : List code_template.Template). OutputLists L C j o (map template_of us) bs (fault f)) c.deref-in-loop-rule.ensures.value
+    (subst (λ (ds : List code_binding.Binding). OutputLists L C j o (map template_of ts) (bindings_of ds) (fault f)) c.deref-in-loop-rule-2.ensures.value h)))
     c.loop-rule.invariant.answer))
     c.in_err-more.ensures.answer
 
@@ -311,8 +415,10 @@ pub by_rules-loop-rule-preserved : goal.calls::by_rules-loop-rule-preserved
 by_rules-loop-rule-preserved g t c = record {
   answer = (let C : Calls = calls_in c.args.setting.now c.args.height in
       let L : Language = language_in c.args.language.now in
+      let j : List ℕ = c.args.j.now in
+      let o : Option Pattern = pattern_found c.args.asked in
       let a : Tree = tree_of c.args.ins.now in
-      let R : JudgementRule → Answer (List Tree) → Type 0 = RuleOutputs L C a in
+      let R : JudgementRule → Answer (List Tree) → Type 0 = RuleOutputs L C j o a in
       let xs = c.args.rules.now in
       let i : ℕ = c.loop-rule.rule-index in
       let x = c.rule-item.result in
@@ -323,12 +429,12 @@ by_rules-loop-rule-preserved g t c = record {
       rest_at judgement_rule_of xs i x c.loop-rule-test.true c.rule-item.is in
       let s : Survivors L C a (pattern_in x.ins) (extras_of x.extras.items) (value bs) =
       subst (λ (es : List code_extra.Extra). Survivors L C a (pattern_in x.ins) (extras_of es) (value bs)) c.deref.ensures.value c.in_ok-bs.ensures.answer in
-      let o : OutputLists C (map template_of x.outs.items) bs (value more) =
-      subst (λ (us : List code_template.Template). OutputLists C (map template_of us) bs (value more)) c.deref-in-loop-rule.ensures.value
-      (subst (λ (ds : List code_binding.Binding). OutputLists C (map template_of ts) (bindings_of ds) (value more)) c.deref-in-loop-rule-2.ensures.value
+      let k : OutputLists L C j o (map template_of x.outs.items) bs (value more) =
+      subst (λ (us : List code_template.Template). OutputLists L C j o (map template_of us) bs (value more)) c.deref-in-loop-rule.ensures.value
+      (subst (λ (ds : List code_binding.Binding). OutputLists L C j o (map template_of ts) (bindings_of ds) (value more)) c.deref-in-loop-rule-2.ensures.value
       c.in_ok-more.ensures.answer) in
       let d : terms_in c.append.new.self ≡ terms_in c.loop-rule.found ++ more = grind (arith, common_steps) in
-      gathers-next R (judgement_rules_of xs) (judgement_rule_of x) _ _ (terms_in c.loop-rule.found) more (terms_in c.append.new.self) e d (goes s o)
+      gathers-next R (judgement_rules_of xs) (judgement_rule_of x) _ _ (terms_in c.loop-rule.found) more (terms_in c.append.new.self) e d (goes s k)
       c.loop-rule.invariant.answer);
   kept = c.in_ok-more.ensures.kept;
 }
@@ -337,45 +443,77 @@ pub by_rules-returns-clause-answer : goal.calls::by_rules-returns-clause-answer
 by_rules-returns-clause-answer g t c =
     let C : Calls = calls_in c.args.setting.now c.args.height in
     let L : Language = language_in c.args.language.now in
+    let j : List ℕ = c.args.j.now in
+    let o : Option Pattern = pattern_found c.args.asked in
     let a : Tree = tree_of c.args.ins.now in
     let xs = c.args.rules.now in
     goes
-    (gathers-end (RuleOutputs L C a) (judgement_rules_of xs) _ (terms_in c.loop-rule.found)
+    (gathers-end (RuleOutputs L C j o a) (judgement_rules_of xs) _ (terms_in c.loop-rule.found)
     (rest_none judgement_rule_of xs c.loop-rule.rule-index c.loop-rule-test.false) c.loop-rule.invariant.answer)
     (lists c.in_ok-ascending.ensures)
 
 pub output_lists-returns-in_err-t-clause-answer : goal.calls::output_lists-returns-in_err-t-clause-answer
 output_lists-returns-in_err-t-clause-answer g t c =
     let C : Calls = calls_in c.args.setting.now c.args.height in
+    let L : Language = language_in c.args.language.now in
+    let j : List ℕ = c.args.j.now in
+    let o : Option Pattern = pattern_found c.args.asked in
     let ts : List Template = map template_of c.args.templates.now in
-    let R : Binding → Answer (List Tree) → Type 0 = λ (b : Binding). Single (MakeList C b ts) in
+    let R : Binding → Answer (List Tree) → Type 0 = λ (b : Binding). Single (OutputList L C j o ts b) in
     let xs = c.args.bs.now in
     let i : ℕ = c.loop-binding.binding-index in
     let x = c.binding-item.result in
     let e : bindings_of (drop i xs) ≡ binding_of x ∷ bindings_of (drop (i + 1) xs) = rest_at binding_of xs i x c.loop-binding-test.true c.binding-item.is in
-    error_handed_on tree_of terms_in (MakeList C (binding_of x) ts) (OutputLists C ts (bindings_of xs))
+    error_handed_on tree_of terms_in (MakeList C (binding_of x) ts) (OutputLists L C j o ts (bindings_of xs))
     c.from_residual.result _ c.from_residual.ensures.1
-    (λ f h. gathers-fault R (bindings_of xs) (binding_of x) _ _ (terms_in c.loop-binding.found) f e (stops h) c.loop-binding.invariant.answer) c.in_err-t.ensures.answer
+    (λ f h. gathers-fault R (bindings_of xs) (binding_of x) _ _ (terms_in c.loop-binding.found) f e (stops (stops h)) c.loop-binding.invariant.answer)
+    c.in_err-t.ensures.answer
+
+pub output_lists-returns-in_err-ask-clause-answer : goal.calls::output_lists-returns-in_err-ask-clause-answer
+output_lists-returns-in_err-ask-clause-answer g t c =
+    let C : Calls = calls_in c.args.setting.now c.args.height in
+    let L : Language = language_in c.args.language.now in
+    let j : List ℕ = c.args.j.now in
+    let o : Option Pattern = pattern_found c.args.asked in
+    let ts : List Template = map template_of c.args.templates.now in
+    let R : Binding → Answer (List Tree) → Type 0 = λ (b : Binding). Single (OutputList L C j o ts b) in
+    let xs = c.args.bs.now in
+    let i : ℕ = c.loop-binding.binding-index in
+    let x = c.binding-item.result in
+    let u : Tree = tree_of c.in_ok-t.t in
+    let e : bindings_of (drop i xs) ≡ binding_of x ∷ bindings_of (drop (i + 1) xs) = rest_at binding_of xs i x c.loop-binding-test.true c.binding-item.is in
+    error_handed_on passed terms_in (AskedIf L o u (not_contract j sides.Out u) Passes) (OutputLists L C j o ts (bindings_of xs))
+    c.from_residual-in_err-ask.result _ c.from_residual-in_err-ask.ensures.1
+    (λ f h. gathers-fault R (bindings_of xs) (binding_of x) _ _ (terms_in c.loop-binding.found) f e
+    (stops (output-refused L C j o ts (binding_of x) u c.in_ok-t.ensures.answer f h)) c.loop-binding.invariant.answer)
+    c.in_err-ask.ensures
 
 pub output_lists-loop-binding-preserved : goal.calls::output_lists-loop-binding-preserved
 output_lists-loop-binding-preserved g t c = record {
   answer = (let C : Calls = calls_in c.args.setting.now c.args.height in
+      let L : Language = language_in c.args.language.now in
+      let j : List ℕ = c.args.j.now in
+      let o : Option Pattern = pattern_found c.args.asked in
       let ts : List Template = map template_of c.args.templates.now in
-      let R : Binding → Answer (List Tree) → Type 0 = λ (b : Binding). Single (MakeList C b ts) in
+      let R : Binding → Answer (List Tree) → Type 0 = λ (b : Binding). Single (OutputList L C j o ts b) in
       let xs = c.args.bs.now in
       let i : ℕ = c.loop-binding.binding-index in
       let x = c.binding-item.result in
+      let u : Tree = tree_of c.in_ok-t.t in
       let e : bindings_of (drop i xs) ≡ binding_of x ∷ bindings_of (drop (i + 1) xs) = rest_at binding_of xs i x c.loop-binding-test.true c.binding-item.is in
-      let d : terms_in c.push.new.self ≡ terms_in c.loop-binding.found ++ tree_of c.in_ok-t.t ∷ [] = grind (arith, common_steps) in
-      gathers-next R (bindings_of xs) (binding_of x) _ _ (terms_in c.loop-binding.found) (tree_of c.in_ok-t.t ∷ []) (terms_in c.push.new.self) e d
-      (goes c.in_ok-t.ensures.answer refl) c.loop-binding.invariant.answer);
+      let d : terms_in c.push.new.self ≡ terms_in c.loop-binding.found ++ u ∷ [] = grind (arith, common_steps) in
+      gathers-next R (bindings_of xs) (binding_of x) _ _ (terms_in c.loop-binding.found) (u ∷ []) (terms_in c.push.new.self) e d
+      (goes (output-allowed L C j o ts (binding_of x) u c.in_ok-t.ensures.answer c.in_ok-ask.ensures) refl) c.loop-binding.invariant.answer);
   kept = c.in_ok-t.ensures.kept;
 }
 
 pub output_lists-returns-clause-answer : goal.calls::output_lists-returns-clause-answer
 output_lists-returns-clause-answer g t c =
     let C : Calls = calls_in c.args.setting.now c.args.height in
+    let L : Language = language_in c.args.language.now in
+    let j : List ℕ = c.args.j.now in
+    let o : Option Pattern = pattern_found c.args.asked in
     let ts : List Template = map template_of c.args.templates.now in
     let xs = c.args.bs.now in
-    gathers-end (λ (b : Binding). Single (MakeList C b ts)) (bindings_of xs) _ (terms_in c.loop-binding.found)
+    gathers-end (λ (b : Binding). Single (OutputList L C j o ts b)) (bindings_of xs) _ (terms_in c.loop-binding.found)
     (rest_none binding_of xs c.loop-binding.binding-index c.loop-binding-test.false) c.loop-binding.invariant.answer

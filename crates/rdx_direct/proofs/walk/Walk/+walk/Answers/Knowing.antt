@@ -33,7 +33,7 @@ fit_end-returns t c =
 
 pub fits_inside-returns-in-HideHole : goal.fits_inside-returns-in-HideHole
 fits_inside-returns-in-HideHole t c =
-    let e : pattern_of c.args.pat.now ≡ hide_hole (pattern_of c.deref.result.now) = ap pattern_of c.in-HideHole.is ∙ pattern_hide_hole c.in-HideHole.part ∙ ap (λ q. hide_hole (pattern_of q)) (sym c.deref.ensures) in
+    let e : pattern_of c.args.pat.now ≡ hide_hole (pattern_of c.deref-in-HideHole.result.now) = ap pattern_of c.in-HideHole.is ∙ pattern_hide_hole c.in-HideHole.part ∙ ap (λ q. hide_hole (pattern_of q)) (sym c.deref-in-HideHole.ensures) in
     IfOk-weaker c.fits.result _ _ (λ v f. fits_hidden v e f) c.fits.ensures
 
 pub fits_inside-returns-in-Closed : goal.fits_inside-returns-in-Closed
