@@ -63,7 +63,7 @@
 (apply-reduction-relation/tag-with-names red (term (+ 1 (- 5 3) (* 2 2))))
 (apply-reduction-relation/tag-with-names red (term (letrec ((g (λ (a) (g a)))) (g 1))))
 (apply-reduction-relation/tag-with-names red (term (* 2 (if (not) 1 2))))
-(apply-reduction-relation/tag-with-names red (term ((λ (a b) (a b)) not #t)))
+(apply-reduction-relation/tag-with-names red (term ((λ (a b) (a b)) g #t)))
 
 ; The factorial, and two functions that ask each other.
 (test-->> red

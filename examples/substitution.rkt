@@ -31,5 +31,5 @@
 (apply-reduction-relation/tag-with-names red (term (+ 2 3)))
 (apply-reduction-relation red (term 5))
 
-; A call that no clause takes has no value.
+; A call that the contract does not allow has no value.
 (term (subst 1 2 3))
