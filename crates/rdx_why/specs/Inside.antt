@@ -1,0 +1,11 @@
+pub mod Same
+pub mod Layouts
+pub mod Chosen
+pub mod Worklists
+pub mod Decides
+pub mod Around
+pub mod Named
+pub mod NamingUses
+pub mod Stacks
+pub mod Finding
+pub mod Extending

@@ -1,0 +1,10 @@
+pub mod Derivations
+pub mod DerivationView
+pub mod Examples
+pub mod Holds
+pub mod Inside
+pub mod Judged
+pub mod JudgementUses
+pub mod Laws
+pub mod Lines
+pub mod Uses
