@@ -35,3 +35,4 @@ pub mod AtomListings
 pub mod PartListings
 pub mod AcrossRows
 pub mod SpotRows
+pub mod SameBindings

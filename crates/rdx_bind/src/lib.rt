@@ -3,7 +3,7 @@
 //! A [`Binding`](rdx_lang::Binding) is a finite map from names to values, beside one from mismatch names to sets of terms. [`join`] puts
 //! two of them together, and [`join_into`] where one is of no more use; [`one`] makes that of a name alone, [`differ`] that of a mismatch
 //! name with one term, [`visible`] leaves mismatch names out, and [`collect`] gives each name the sequence of what it stands for in each
-//! of several bindings, as a repetition does. [`compare`] is the order of bindings, and [`listing`] and [`listing_splits`] put what a
+//! of several bindings, as a repetition does. [`compare`] is the order of bindings, [`is_same`] says whether two are equal, and [`listing`] and [`listing_splits`] put what a
 //! search found into that order, each once.
 //!
 //! The modules are for those who write a matcher: given what the parts of a pattern bind, and where they split their terms, they find
@@ -42,5 +42,5 @@ pub mod ways;
 pub use collecting::collect;
 pub use joining::{join, join_into};
 pub use single::{differ, one, visible};
-pub use sorting::{compare, listing};
+pub use sorting::{compare, is_same, listing};
 pub use splits::listing_splits;

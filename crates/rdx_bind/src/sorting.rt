@@ -1,9 +1,10 @@
 // The order of bindings, and strictly ascending lists of them.
-ghost use Rattle.std.specs.Prelude.{◌≡◌, IfOk};
+ghost use Rattle.std.specs.Prelude.{◌≡◌, ◌↔◌, IfOk, IsTrue};
 ghost use Rattle.rdx_lang.specs.Listing.{IsListing};
 ghost use Rattle.rdx_lang.specs.Members.{In};
 ghost use Rattle.rdx_lang.specs.Order.{binding_cmp};
 ghost use Rattle.rdx_lang.specs.Shown.{binding_of, bindings_of};
+ghost use Rattle.rdx_bind.specs.Inside.Alike.{is_equal};
 
 use rdx_lang::Binding;
 use rdx_term::NoMemory;
@@ -17,6 +18,24 @@ pub fn compare(a: &Binding, b: &Binding) -> Ordering
     ensures { result ≡ binding_cmp (binding_of a.now) (binding_of b.now) }
 {
     a.compare(b)
+}
+
+// The same as a comparison.
+fn compares_equal(a: &Binding, b: &Binding) -> bool
+    ensures { result ≡ is_equal (binding_cmp (binding_of a.now) (binding_of b.now)) }
+{
+    match a.compare(b) {
+        Ordering::Equal => true,
+        Ordering::Less | Ordering::Greater => false,
+    }
+}
+
+/// Whether the two bindings are equal, mismatch names included.
+#[tactic(auto, using(crate::proofs::SameBindings::bindings_alike))]
+pub fn is_same(a: &Binding, b: &Binding) -> bool
+    ensures { IsTrue result ↔ (binding_of a.now ≡ binding_of b.now) }
+{
+    compares_equal(a, b)
 }
 
 // The members of a set, ascending.
