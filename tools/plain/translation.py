@@ -1,6 +1,6 @@
 """Translates a source file of Rattle into one of plain Rust, with each line where it was.
 
-Out go: ghosts, `requires` and `ensures` with what they say, impls of `Model`, attributes of the prover, what stands under
+Out go: ghosts, `requires` and `ensures` with what they say, impls of `Model` and `Drop`, attributes of the prover, what stands under
 `#[cfg(test)]` or `#[test]`, and comments. Calls that Rust's std has by the same name with other parameters are renamed to
 those of `shim/rstd`, and `std::` is `rstd::`."""
 import re
@@ -28,6 +28,8 @@ ATTRIBUTES = {"allow", "cold", "default", "derive", "doc", "error", "from", "inl
               "non_exhaustive", "repr", "source"}
 # Traits of the toolchain that every type has here.
 TRAITS_OF_ALL = {"Drop", "Trace"}
+# Impls of these go: a drop with a body takes its value apart, which Rust's may not, and Rust drops the parts by itself.
+LEFT_OUT = {"Drop", "Model"}
 # Methods and functions that have other parameters or another result than those of Rust's std, on types that `rstd` does
 # not wrap; their names get this ending.
 METHODS = {"clone", "collect", "to_vec"}
@@ -195,7 +197,7 @@ class Translation:
                 self.ghost()
             elif text in ("requires", "ensures"):
                 self.skip_clause()
-            elif text == "impl" and self.behind() in ("", ";", "]", *"{}") and self.trait_of_impl() == "Model":
+            elif text == "impl" and self.behind() in ("", ";", "]", *"{}") and self.trait_of_impl() in LEFT_OUT:
                 self.skip_item()
             elif text == "mod" and self.ahead(2) == "{":
                 self.copy()

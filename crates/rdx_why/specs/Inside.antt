@@ -1,11 +1,6 @@
-pub mod Same
-pub mod Layouts
-pub mod Chosen
-pub mod Worklists
-pub mod Decides
-pub mod Around
-pub mod Named
-pub mod NamingUses
-pub mod Stacks
-pub mod Finding
-pub mod Extending
+pub mod Forms
+pub mod Frames
+pub mod Laying
+pub mod Shapes
+pub mod Steps
+pub mod Ways

@@ -1,10 +1,2 @@
-pub mod Derivations
-pub mod DerivationView
-pub mod Examples
-pub mod Holds
+pub mod Explaining
 pub mod Inside
-pub mod Judged
-pub mod JudgementUses
-pub mod Laws
-pub mod Lines
-pub mod Uses

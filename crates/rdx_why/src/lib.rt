@@ -1,27 +1,14 @@
-//! Why a pattern matches a term or splits it so, and why a judgement holds: derivations by the rules, and the test of them.
+//! Why a pattern matches a term or splits it so, and why a judgement holds: finds derivations by the rules, and tests and prints them.
 #![tactic(auto)]
 
-mod around;
-mod deriv;
-mod extras;
-mod filled;
-mod fresh;
-mod goal;
-mod holding;
-mod judgement;
-mod known;
-pub mod laws;
-mod layout;
-mod lines;
-mod making;
-mod reading;
-mod rest;
-mod rules;
-mod same;
-mod splitting;
-mod standing;
+mod choosing;
+mod descending;
+mod explaining;
+mod forms;
+mod inner;
+mod judging;
+mod lists;
+mod step;
 
-pub use deriv::Deriv;
-pub use goal::Goal;
-pub use holding::derivation_holds;
-pub use lines::{write_lines, write_rule_name};
+pub use explaining::explain;
+pub use rdx_deriv::{Deriv, Goal, derivation_holds, write_lines, write_rule_name};

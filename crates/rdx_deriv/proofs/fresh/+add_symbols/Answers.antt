@@ -1,0 +1,16 @@
+use Rattle.std.proofs.Common.{arith, ◌≡◌, ◌<◌, length, map}
+use Rattle.std.proofs.lemmas.Grind.{common_steps}
+use Rattle.rdx_term.specs.View.{tree_of}
+use Rattle.rdx_term.proofs.Items.{item_has_fewer_nodes}
+use Rattle.rdx_deriv.proofs.fresh.+add_symbols.Goals as goal
+
+pub add_symbols-requires : goal.add_symbols-requires
+add_symbols-requires t c =
+    let e : map tree_of c.items-item-items.result.now ≡ c.in-List.node.value.items = grind (arith, common_steps) in
+    let h : c.loop-item.item-index < length c.items-item-items.result.now = grind (arith, common_steps) in
+    grind (
+      arith,
+      common_steps,
+      item_has_fewer_nodes c.in-List.node.value c.items-item-items.result.now c.loop-item.item-index c.item-item.result
+          e h,
+    )

@@ -1,0 +1,29 @@
+use Rattle.std.proofs.lemmas.Result.{IfOk-weaker}
+use Rattle.rdx_lang.specs.PatternView.{pattern_of}
+use Rattle.rdx_lang.specs.Shown.{binding_of}
+use Rattle.rdx_term.specs.View.{tree_of}
+use Rattle.rdx_deriv.specs.DerivationView.{goals_of, goal_of}
+use Rattle.rdx_deriv.proofs.RuleUses.{in_hole_split_none, in_hole_split_first, in_hole_split_second, in_hole_split_unfilled, in_hole_split_some}
+use Rattle.rdx_deriv.proofs.rules.is_in_hole_split.Goals as goal
+
+pub returns-in_default : goal.returns-in_default
+returns-in_default c = in_hole_split_none c.args.l.now (pattern_of c.args.q.now) (pattern_of c.args.r.now) (tree_of c.args.t.now) (tree_of c.args.context.now) (tree_of c.args.part.now) (binding_of c.args.b.now) c.args.choice.now (goals_of c.args.under.now) c.in_default.ensures.none
+
+pub returns-in_default-split_goal : goal.returns-in_default-split_goal
+returns-in_default-split_goal c = in_hole_split_first c.args.l.now (pattern_of c.args.q.now) (pattern_of c.args.r.now) (tree_of c.args.t.now) (tree_of c.args.context.now) (tree_of c.args.part.now) (binding_of c.args.b.now) c.args.choice.now (goals_of c.args.under.now) (goal_of c.in-Some.goals.first.now) (goal_of c.in-Some.goals.second.now) c.in-Some.ensures.some.1 c.in_default-split_goal.ensures.none
+
+pub returns-in_default-split_goal_to : goal.returns-in_default-split_goal_to
+returns-in_default-split_goal_to c =
+    in_hole_split_second c.args.l.now (pattern_of c.args.q.now) (pattern_of c.args.r.now) (tree_of c.args.t.now) (tree_of c.args.context.now) (tree_of c.args.part.now) (binding_of c.args.b.now) c.args.choice.now (goals_of c.args.under.now) (goal_of c.in-Some.goals.first.now) (goal_of c.in-Some.goals.second.now) (tree_of c.in-Some-split_goal.outer.context.now) (tree_of c.in-Some-split_goal.outer.part.now) (binding_of c.in-Some-split_goal.outer.binding.now)
+    c.in-Some.ensures.some.1 c.in-Some-split_goal.ensures.some c.in_default-split_goal_to.ensures.none
+
+pub returns-then-filled : goal.returns-then-filled
+returns-then-filled c =
+    IfOk-weaker c.is_joined.result _ _
+    (λ ok h. in_hole_split_some c.args.l.now (pattern_of c.args.q.now) (pattern_of c.args.r.now) (tree_of c.args.t.now) (tree_of c.args.context.now) (tree_of c.args.part.now) (binding_of c.args.b.now) c.args.choice.now (goals_of c.args.under.now) (goal_of c.in-Some.goals.first.now) (goal_of c.in-Some.goals.second.now) (tree_of c.in-Some-split_goal.outer.context.now) (tree_of c.in-Some-split_goal.outer.part.now) (tree_of c.in-Some-split_goal_to.inner.context.now) (binding_of c.in-Some-split_goal.outer.binding.now) (binding_of c.in-Some-split_goal_to.inner.binding.now) c.in-Some.ensures.some.1 c.in-Some-split_goal.ensures.some c.in-Some-split_goal_to.ensures.some ok c.in-Some.ensures.some.0 (c.in_ok-filled.ensures.0 c.if-filled.true) h)
+    c.is_joined.ensures
+
+pub returns-else-filled : goal.returns-else-filled
+returns-else-filled c =
+    in_hole_split_unfilled c.args.l.now (pattern_of c.args.q.now) (pattern_of c.args.r.now) (tree_of c.args.t.now) (tree_of c.args.context.now) (tree_of c.args.part.now) (binding_of c.args.b.now) c.args.choice.now (goals_of c.args.under.now) (goal_of c.in-Some.goals.first.now) (goal_of c.in-Some.goals.second.now) (tree_of c.in-Some-split_goal.outer.context.now) (tree_of c.in-Some-split_goal.outer.part.now) (tree_of c.in-Some-split_goal_to.inner.context.now) (binding_of c.in-Some-split_goal.outer.binding.now) (binding_of c.in-Some-split_goal_to.inner.binding.now) c.in-Some.ensures.some.1 c.in-Some-split_goal.ensures.some c.in-Some-split_goal_to.ensures.some
+    (λ e. let k = c.in_ok-filled.ensures.1 e in let f = c.if-filled.false in cc)

@@ -1,0 +1,17 @@
+use Rattle.std.proofs.lemmas.Result.{IfOk-weaker}
+use Rattle.rdx_lang.specs.Bindings.{Binding}
+use Rattle.rdx_bind.specs.Namings.{alone, naming_of}
+use Rattle.rdx_lang.specs.Join.{IsJoin}
+use Rattle.rdx_lang.specs.PatternView.{pattern_of}
+use Rattle.rdx_lang.specs.Shown.{binding_of}
+use Rattle.rdx_term.specs.View.{tree_of}
+use Rattle.rdx_deriv.specs.Derivations.{split}
+use Rattle.rdx_deriv.specs.DerivationView.{goals_of}
+use Rattle.rdx_deriv.proofs.RuleUses.{none_under, some_under, split_tells}
+use Rattle.rdx_deriv.proofs.rules.is_naming_split.Goals as goal
+
+pub returns-in-None : goal.returns-in-None
+returns-in-None c = none_under (split c.args.l.now (pattern_of c.args.q.now) (tree_of c.args.t.now) (tree_of c.args.context.now) (tree_of c.args.part.now)) (λ (d : Binding). IsJoin d (alone (naming_of c.args.name) (tree_of c.args.context.now)) (binding_of c.args.b.now)) c.args.choice.now (goals_of c.args.under.now) c.in-None.ensures.none
+
+pub returns-in-Some : goal.returns-in-Some
+returns-in-Some c = IfOk-weaker c.is_named.result _ _ (λ r h. some_under (split c.args.l.now (pattern_of c.args.q.now) (tree_of c.args.t.now) (tree_of c.args.context.now) (tree_of c.args.part.now)) (λ (d : Binding). IsJoin d (alone (naming_of c.args.name) (tree_of c.args.context.now)) (binding_of c.args.b.now)) (split_tells c.args.l.now (pattern_of c.args.q.now) (tree_of c.args.t.now) (tree_of c.args.context.now) (tree_of c.args.part.now)) r c.args.choice.now (goals_of c.args.under.now) (binding_of c.in-Some.inside.now) c.in-Some.ensures.some.0 c.in-Some.ensures.some.1 h) c.is_named.ensures

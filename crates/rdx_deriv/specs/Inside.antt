@@ -1,0 +1,11 @@
+pub mod Around
+pub mod Chosen
+pub mod Decides
+pub mod Extending
+pub mod Faults
+pub mod Layouts
+pub mod Named
+pub mod NamingUses
+pub mod Same
+pub mod Stacks
+pub mod Worklists

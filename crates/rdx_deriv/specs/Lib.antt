@@ -1,0 +1,13 @@
+pub mod Around
+pub mod Avoiding
+pub mod DerivationView
+pub mod Derivations
+pub mod Examples
+pub mod Finding
+pub mod Holds
+pub mod Inside
+pub mod Judged
+pub mod JudgementUses
+pub mod Laws
+pub mod Lines
+pub mod Uses

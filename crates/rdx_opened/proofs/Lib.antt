@@ -1,0 +1,16 @@
+pub mod Closing
+pub mod FoundWholes
+pub mod Leaves
+pub mod Made
+pub mod MarkLists
+pub mod Marked
+pub mod NamingSteps
+pub mod OpenedMatches
+pub mod OpenedNames
+pub mod OpenedPlain
+pub mod Picking
+pub mod Sought
+pub mod Standing
+pub mod StandingTurns
+pub mod TurnParts
+pub mod WholeMatches

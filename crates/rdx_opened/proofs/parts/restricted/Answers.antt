@@ -1,0 +1,8 @@
+use Rattle.rdx_lang.specs.Shown.{binding_of}
+use Rattle.rdx_opened.proofs.Picking.{ascend_whole, picked_ascends, picked_end}
+use Rattle.rdx_opened.proofs.parts.restricted.Goals as goal
+
+pub new-requires : goal.new-requires
+new-requires c =
+    ascend_whole _ _ _ c.loop-name.invariant (picked_end (binding_of c.args.b.now) c.args.names.now c.loop-name.name-index c.loop-name-test.false)
+    (picked_ascends (binding_of c.args.b.now) c.args.names.now c.requires)

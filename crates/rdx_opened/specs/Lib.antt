@@ -1,0 +1,4 @@
+pub mod Inside
+pub mod Opening
+pub mod Picking
+pub mod Seeking

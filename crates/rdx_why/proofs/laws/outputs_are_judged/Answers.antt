@@ -1,5 +1,0 @@
-use Rattle.rdx_why.proofs.JudgedOutputs as outputs
-use Rattle.rdx_why.proofs.laws.outputs_are_judged.Goals as goal
-
-pub returns : goal.returns
-returns c = outputs.outputs_are_judged

@@ -1,0 +1,12 @@
+use Rattle.std.proofs.Common.{sym, subst}
+use Rattle.rdx_lang.specs.Bindings.{Binding}
+use Rattle.rdx_lang.specs.Shown.{binding_of}
+use Rattle.rdx_opened.specs.Opening.{IsApart}
+use Rattle.rdx_opened.specs.Seeking.{marks_of}
+use Rattle.rdx_opened.proofs.TurnParts.{turn-apart}
+use Rattle.rdx_why.proofs.lists.turn_goal.Goals as goal
+
+pub whole-requires-clause-apart : goal.whole-requires-clause-apart
+whole-requires-clause-apart c =
+    subst (λ (b : Binding). IsApart (marks_of c.args.marks.now) b) (sym c.in_ok-in_turn.ensures)
+    (turn-apart (binding_of c.args.c.now) c.requires.marked.ascending c.requires.marked.apart c.args.turn c.args.names.now)

@@ -1,9 +1,0 @@
-use Rattle.std.proofs.Common.{◌∙◌, sym}
-use Rattle.rdx_lang.specs.Shown.{binding_of}
-use Rattle.rdx_why.proofs.Readings.{bindings_alike}
-use Rattle.rdx_why.proofs.reading.is_same_binding.Goals as goal
-
-pub returns : goal.returns
-returns c =
-    let k = bindings_alike (binding_of c.args.a.now) (binding_of c.args.b.now) in
-    (λ h. k.0 (sym c.compares_equal.ensures ∙ h), λ e. c.compares_equal.ensures ∙ k.1 e)
