@@ -14,5 +14,12 @@ pub mod MetPremises
 pub mod RuleNames
 pub mod Contexts
 pub mod WrittenBehind
+pub mod ExplainedRuns
+pub mod SomeExplained
 pub mod PrintedExamples
 pub mod Examples
+pub mod Searching
+pub mod Explaining
+pub mod MetOutputs
+pub mod ExplainedParts
+pub mod TriedParts

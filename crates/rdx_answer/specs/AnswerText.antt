@@ -77,10 +77,14 @@ split_text d = tree_text d.context ++ at_text d.context ++ codes " is " ++ tree_
 
 -- ---- answers
 
--- each text on a line of its own, after two blanks
+-- a text on a line of its own, after two blanks
+abbrev pub line_text : List ℕ → List ℕ
+line_text x = codes "  " ++ x ++ codes "\n"
+
+-- each text on such a line
 abbrev pub lines_text : List (List ℕ) → List ℕ
 lines_text [] = []
-lines_text (x ∷ xs) = codes "  " ++ x ++ codes "\n" ++ lines_text xs
+lines_text (x ∷ xs) = line_text x ++ lines_text xs
 
 -- what there is, how many there are, and then the lines
 abbrev pub counted_text : List ℕ → List (List ℕ) → List ℕ

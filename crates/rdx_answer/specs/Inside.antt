@@ -5,3 +5,4 @@ pub mod Counting
 pub mod Comparing
 pub mod Contexts
 pub mod Whether
+pub mod Explaining

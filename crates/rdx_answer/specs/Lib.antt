@@ -8,7 +8,10 @@ pub mod GenerateAnswers
 pub mod Tests
 pub mod TestAnswers
 pub mod Answering
+pub mod Explained
+pub mod Modes
 pub mod Workload
 pub mod Examples
+pub mod Laws
 pub mod Views
 pub mod Inside

@@ -6,7 +6,7 @@ use Rattle.rdx_lang.specs.Programs.{Program}
 use Rattle.rdx_lang.specs.TemplateView.{host_of, template_of}
 use Rattle.rdx_answer.specs.Queries as model
 use Rattle.rdx_answer.specs.declared.answers.Mode.{Mode}
-use Rattle.rdx_answer.specs.declared.answers.Mode.TheVariants.{Run, Step}
+use Rattle.rdx_answer.specs.declared.answers.Mode.TheVariants.{Run, Step, Why}
 use Rattle.rdx_answer.specs.declared.queries.CheckedFile.{CheckedFile}
 use Rattle.rdx_answer.specs.declared.queries.Query.{Query}
 use Rattle.rdx_answer.specs.declared.queries.Query.TheVariants.{Match, Whether, Decompose, Value, Holds, Reducts, Tagged, Stepper, Generate, Check, TestEqual, TestStep, TestRun, TestMatch, TestHolds, TestResults}
@@ -30,9 +30,10 @@ query_of (TestMatch name p h wanted) = model.test_match name (pattern_in p) (hos
 query_of (TestHolds q) = model.test_holds (premise_of q)
 query_of TestResults = model.test_results
 
--- the choices by which walks go in a mode: none, where the file is only run
+-- the choices by which walks go in a mode: none, where the file is only run, or asked why
 abbrev pub choices_of : Mode → List ℕ
 choices_of Run = []
+choices_of Why = []
 choices_of (Step choices) = choices.items
 
 -- what a file defines

@@ -8,11 +8,14 @@ ghost use Rattle.rdx_answer.specs.Tests.{no_tests};
 ghost use Rattle.rdx_answer.specs.Inside.Appending.{AppendsAnswer, IsAnswerOver, Tries, host_in};
 ghost use Rattle.rdx_answer.specs.Inside.Counting.{counts_of};
 ghost use Rattle.rdx_answer.specs.Queries.{NamesKnown};
-ghost use Rattle.rdx_answer.specs.Views.{AllNamesKnown, choices_of, program_in, queries_of, query_of};
+ghost use Rattle.rdx_answer.specs.Explained.{IsExplainable};
+ghost use Rattle.rdx_answer.specs.Modes.{AreAnswersIn, IsWhy};
+ghost use Rattle.rdx_answer.specs.Views.{AllNamesKnown, program_in, queries_of, query_of};
 ghost use Rattle.rdx_term.specs.View.{tree_of};
 
 use crate::comparing::write_equality;
 use crate::counting::{Counts, counts_behind, no_counts, write_results};
+use crate::explained_answers::answer_explained;
 use crate::generate_answers::{answer_check, answer_generate};
 use crate::holds_answers::{answer_holds, answer_holds_test};
 use crate::match_answers::{answer_match_test, answer_matches, answer_splits, answer_whether};
@@ -35,6 +38,8 @@ pub enum Mode {
     Run,
     /// Walks take these steps, each by its number among those of the term at hand, counted from 1.
     Step(Vec<u64>),
+    /// Walks take no step, and what is found is explained by derivations.
+    Why,
 }
 
 /// What a file writes.
@@ -46,29 +51,37 @@ pub struct Answered {
     pub met: bool,
 }
 
-// The choices by which walks go.
-fn choices(mode: &Mode) -> &[u64]
-    ensures { result.now ≡ choices_of mode.now }
-{
-    match mode {
-        Mode::Run => &[],
-        Mode::Step(choices) => choices,
-    }
-}
-
-/// The answers to the queries of a file, in their order, and whether all is met that it states. Host
-/// expressions ask the table.
+/// The answers to the queries of a file, in their order, and whether all is met that it states; where
+/// the mode is to explain, with derivations. Host expressions ask the table.
 pub fn answer(
     alloc: Global,
     file: &CheckedFile,
     host: &HostTable,
     mode: &Mode,
 ) -> Result<Answered, NoMemory>
-    requires { AllNamesKnown (program_in file.now) (queries_of file.now) }
-    ensures { IfOk result (λ a. AreAnswers (program_in file.now) (choices_of mode.now) no_tests
+    requires known { AllNamesKnown (program_in file.now) (queries_of file.now) }
+    requires asked { IsWhy mode.now → IsExplainable (program_in file.now) (queries_of file.now) }
+    ensures { IfOk result (λ a. AreAnswersIn mode.now (program_in file.now) no_tests
         (queries_of file.now) a.transcript.items a.met) }
 {
-    let choices = choices(mode);
+    match mode {
+        Mode::Run => answer_by(alloc, file, host, &[]),
+        Mode::Step(choices) => answer_by(alloc, file, host, choices),
+        Mode::Why => answer_explained(alloc, file, host),
+    }
+}
+
+// The answers to the queries of a file, where walks go by these choices.
+fn answer_by(
+    alloc: Global,
+    file: &CheckedFile,
+    host: &HostTable,
+    choices: &[u64],
+) -> Result<Answered, NoMemory>
+    requires { AllNamesKnown (program_in file.now) (queries_of file.now) }
+    ensures { IfOk result (λ a. AreAnswers (program_in file.now) choices.now no_tests
+        (queries_of file.now) a.transcript.items a.met) }
+{
     let mut engine = Engine::new(alloc, &file.program, host, Table::new(alloc)?);
     let mut transcript = Vec::new(alloc);
     let mut counts = no_counts();
@@ -81,9 +94,9 @@ pub fn answer(
     Ok(Answered { transcript, met })
 }
 
-// Appends the answer to a query, and says whether what it states is met. A fault is answered by its
-// line.
-fn write_answer(
+/// Appends the answer to a query, and says whether what it states is met. A fault is answered by its
+/// line.
+pub(crate) fn write_answer(
     alloc: Global,
     engine: &mut Engine<Table>,
     choices: &[u64],

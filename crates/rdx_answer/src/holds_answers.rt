@@ -23,8 +23,11 @@ use rdx_term::{Name, NoMemory, Term};
 use std::alloc::Global;
 use std::collections::BTreeSet;
 
-// The judgement of this name.
-fn judgement<'a>(engine: &mut Engine<'a, Table>, name: &Name) -> Result<&'a Judgement, NoMemory>
+/// The judgement of this name.
+pub(crate) fn judgement<'a>(
+    engine: &mut Engine<'a, Table>,
+    name: &Name,
+) -> Result<&'a Judgement, NoMemory>
     requires { IsSome (named (program_of (engines.program_in engine.old).now) name.now) }
     ensures found { IfOk result (λ j. named (program_of (engines.program_in engine.old).now) name.now
         ≡ Some (judgement_of j.now)) }
@@ -36,8 +39,11 @@ fn judgement<'a>(engine: &mut Engine<'a, Table>, name: &Name) -> Result<&'a Judg
     }
 }
 
-// The bindings that meet the premise in the language of its judgement, or the fault on the way.
-fn meeting(engine: &mut Engine<Table>, premise: &Premise) -> Result<Vec<Binding>, EvalFault>
+/// The bindings that meet the premise in the language of its judgement, or the fault on the way.
+pub(crate) fn meeting(
+    engine: &mut Engine<Table>,
+    premise: &Premise,
+) -> Result<Vec<Binding>, EvalFault>
     requires { KnowsJudgement (program_of (engines.program_in engine.old).now)
         premise.now.judgement }
     ensures answer { Says bindings_in
@@ -74,9 +80,9 @@ fn answer_whether_met(
     Ok(true)
 }
 
-// What the template makes of the bindings that meet the premise, ascending and each once, or the
-// fault on the way.
-fn values_of(
+/// What the template makes of the bindings that meet the premise, ascending and each once, or the
+/// fault on the way.
+pub(crate) fn values_of(
     alloc: Global,
     engine: &mut Engine<Table>,
     premise: &Premise,

@@ -1,5 +1,19 @@
 //! Laws of the definitions: functions that do nothing, whose contracts are the laws.
 ghost use Rattle.rdx_answer.specs.Examples as example;
+ghost use Rattle.rdx_answer.specs.Laws.{WhatIsExplainedIsAnswered, EachAnswerIsExplained};
+
+/// Without its derivations, what is written where a file is asked why is the text of a run.
+pub fn what_is_explained_is_answered()
+    ensures { WhatIsExplainedIsAnswered }
+{}
+
+/// Each text of a run can be written with derivations, where each query can be explained.
+pub fn each_answer_is_explained()
+    ensures { EachAnswerIsExplained }
+{
+    rdx_deriv::laws::what_follows_has_derivation();
+    rdx_deriv::laws::outputs_are_judged();
+}
 
 /// The examples of `specs/Examples.antt` hold.
 pub fn worked_examples()

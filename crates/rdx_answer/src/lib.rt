@@ -10,6 +10,8 @@
 mod answers;
 mod comparing;
 mod counting;
+mod explained_answers;
+mod explained_premises;
 mod generate_answers;
 mod holds_answers;
 pub mod laws;

@@ -147,15 +147,28 @@ fn write_binding(alloc: Global, binding: &Binding, out: &mut Vec<u8>) -> Result<
     Ok(())
 }
 
+/// The line of a binding.
+pub(crate) fn write_binding_line(
+    alloc: Global,
+    binding: &Binding,
+    out: &mut Vec<u8>,
+) -> Result<(), NoMemory>
+    ensures { OnOk result (out.new.items ≡ out.old.items
+        ++ text.line_text (text.binding_text (binding_of binding.now))) }
+{
+    out.extend_from_slice(b"  ")?;
+    write_binding(alloc, binding, out)?;
+    out.push(b'\n')?;
+    Ok(())
+}
+
 // A line for each binding.
 fn write_binding_lines(alloc: Global, found: &[Binding], out: &mut Vec<u8>) -> Result<(), NoMemory>
     ensures { OnOk result (out.new.items ≡ out.old.items
         ++ text.lines_text (map text.binding_text (bindings_of found.now))) }
 {
     for binding in found {
-        out.extend_from_slice(b"  ")?;
-        write_binding(alloc, binding, out)?;
-        out.push(b'\n')?;
+        write_binding_line(alloc, binding, out)?;
     }
     Ok(())
 }
@@ -174,6 +187,22 @@ fn write_split(alloc: Global, split: &Split, out: &mut Vec<u8>) -> Result<(), No
     write_binding(alloc, &split.binding, out)
 }
 
+/// The line of a split.
+pub(crate) fn write_split_line(
+    alloc: Global,
+    split: &Split,
+    out: &mut Vec<u8>,
+) -> Result<(), NoMemory>
+    requires { IsTrue (is_context (tree_of split.now.context)) }
+    ensures { OnOk result (out.new.items ≡ out.old.items
+        ++ text.line_text (text.split_text (decomposition_of split.now))) }
+{
+    out.extend_from_slice(b"  ")?;
+    write_split(alloc, split, out)?;
+    out.push(b'\n')?;
+    Ok(())
+}
+
 // A line for each split.
 fn write_split_lines(alloc: Global, found: &[Split], out: &mut Vec<u8>) -> Result<(), NoMemory>
     requires { HaveContexts (decompositions_of found.now) }
@@ -181,10 +210,30 @@ fn write_split_lines(alloc: Global, found: &[Split], out: &mut Vec<u8>) -> Resul
         ++ text.lines_text (map text.split_text (decompositions_of found.now))) }
 {
     for split in found {
-        out.extend_from_slice(b"  ")?;
-        write_split(alloc, split, out)?;
-        out.push(b'\n')?;
+        write_split_line(alloc, split, out)?;
     }
+    Ok(())
+}
+
+/// What there is, and how many there are.
+pub(crate) fn write_head(what: &[u8], count: usize, out: &mut Vec<u8>) -> Result<(), NoMemory>
+    ensures { OnOk result (out.new.items ≡ out.old.items
+        ++ what.now ++ codes " " ++ decimal count ++ codes "\n") }
+{
+    out.extend_from_slice(what)?;
+    out.push(b' ')?;
+    write_number(count, out)?;
+    out.push(b'\n')?;
+    Ok(())
+}
+
+/// The line of a term.
+pub(crate) fn write_term_line(term: &Term, out: &mut Vec<u8>) -> Result<(), NoMemory>
+    ensures { OnOk result (out.new.items ≡ out.old.items ++ text.line_text (tree_text (tree_of term.now))) }
+{
+    out.extend_from_slice(b"  ")?;
+    text_of(term, out)?;
+    out.push(b'\n')?;
     Ok(())
 }
 

@@ -9,3 +9,5 @@ pub mod OneOutcome
 pub mod SomeText
 pub mod WordExamples
 pub mod WorkedExamples
+pub mod WhyRuns
+pub mod Modes

@@ -9,12 +9,13 @@ use Rattle.rdx_sexp.specs.Laws.{OneReading, OneFault, DataOrFault}
 use Rattle.rdx_sexp.specs.Print.{canonical_text}
 use Rattle.rdx_sexp.specs.Sexp.{Sexp}
 use Rattle.rdx_typeset.specs.Forms.{typeset_text}
+use Rattle.rdx_cli.specs.Laws.{SaysOne}
 use Rattle.rdx_cli.specs.Refusals.{read_line, form_line}
 use Rattle.rdx_cli.specs.Transcript.{AreData, IsUnread, too_long, at_fault, verdict_of}
 use Rattle.rdx_cli.specs.Transcript.{RunWrites, unread, refused, answered, last_line, WorkloadWrites, IsTranscript}
 use Rattle.rdx_cli.specs.Transcript.{TypesetWrites, unset, not_set, is_set, FormatWrites, unprinted, printed}
 use Rattle.rdx_cli.specs.declared.transcript.Verdict.{Verdict}
-use Rattle.rdx_cli.specs.Words.{Row, run, step, workload, typeset, format}
+use Rattle.rdx_cli.specs.Words.{Row, run, why, step, workload, typeset, format}
 
 module _ (one_reading : OneReading) (one_fault : OneFault) (data_or_fault : DataOrFault) (one_text : OneText) (one_refusal : OneRefusal) (never_both : NeverBothTextAndRefusal) (never_both_accepted : NeverBothAcceptedAndRefused) where
   -- ---- files
@@ -95,9 +96,11 @@ module _ (one_reading : OneReading) (one_fault : OneFault) (data_or_fault : Data
 
   -- ---- row by row of the table of words
 
-  pub one_transcript : (row : Row) (bytes t u : List ℕ) (v w : Verdict) → IsTranscript row bytes t v → IsTranscript row bytes u w → (t ≡ u) × (v ≡ w)
-  one_transcript run bytes t u v w a b = run_writes_once [] bytes t u v w a b
-  one_transcript (step cs) bytes t u v w a b = run_writes_once cs bytes t u v w a b
-  one_transcript (workload n) bytes t u v w a b = workload_writes_once n t u v w a b
-  one_transcript typeset bytes t u v w a b = typeset_writes_once bytes t u v w a b
-  one_transcript format bytes t u v w a b = format_writes_once bytes t u v w a b
+  pub one_transcript : (row : Row) (bytes t u : List ℕ) (v w : Verdict) → SaysOne row → IsTranscript row bytes t v → IsTranscript row bytes u w
+      → (t ≡ u) × (v ≡ w)
+  one_transcript run bytes t u v w o a b = run_writes_once [] bytes t u v w a b
+  one_transcript why bytes t u v w o a b = absurd o
+  one_transcript (step cs) bytes t u v w o a b = run_writes_once cs bytes t u v w a b
+  one_transcript (workload n) bytes t u v w o a b = workload_writes_once n t u v w a b
+  one_transcript typeset bytes t u v w o a b = typeset_writes_once bytes t u v w a b
+  one_transcript format bytes t u v w o a b = format_writes_once bytes t u v w a b

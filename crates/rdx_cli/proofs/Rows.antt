@@ -4,14 +4,15 @@ use Rattle.std.specs.Option.{IfSome, IfNone, IsNone}
 use Rattle.std.specs.declared.option.Option.{Option}
 use Rattle.rdx_cli.specs.Ends.{Transcribes}
 use Rattle.rdx_cli.specs.Inside.Rows.{Reads, TakenBy, Writes}
-use Rattle.rdx_cli.specs.Words.{FitsNoRow, run, step, workload, typeset, format}
+use Rattle.rdx_cli.specs.Words.{FitsNoRow, run, why, step, workload, typeset, format}
 use Rattle.rdx_cli.specs.declared.transcript.Verdict.{Verdict}
 use Rattle.rdx_cli.specs.declared.words.Row.{Row}
-use Rattle.rdx_cli.specs.declared.words.Row.TheVariants.{Run, Step, Workload, Typeset, Format}
+use Rattle.rdx_cli.specs.declared.words.Row.TheVariants.{Run, Why, Step, Workload, Typeset, Format}
 
 -- words that are a row of the code fit one of the table
 pub some_row : (words : List (List ℕ)) (row : Row) → Reads words row → FitsNoRow words → ⊥
 some_row words Run r f = f run r
+some_row words Why r f = f why r
 some_row words (Step choices) r f =
     let numbers = r.1.numbers_are in
     f (step r.1.numbers) (record { words_are = r.0 ∙ ap (λ ws. codes "step" ∷ ws) numbers.words_are; small = numbers.small })
@@ -29,6 +30,7 @@ none_fits words (Some row) r f = (λ n. absurd cc, λ g. absurd (some_row words 
 pub transcribes : (words : List (List ℕ)) (row : Row) (left rest : Option (List ℕ)) (bytes text : List ℕ) (verdict : Verdict) →
     Reads words row → TakenBy row left rest bytes → Writes row bytes text verdict → Transcribes words left rest text verdict
 transcribes words Run left rest bytes text verdict r t w = record { row = run; bytes = bytes; words_are = r; taken = t; transcript = w }
+transcribes words Why left rest bytes text verdict r t w = record { row = why; bytes = bytes; words_are = r; taken = t; transcript = w }
 transcribes words (Step choices) left rest bytes text verdict r t w =
     let numbers = w.choices_are in
     record {

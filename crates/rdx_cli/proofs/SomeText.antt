@@ -1,18 +1,19 @@
 -- Each file has a transcript.
 use Rattle.std.proofs.Common.{ℕ, ◌≤◌, ◌⊎◌, List, [], length, inl, inr, refl}
 use Rattle.std.proofs.lemmas.Bool.{cases_lt}
-use Rattle.rdx_query.specs.Laws.{SomeTextOrRefusal}
+use Rattle.rdx_query.specs.Laws.{SomeTextOrRefusal, EachTextIsExplained}
 use Rattle.rdx_query.specs.Laws as query
 use Rattle.rdx_answer.specs.Workload as file
+use Rattle.rdx_sexp.proofs.Sizes.{data_are_of_file_size}
 use Rattle.rdx_sexp.specs.Laws.{NeverNeither}
 use Rattle.rdx_sexp.specs.Sexp.{Sexp}
 use Rattle.rdx_cli.specs.Laws.{HasTranscript}
 use Rattle.rdx_cli.specs.Refusals.{read_line, form_line}
 use Rattle.rdx_cli.specs.Transcript.{AreData, IsUnread, too_long, at_fault, RunWrites, unread, refused, answered, verdict_of}
-use Rattle.rdx_cli.specs.Transcript.{unset, not_set, is_set, unprinted, printed}
+use Rattle.rdx_cli.specs.Transcript.{not_read, not_answered, explained, unset, not_set, is_set, unprinted, printed}
 use Rattle.rdx_cli.specs.declared.transcript.Verdict.{Verdict}
 use Rattle.rdx_cli.specs.declared.transcript.Verdict.TheVariants.{Done, Refused}
-use Rattle.rdx_cli.specs.Words.{Row, run, step, workload, typeset, format}
+use Rattle.rdx_cli.specs.Words.{Row, run, why, step, workload, typeset, format}
 
 -- the file is data
 record HasData (bytes : List ℕ) : Type 0 where
@@ -30,7 +31,8 @@ record IsRun (cs bytes : List ℕ) : Type 0 where
   verdict : Verdict
   written : RunWrites cs bytes text verdict
 
-module _ (data_or_fault : NeverNeither) (accepted_or_refused : query.NeverNeither) (some_text_or_refusal : SomeTextOrRefusal) where
+module _ (data_or_fault : NeverNeither) (accepted_or_refused : query.NeverNeither) (some_text_or_refusal : SomeTextOrRefusal)
+    (each_explained : EachTextIsExplained) where
   -- what is not too long is data, or has a first fault
   of_file : (bytes : List ℕ) → length bytes ≤ 1048576 → HasLine bytes ⊎ HasData bytes
   of_file bytes h = elim (data_or_fault bytes) [
@@ -60,6 +62,23 @@ module _ (data_or_fault : NeverNeither) (accepted_or_refused : query.NeverNeithe
     | inr d ↦ run_data cs bytes d.data_are d.read
   ]
 
+  -- ---- with derivations
+
+  -- data are answered with derivations, or have a form that is refused
+  why_data : (bytes : List ℕ) (ds : List Sexp) → AreData bytes ds → HasTranscript why bytes
+  why_data bytes ds a = elim (some_text_or_refusal ds []) [
+    | inl w ↦
+        let e = each_explained ds w.text w.met (data_are_of_file_size bytes ds a.limit a.read) w.written in
+        record { text = e.text; verdict = verdict_of w.met; transcript = explained ds w.met a e.written refl }
+    | inr r ↦ record { text = form_line r.refusal; verdict = Refused; transcript = not_answered ds r.refusal a r.refused refl refl }
+  ]
+
+  why_bytes : (bytes : List ℕ) → HasTranscript why bytes
+  why_bytes bytes = elim (of_bytes bytes) [
+    | inl l ↦ record { text = l.line; verdict = Refused; transcript = not_read l.says refl }
+    | inr d ↦ why_data bytes d.data_are d.read
+  ]
+
   -- ---- typeset and canonical text
 
   -- data are accepted, or have a form that is refused
@@ -85,6 +104,7 @@ module _ (data_or_fault : NeverNeither) (accepted_or_refused : query.NeverNeithe
 
   pub some_transcript : (row : Row) (bytes : List ℕ) → HasTranscript row bytes
   some_transcript run bytes = let r = run_bytes [] bytes in record { text = r.text; verdict = r.verdict; transcript = r.written }
+  some_transcript why bytes = why_bytes bytes
   some_transcript (step cs) bytes = let r = run_bytes cs bytes in record { text = r.text; verdict = r.verdict; transcript = r.written }
   some_transcript (workload n) bytes =
       let r = run_bytes [] (file.workload n) in

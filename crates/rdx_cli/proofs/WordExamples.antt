@@ -2,7 +2,7 @@
 use Rattle.std.proofs.Common.{◌≡◌, ℕ, zero, suc, ◌<◌, ◌≤◌, List, [], ◌∷◌, ◌++◌, get_or, codes, decimal, refl, ap, sym, ◌∙◌, subst, arith}
 use Rattle.std.proofs.lemmas.Fmt.{decimal_digit, decimal_step, decimal_injective, first_decimal}
 use Rattle.rdx_cli.specs.Examples.{StepAlone, MostTests, NoWords, WordsBehindRun, ZeroInFront, NoTests, TooManyTests}
-use Rattle.rdx_cli.specs.Words.{run, step, workload, typeset, format, FitsNoRow}
+use Rattle.rdx_cli.specs.Words.{run, why, step, workload, typeset, format, FitsNoRow}
 
 -- ---- decimals
 
@@ -30,6 +30,7 @@ most_tests = record { words_are = ap (λ (l : List ℕ). codes "workload" ∷ l 
 
 pub no_words : NoWords
 no_words run h = absurd cc
+no_words why h = absurd cc
 no_words (step cs) h = let e = h.words_are in absurd cc
 no_words (workload n) h = let e = h.words_are in absurd cc
 no_words typeset h = absurd cc
@@ -37,6 +38,7 @@ no_words format h = absurd cc
 
 pub words_behind_run : WordsBehindRun
 words_behind_run run h = absurd cc
+words_behind_run why h = absurd cc
 words_behind_run (step cs) h = let e = h.words_are in absurd cc
 words_behind_run (workload n) h = let e = h.words_are in absurd cc
 words_behind_run typeset h = absurd cc
@@ -52,6 +54,7 @@ zero_one (suc n) small e =
 
 pub zero_in_front : ZeroInFront
 zero_in_front run h = absurd cc
+zero_in_front why h = absurd cc
 zero_in_front (step []) h = let e = h.words_are in absurd cc
 zero_in_front (step (n ∷ cs)) h = let e = h.words_are in let s = h.small.0 in zero_one n s cc
 zero_in_front (workload n) h = let e = h.words_are in absurd cc
@@ -61,6 +64,7 @@ zero_in_front format h = absurd cc
 -- `workload` and a number below 1 or above 2,000 are no row
 not_tests : (word : List ℕ) (m : ℕ) → decimal m ≡ word → m < 1_000_000_000 → (1 ≤ m → m ≤ 2000 → ⊥) → FitsNoRow (codes "workload" ∷ word ∷ [])
 not_tests word m d small out run h = absurd cc
+not_tests word m d small out why h = absurd cc
 not_tests word m d small out (step cs) h = let e = h.words_are in absurd cc
 not_tests word m d small out (workload n) h =
     let e = h.words_are in

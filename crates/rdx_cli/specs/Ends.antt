@@ -3,7 +3,7 @@ use Rattle.std.specs.Prelude.{◌≡◌, ℕ, List, []}
 use Rattle.std.specs.declared.option.Option.{Option}
 use Rattle.rdx_base.specs.Putting.{Gains, GainsPrefix}
 use Rattle.rdx_cli.specs.Reading.{IsRead}
-use Rattle.rdx_cli.specs.Words.{Row, run, step, workload, typeset, format, ReadsAs}
+use Rattle.rdx_cli.specs.Words.{Row, run, why, step, workload, typeset, format, ReadsAs}
 use Rattle.rdx_cli.specs.Transcript.{IsTranscript}
 use Rattle.rdx_cli.specs.declared.transcript.Verdict.{Verdict}
 use Rattle.rdx_cli.specs.declared.transcript.Verdict.TheVariants as verdict
@@ -53,6 +53,7 @@ IsSilent NoMemory = Unit {0}
 -- the bytes are those that the row asks the source for: a file, or none for the workload, which leaves the source as it is
 abbrev pub Takes : Row → Option (List ℕ) → Option (List ℕ) → List ℕ → Type 0
 Takes run left rest bytes = IsRead left rest bytes
+Takes why left rest bytes = IsRead left rest bytes
 Takes (step cs) left rest bytes = IsRead left rest bytes
 Takes (workload n) left rest bytes = (rest ≡ left) × (bytes ≡ [])
 Takes typeset left rest bytes = IsRead left rest bytes

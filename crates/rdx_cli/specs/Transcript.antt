@@ -4,7 +4,7 @@ use Rattle.rdx_sexp.specs.Reads.{Reads, FirstFault}
 use Rattle.rdx_sexp.specs.Sexp.{Sexp}
 use Rattle.rdx_sexp.specs.declared.fault.ReadRefusal.{ReadRefusal}
 use Rattle.rdx_patterns.specs.Refusal.{Refusal}
-use Rattle.rdx_query.specs.Writing.{Writes}
+use Rattle.rdx_query.specs.Writing.{Writes, WritesWhy}
 use Rattle.rdx_query.specs.File.{IsFile, IsFileRefusal}
 use Rattle.rdx_sexp.specs.Print.{canonical_text}
 use Rattle.rdx_typeset.specs.Forms.{typeset_text}
@@ -14,7 +14,7 @@ use Rattle.rdx_answer.specs.Workload as file
 use Rattle.rdx_cli.specs.Refusals.{read_line, form_line}
 use Rattle.rdx_cli.specs.declared.transcript.Verdict.{Verdict}
 use Rattle.rdx_cli.specs.declared.transcript.Verdict.TheVariants.{Done, Unmet, Refused}
-use Rattle.rdx_cli.specs.Words.{Row, run, step, workload, typeset, format}
+use Rattle.rdx_cli.specs.Words.{Row, run, why, step, workload, typeset, format}
 
 -- the file is not too long, and its bytes are these data
 pub record AreData (bytes : List ℕ) (ds : List Sexp) : Type 0 where
@@ -37,6 +37,13 @@ pub data RunWrites (cs bytes text : List ℕ) (verdict : Verdict) : Type 0 where
   unread : IsUnread bytes text → verdict ≡ Refused → RunWrites cs bytes text verdict
   refused : (ds : List Sexp) (r : Refusal) → AreData bytes ds → IsFileRefusal ds r → text ≡ form_line r → verdict ≡ Refused → RunWrites cs bytes text verdict
   answered : (ds : List Sexp) (met : Bool) → AreData bytes ds → Writes ds cs text met → verdict ≡ verdict_of met → RunWrites cs bytes text verdict
+
+-- What is written for a file that is run, with derivations of what is found. A file that is not answered has the line that a run writes of it.
+pub data WhyWrites (bytes text : List ℕ) (verdict : Verdict) : Type 0 where
+  not_read : IsUnread bytes text → verdict ≡ Refused → WhyWrites bytes text verdict
+  not_answered : (ds : List Sexp) (r : Refusal) → AreData bytes ds → IsFileRefusal ds r → text ≡ form_line r → verdict ≡ Refused
+      → WhyWrites bytes text verdict
+  explained : (ds : List Sexp) (met : Bool) → AreData bytes ds → WritesWhy ds text met → verdict ≡ verdict_of met → WhyWrites bytes text verdict
 
 -- What is written for a file that is typeset. A file that is no data, or has a form that is refused, has the line that a run writes of it. Every other
 -- file has the typeset text of its forms.
@@ -71,6 +78,7 @@ pub record WorkloadWrites (n : ℕ) (text : List ℕ) (verdict : Verdict) : Type
 -- the text that is written for a file and the verdict on it, row by row of the table of words; the workload has a file of its own
 abbrev pub IsTranscript : Row → List ℕ → List ℕ → Verdict → Type 0
 IsTranscript run bytes text verdict = RunWrites [] bytes text verdict
+IsTranscript why bytes text verdict = WhyWrites bytes text verdict
 IsTranscript (step cs) bytes text verdict = RunWrites cs bytes text verdict
 IsTranscript (workload n) bytes text verdict = WorkloadWrites n text verdict
 IsTranscript typeset bytes text verdict = TypesetWrites bytes text verdict

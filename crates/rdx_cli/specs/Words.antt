@@ -2,10 +2,12 @@
 use Rattle.std.specs.Prelude.{◌≡◌, ◌<◌, ◌≤◌, ℕ, List, [], ◌∷◌, map, codes, decimal, string_bytes, String}
 use Rattle.std.specs.declared.alloc.Global.{Global}
 
--- a row of the table: to run the file that is read; to run it so that walks go by these choices; to run the workload with so many tests; or to
+-- a row of the table: to run the file that is read; to run it and explain what is found by derivations; to run it so that walks go by these
+-- choices; to run the workload with so many tests; or to
 -- typeset the file that is read, or print its data in canonical text
 pub data Row : Type 0 where
   run : Row
+  why : Row
   step : List ℕ → Row
   workload : ℕ → Row
   typeset : Row
@@ -34,6 +36,7 @@ pub record ReadsAsWorkload (words : List (List ℕ)) (n : ℕ) : Type 0 where
 -- these words are this row of the table
 abbrev pub ReadsAs : List (List ℕ) → Row → Type 0
 ReadsAs words run = words ≡ codes "run" ∷ []
+ReadsAs words why = words ≡ codes "why" ∷ []
 ReadsAs words (step choices) = ReadsAsStep words choices
 ReadsAs words (workload n) = ReadsAsWorkload words n
 ReadsAs words typeset = words ≡ codes "typeset" ∷ []

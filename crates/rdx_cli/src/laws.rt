@@ -1,6 +1,6 @@
 //! Laws of the definitions: functions that do nothing, whose contracts are the laws.
 ghost use Rattle.rdx_cli.specs.Examples as example;
-ghost use Rattle.rdx_cli.specs.Laws.{OneFile, OneOutcome, OneRow, OneTranscript, SomeTranscript};
+ghost use Rattle.rdx_cli.specs.Laws.{OneFile, OneOutcome, OneRow, OneTranscript, SomeTranscript, WhyIsRun};
 
 /// Words are one row of the table at most.
 pub fn one_row()
@@ -12,7 +12,7 @@ pub fn one_file()
     ensures { OneFile }
 {}
 
-/// For each row of the table a file has one transcript and one verdict at most.
+/// For each row of the table but `why` a file has one transcript and one verdict at most.
 pub fn one_transcript()
     ensures { OneTranscript }
 {
@@ -25,8 +25,8 @@ pub fn one_transcript()
     rdx_query::laws::never_both_accepted_and_refused();
 }
 
-/// Where a source tells what it has left, words ask for one text and one verdict at most, and leave
-/// one rest of the source.
+/// Where a source tells what it has left, words other than `why` ask for one text and one verdict at
+/// most, and leave one rest of the source.
 pub fn one_outcome()
     ensures { OneOutcome }
 {
@@ -42,7 +42,14 @@ pub fn some_transcript()
     rdx_sexp::laws::never_neither();
     rdx_query::laws::never_neither();
     rdx_query::laws::some_text_or_refusal();
+    rdx_query::laws::each_text_is_explained();
 }
+
+/// What is written for `why` is what a run writes, with derivations behind its lines, and the verdict
+/// is that of the run.
+pub fn why_is_run()
+    ensures { WhyIsRun }
+{}
 
 /// What some files write, and what some words ask for, as the definitions have it.
 pub fn worked_examples()

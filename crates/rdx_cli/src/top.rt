@@ -116,7 +116,7 @@ fn take_for<S: Source>(alloc: Global, row: &Row<'_>, source: &mut S) -> Result<V
         → Rose (S.faults source.old) (S.faults source.new) }
 {
     match row {
-        Row::Run | Row::Step(_) | Row::Typeset | Row::Format => read_file(alloc, source),
+        Row::Run | Row::Why | Row::Step(_) | Row::Typeset | Row::Format => read_file(alloc, source),
         Row::Workload(_) => Ok(Vec::new(alloc)),
     }
 }

@@ -1,8 +1,7 @@
 // The transcript of a file, made in memory.
 ghost use Rattle.std.specs.Prelude.{◌≡◌, ◌≤◌, ◌++◌, IfOk, codes, decimal, drop, length};
-ghost use Rattle.rdx_answer.specs.Views.{choices_of};
-ghost use Rattle.rdx_cli.specs.Inside.Rows.{IsFit, Writes};
-ghost use Rattle.rdx_cli.specs.Transcript.{FormatWrites, RunWrites, TypesetWrites, WorkloadWrites, last_line, verdict_of};
+ghost use Rattle.rdx_cli.specs.Inside.Rows.{IsFit, Writes, WritesIn};
+ghost use Rattle.rdx_cli.specs.Transcript.{FormatWrites, TypesetWrites, WorkloadWrites, last_line, verdict_of};
 
 use crate::contents::{Contents, contents_of};
 use crate::refusals::form_line;
@@ -47,6 +46,7 @@ pub fn transcript_of(
 {
     match row {
         Row::Run => run_transcript(alloc, bytes, host, &Mode::Run),
+        Row::Why => run_transcript(alloc, bytes, host, &Mode::Why),
         Row::Step(words) => {
             let mode = Mode::Step(numbers_in(alloc, words)?);
             run_transcript(alloc, bytes, host, &mode)
@@ -57,14 +57,14 @@ pub fn transcript_of(
     }
 }
 
-// The answers to the queries of a file, or the line that says why it is refused.
+// The answers to the queries of a file in this mode, or the line that says why it is refused.
 fn run_transcript(
     alloc: Global,
     bytes: &[u8],
     host: &HostTable,
     mode: &Mode,
 ) -> Result<Transcript, NoMemory>
-    ensures { IfOk result (λ t. RunWrites (choices_of mode.now) bytes.now t.text.items t.verdict) }
+    ensures { IfOk result (λ t. WritesIn mode.now bytes.now t.text.items t.verdict) }
 {
     let data = match contents_of(alloc, bytes)? {
         Contents::Data(data) => data,

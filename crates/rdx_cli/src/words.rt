@@ -16,6 +16,8 @@ pub enum Row<'a> {
     Step(&'a [String]),
     /// To run the workload with so many tests.
     Workload(u32),
+    /// To write the transcript of the file with derivations.
+    Why,
     /// To write the typeset text of the file.
     Typeset,
     /// To write the canonical text of its data.
@@ -91,6 +93,7 @@ fn row_with<'a>(first: &str, others: &'a [String]) -> Option<Row<'a>>
             [word] => Some(Row::Workload(tests_in(word.as_str())?)),
             _ => None,
         },
+        "why" if others.is_empty() => Some(Row::Why),
         "typeset" if others.is_empty() => Some(Row::Typeset),
         "fmt" if others.is_empty() => Some(Row::Format),
         _ => None,

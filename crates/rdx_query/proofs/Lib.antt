@@ -21,3 +21,4 @@ pub mod OptionNumbers
 pub mod ValidAsked
 pub mod AcceptedLanguages
 pub mod ValidFiles
+pub mod Explainable

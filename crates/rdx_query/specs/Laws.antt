@@ -1,5 +1,5 @@
 -- What follows from the definitions, stated for the contracts of the module of laws.
-use Rattle.std.specs.Prelude.{◌≡◌, ◌⊎◌, ℕ, Bool, List, IsTrue}
+use Rattle.std.specs.Prelude.{◌≡◌, ◌⊎◌, ℕ, Bool, List, [], IsTrue}
 use Rattle.rdx_sexp.specs.Sexp.{Sexp}
 use Rattle.rdx_sexp.specs.Size.{AreFileData}
 use Rattle.rdx_lang.specs.Members.{In}
@@ -9,9 +9,10 @@ use Rattle.rdx_lang.specs.Valid.{is_valid}
 use Rattle.rdx_lang.specs.WellFormed.{IsWellFormed}
 use Rattle.rdx_eval.specs.Laws.{AreFree}
 use Rattle.rdx_patterns.specs.Refusal.{Refusal}
-use Rattle.rdx_query.specs.Writing.{Writes}
+use Rattle.rdx_query.specs.Writing.{Writes, WritesWhy}
 use Rattle.rdx_query.specs.File.{IsFile, IsFileRefusal}
 use Rattle.rdx_reduce.specs.ClosureLaws.{LeavesAName}
+use Rattle.rdx_answer.specs.Explained.{said_text}
 use Rattle.rdx_answer.specs.Queries.{Query}
 use Rattle.rdx_query.specs.ValidQueries.{are_valid_queries}
 
@@ -83,3 +84,13 @@ pub record DoWrite (ds : List Sexp) (cs : List ℕ) : Type 0 where
 -- data write some text or are refused: each query that is accepted has an answer, whatever the choices
 abbrev pub SomeTextOrRefusal : Type 0
 SomeTextOrRefusal = (ds : List Sexp) (cs : List ℕ) → DoWrite ds cs ⊎ AreRefused ds
+
+-- the data write this text with derivations too: it is a text with derivations that is the other one without them
+pub record DoExplain (ds : List Sexp) (plain : List ℕ) (met : Bool) : Type 0 where
+  pub text : List ℕ
+  pub written : WritesWhy ds text met
+  pub said : said_text written.explained.parts ≡ plain
+
+-- data of a file that write a text as they are run write it with derivations
+abbrev pub EachTextIsExplained : Type 0
+EachTextIsExplained = (ds : List Sexp) (plain : List ℕ) (met : Bool) → AreFileData ds → Writes ds [] plain met → DoExplain ds plain met

@@ -1,5 +1,5 @@
 //! Laws of the definitions: functions that do nothing, whose contracts are the laws.
-ghost use Rattle.rdx_query.specs.Laws.{OneMeaning, AcceptedIsValid, AcceptedLanguagesAreWellFormed, AcceptedLanguagesAreFree, AcceptedQueriesAreValid, AcceptedLeaveNames, OneText, OneRefusal, NeverBothAcceptedAndRefused, NeverBothTextAndRefusal, NeverNeither, SomeTextOrRefusal};
+ghost use Rattle.rdx_query.specs.Laws.{EachTextIsExplained, OneMeaning, AcceptedIsValid, AcceptedLanguagesAreWellFormed, AcceptedLanguagesAreFree, AcceptedQueriesAreValid, AcceptedLeaveNames, OneText, OneRefusal, NeverBothAcceptedAndRefused, NeverBothTextAndRefusal, NeverNeither, SomeTextOrRefusal};
 ghost use Rattle.rdx_query.specs.Examples as example;
 
 /// The data of a file define one program and ask one list of queries at most.
@@ -63,6 +63,13 @@ pub fn some_text_or_refusal()
     rdx_reduce::laws::one_stepping();
     rdx_run::laws::some_walk();
     rdx_gen::laws::some_answer();
+}
+
+/// Each text that data write as they are run they write with derivations too.
+pub fn each_text_is_explained()
+    ensures { EachTextIsExplained }
+{
+    rdx_answer::laws::each_answer_is_explained();
 }
 
 /// The examples of `specs/Examples.antt` hold.

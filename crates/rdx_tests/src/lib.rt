@@ -14,6 +14,8 @@ mod data;
 #[cfg(test)]
 mod definitions;
 #[cfg(test)]
+mod derivations;
+#[cfg(test)]
 mod ends;
 #[cfg(test)]
 mod generated;

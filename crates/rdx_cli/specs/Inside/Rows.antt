@@ -1,12 +1,14 @@
 -- Rows of the table, as the code has them.
 use Rattle.std.specs.Prelude.{◌≡◌, ◌<◌, ◌≤◌, ℕ, List, [], ◌∷◌, map, codes, decimal}
 use Rattle.std.specs.declared.option.Option.{Option}
+use Rattle.rdx_answer.specs.declared.answers.Mode.{Mode}
+use Rattle.rdx_answer.specs.declared.answers.Mode.TheVariants as mode
 use Rattle.rdx_cli.specs.Reading.{IsRead}
-use Rattle.rdx_cli.specs.Words.{run, workload, typeset, format, AreSmall, ReadsAs, texts}
-use Rattle.rdx_cli.specs.Transcript.{FormatWrites, RunWrites, TypesetWrites, WorkloadWrites}
+use Rattle.rdx_cli.specs.Words.{run, why, workload, typeset, format, AreSmall, ReadsAs, texts}
+use Rattle.rdx_cli.specs.Transcript.{FormatWrites, RunWrites, TypesetWrites, WhyWrites, WorkloadWrites}
 use Rattle.rdx_cli.specs.declared.transcript.Verdict.{Verdict}
 use Rattle.rdx_cli.specs.declared.words.Row.{Row}
-use Rattle.rdx_cli.specs.declared.words.Row.TheVariants.{Run, Step, Workload, Typeset, Format}
+use Rattle.rdx_cli.specs.declared.words.Row.TheVariants.{Run, Why, Step, Workload, Typeset, Format}
 
 -- ---- words
 
@@ -40,6 +42,7 @@ pub record AreTests (word : List ℕ) (n : ℕ) : Type 0 where
 -- the words are this row
 abbrev pub Reads : List (List ℕ) → Row → Type 0
 Reads words Run = ReadsAs words run
+Reads words Why = ReadsAs words why
 Reads words (Step choices) = (words ≡ codes "step" ∷ texts choices.now) × AreSomeNumbers (texts choices.now)
 Reads words (Workload n) = ReadsAs words (workload n)
 Reads words Typeset = ReadsAs words typeset
@@ -48,6 +51,7 @@ Reads words Format = ReadsAs words format
 -- what the row carries is what the table asks for
 abbrev pub IsFit : Row → Type 0
 IsFit Run = Unit {0}
+IsFit Why = Unit {0}
 IsFit (Step choices) = AreSomeNumbers (texts choices.now)
 IsFit (Workload n) = (1 ≤ n) × (n ≤ 2000)
 IsFit Typeset = Unit {0}
@@ -56,6 +60,7 @@ IsFit Format = Unit {0}
 -- it is that of the workload
 abbrev pub IsWorkload : Row → Type 0
 IsWorkload Run = ⊥
+IsWorkload Why = ⊥
 IsWorkload (Step choices) = ⊥
 IsWorkload (Workload n) = Unit {0}
 IsWorkload Typeset = ⊥
@@ -64,6 +69,7 @@ IsWorkload Format = ⊥
 -- the bytes are those that the row asks the source for
 abbrev pub TakenBy : Row → Option (List ℕ) → Option (List ℕ) → List ℕ → Type 0
 TakenBy Run left rest bytes = IsRead left rest bytes
+TakenBy Why left rest bytes = IsRead left rest bytes
 TakenBy (Step choices) left rest bytes = IsRead left rest bytes
 TakenBy (Workload n) left rest bytes = (rest ≡ left) × (bytes ≡ [])
 TakenBy Typeset left rest bytes = IsRead left rest bytes
@@ -75,9 +81,16 @@ pub record StepWrites (words : List (List ℕ)) (bytes text : List ℕ) (verdict
   pub choices_are : AreNumbers words choices
   pub written : RunWrites choices bytes text verdict
 
+-- what is written for a file that is answered in this mode
+abbrev pub WritesIn : Mode → List ℕ → List ℕ → Verdict → Type 0
+WritesIn mode.Run bytes text verdict = RunWrites [] bytes text verdict
+WritesIn (mode.Step choices) bytes text verdict = RunWrites choices.items bytes text verdict
+WritesIn mode.Why bytes text verdict = WhyWrites bytes text verdict
+
 -- what the row writes for a file of these bytes
 abbrev pub Writes : Row → List ℕ → List ℕ → Verdict → Type 0
 Writes Run bytes text verdict = RunWrites [] bytes text verdict
+Writes Why bytes text verdict = WhyWrites bytes text verdict
 Writes (Step choices) bytes text verdict = StepWrites (texts choices.now) bytes text verdict
 Writes (Workload n) bytes text verdict = WorkloadWrites n text verdict
 Writes Typeset bytes text verdict = TypesetWrites bytes text verdict

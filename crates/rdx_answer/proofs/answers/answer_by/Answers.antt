@@ -8,10 +8,10 @@ use Rattle.rdx_answer.specs.Inside.Appending.{AppendsAnswer}
 use Rattle.rdx_answer.specs.Inside.Counting.{counts_of}
 use Rattle.rdx_answer.specs.Queries.{NamesKnown}
 use Rattle.rdx_answer.specs.Tests.{Counts}
-use Rattle.rdx_answer.specs.Views.{program_in, choices_of, query_of}
+use Rattle.rdx_answer.specs.Views.{program_in, query_of}
 use Rattle.rdx_answer.proofs.Upto.{Upto, total, total-behind, upto_named, upto_next, upto_end}
-use Rattle.rdx_answer.proofs.answers.answer.Goals.{then-met, else-met}
-use Rattle.rdx_answer.proofs.answers.answer.Goals as goal
+use Rattle.rdx_answer.proofs.answers.answer_by.Goals.{then-met, else-met}
+use Rattle.rdx_answer.proofs.answers.answer_by.Goals as goal
 
 pub write_answer-requires-clause-known : goal.write_answer-requires-clause-known
 write_answer-requires-clause-known g c =
@@ -21,13 +21,13 @@ write_answer-requires-clause-known g c =
     let q = c.query-item.result in
     let v = c.deref-query-items.ensures.value in
     subst (λ (p : Program). NamesKnown (program_of p) (query_of q)) (sym c.loop-query.invariant.program)
-    (upto_named P (choices_of c.args.mode.now) all i q (counts_of c.loop-query.counts) c.loop-query.transcript.items c.loop-query.met
+    (upto_named P c.args.choices.now all i q (counts_of c.loop-query.counts) c.loop-query.transcript.items c.loop-query.met
     (subst (λ qs. i < length qs) v c.loop-query-test.true) (subst (λ qs. q ≡ get_or qs i q) v c.query-item.is) c.loop-query.invariant.upto)
 
 pub loop-query-preserved : goal.loop-query-preserved
 loop-query-preserved g c =
     let P = program_in c.args.file.now in
-    let cs : List ℕ = choices_of c.args.mode.now in
+    let cs : List ℕ = c.args.choices.now in
     let all = c.args.file.now.queries.items in
     let i = c.loop-query.query-index in
     let q = c.query-item.result in
@@ -41,9 +41,8 @@ loop-query-preserved g c =
     ]
     in
     let appended : AppendsAnswer P cs n (query_of q) c.loop-query.transcript.items c.write_answer.new.out.items m =
-    subst (λ (ds : List ℕ). AppendsAnswer P ds n (query_of q) c.loop-query.transcript.items c.write_answer.new.out.items m) c.choices-choices.ensures
-    (subst (λ (p : Program). AppendsAnswer (program_of p) c.choices-choices.result.now n (query_of q) c.loop-query.transcript.items c.write_answer.new.out.items m)
-    c.loop-query.invariant.program c.in_ok-is_met.ensures.answer) in
+    subst (λ (p : Program). AppendsAnswer (program_of p) cs n (query_of q) c.loop-query.transcript.items c.write_answer.new.out.items m)
+    c.loop-query.invariant.program c.in_ok-is_met.ensures.answer in
     let behind : counts_of c.counts_behind-counts.result ≡ counts_behind (query_of q) m n = c.counts_behind-counts.ensures in
     let few : total (counts_of c.counts_behind-counts.result) ≤ total n + 1 = subst (λ (k : Counts). total k ≤ total n + 1) (sym behind) (total-behind (query_of q) m n) in
     record {
@@ -59,5 +58,5 @@ pub returns : goal.returns
 returns g c =
     let all = c.args.file.now.queries.items in
     let l : length c.deref-query-items.result.now ≡ length all = ap length c.deref-query-items.ensures.value in
-    upto_end (program_in c.args.file.now) (choices_of c.args.mode.now) all c.loop-query.query-index (counts_of c.loop-query.counts)
+    upto_end (program_in c.args.file.now) c.args.choices.now all c.loop-query.query-index (counts_of c.loop-query.counts)
     c.loop-query.transcript.items c.loop-query.met (omega (arith, l, c.loop-query-test.false)) c.loop-query.invariant.upto
