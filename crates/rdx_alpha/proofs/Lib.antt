@@ -1,0 +1,17 @@
+pub mod NameFacts
+pub mod Roles
+pub mod NewNames
+pub mod Agreement
+pub mod Renaming
+pub mod OneName
+pub mod AllNames
+pub mod NothingCaptured
+pub mod TheRule
+pub mod Lengths
+pub mod Befores
+pub mod Marking
+pub mod Sameness
+pub mod Distinct
+pub mod Arounds
+pub mod WorkedExamples
+pub mod WrittenForms

@@ -1,0 +1,7 @@
+use Rattle.std.proofs.Common.{arith}
+use Rattle.std.proofs.lemmas.Grind.{common_steps}
+use Rattle.rdx_patterns.proofs.Sexps.{listed-sexps}
+use Rattle.rdx_alpha.proofs.binders.add_binders.Goals as goal
+
+pub returns-in-List : goal.returns-in-List
+returns-in-List c = grind (arith, common_steps, listed-sexps)

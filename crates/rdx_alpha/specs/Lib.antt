@@ -1,0 +1,15 @@
+pub mod Forms
+pub mod Instances
+pub mod Binding
+pub mod Free
+pub mod Nameless
+pub mod Substitution
+pub mod Marks
+pub mod Laws
+pub mod Examples
+pub mod View
+pub mod Inside
+pub mod Answers
+pub mod Written
+pub mod Checks
+pub mod Reading
