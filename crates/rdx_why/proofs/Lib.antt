@@ -7,6 +7,7 @@ pub mod Frames
 pub mod HoleLoops
 pub mod HoleSteps
 pub mod InnerSteps
+pub mod KnownContexts
 pub mod LaidBehind
 pub mod LaidGoals
 pub mod LaidItems

@@ -21,6 +21,7 @@ ghost use Rattle.rdx_opened.specs.Seeking.{IsWanted, marks_of};
 ghost use Rattle.rdx_why.specs.Inside.Steps.{IsKnown, IsStep, goals_in};
 ghost use Rattle.rdx_deriv.specs.Uses.{IsMatchUse, IsSplitUse};
 
+use crate::along::{named_context, part_along};
 use crate::step::Step;
 use rdx_bind::is_same;
 use rdx_bind::naming::Naming;
@@ -407,6 +408,10 @@ fn find_hole<M: Matcher + Drop>(
     ensures inner { IfOk result (λ h. IsSeen (Match (language_in language.now)
         (pattern_of right.now) (tree_of h.part)) (binding_of sides.now.inner)) }
 {
+    if let Some(context) = named_context(left, &sides.outer) {
+        let part = part_along(alloc, context, t)?;
+        return hole_at(context, part);
+    }
     let question = asked(alloc, language, left)?;
     let found = finder.splits(language, &question, t)?;
     for outer in &found {
@@ -638,6 +643,11 @@ fn find_holes<M: Matcher + Drop>(
     ensures filled { IfOk result (λ h. tree_of context.now
         ≡ fill_of (tree_of h.first) (tree_of h.second)) }
 {
+    if let Some(first) = named_context(left, &sides.outer) {
+        let middle = part_along(alloc, first, t)?;
+        let second = part_along(alloc, first, context)?.share()?;
+        return holes_at(first, second, middle);
+    }
     let question = asked(alloc, language, left)?;
     let found = finder.splits(language, &question, t)?;
     for outer in &found {

@@ -1,6 +1,7 @@
 //! Why a pattern matches a term or splits it so, and why a judgement holds: finds derivations by the rules, and tests and prints them.
 #![tactic(auto)]
 
+mod along;
 mod choosing;
 mod descending;
 mod explaining;
