@@ -9,6 +9,7 @@ ghost use Rattle.rdx_eval.specs.Views as engines;
 ghost use Rattle.rdx_deriv.specs.Derivations as goals;
 ghost use Rattle.rdx_deriv.specs.DerivationView.{goal_of};
 ghost use Rattle.rdx_why.specs.Explaining.{Explains};
+ghost use Rattle.rdx_why.specs.Finders.{known_in};
 ghost use Rattle.rdx_answer.specs.AnswerText as text;
 ghost use Rattle.rdx_answer.specs.Explained.{IsExplainable, ShowMatches, ShowSplits, WritesExplained};
 ghost use Rattle.rdx_answer.specs.Inside.Counting.{counts_of};
@@ -32,7 +33,7 @@ use rdx_eval::{Engine, EvalFault};
 use rdx_lang::{Binding, CheckedPat, HostExpr, Split};
 use rdx_table::Table;
 use rdx_term::{Name, NoMemory, Term};
-use rdx_why::explain;
+use rdx_why::{Finder, explain_known};
 use std::alloc::Global;
 
 /// The answers to the queries of a file, with derivations, and whether all is met that it states.
@@ -47,7 +48,7 @@ pub(crate) fn answer_explained(
         (queries_of file.now) a.transcript.items a.met) }
 {
     let mut engine = Engine::new(alloc, &file.program, host, Table::new(alloc)?);
-    let mut finder = Table::new(alloc)?;
+    let mut finder = Finder::new(alloc, &file.program, Table::new(alloc)?);
     let mut transcript = Vec::new(alloc);
     let mut counts = no_counts();
     let mut met = true;
@@ -92,7 +93,7 @@ fn is_shown(query: &Query) -> bool
 fn write_explained(
     alloc: Global,
     engine: &mut Engine<Table>,
-    finder: &mut Table,
+    finder: &mut Finder<Table>,
     counts: Counts,
     query: &Query,
     out: &mut Vec<u8>,
@@ -100,10 +101,12 @@ fn write_explained(
     requires shown { IsShowableQuery (program_of (engines.program_in engine.old).now)
         (query_of query.now) }
     requires few { counts.passed + counts.failed < 2 ^ 63 }
+    requires finder { (known_in finder.old).now ≡ (engines.program_in engine.old).now }
     ensures answer { IfOk result (λ met. GainsAnswer
         (program_of (engines.program_in engine.old).now) (counts_of counts) (query_of query.now)
         out.old.items out.new.items met) }
     ensures same { engines.program_in engine.new ≡ engines.program_in engine.old }
+    ensures kept { known_in finder.new ≡ known_in finder.old }
 {
     if !is_shown(query) {
         return write_answer(alloc, engine, &[], counts, query, out);
@@ -122,16 +125,18 @@ fn write_explained(
 fn show(
     alloc: Global,
     engine: &mut Engine<Table>,
-    finder: &mut Table,
+    finder: &mut Finder<Table>,
     query: &Query,
     out: &mut Vec<u8>,
 ) -> Result<(), EvalFault>
     requires shown { IsShowableQuery (program_of (engines.program_in engine.old).now)
         (query_of query.now) }
     requires kind { IsTrue (explaining.is_shown (query_of query.now)) }
+    requires finder { (known_in finder.old).now ≡ (engines.program_in engine.old).now }
     ensures answer { TriesParts (program_of (engines.program_in engine.old).now)
         (query_of query.now) out.old.items out.new.items result }
     ensures same { engines.program_in engine.new ≡ engines.program_in engine.old }
+    ensures kept { known_in finder.new ≡ known_in finder.old }
 {
     match query {
         Query::Match(name, pat, host) => {
@@ -164,20 +169,21 @@ fn show(
 pub(crate) fn write_derivation(
     alloc: Global,
     engine: &mut Engine<Table>,
-    finder: &mut Table,
+    finder: &mut Finder<Table>,
     goal: &Goal,
     out: &mut Vec<u8>,
 ) -> Result<(), NoMemory>
-    requires { HasExplanation (program_of (engines.program_in engine.old).now) (goal_of goal.now) }
+    requires there { HasExplanation (program_of (engines.program_in engine.old).now)
+        (goal_of goal.now) }
+    requires finder { (known_in finder.old).now ≡ (engines.program_in engine.old).now }
     ensures gained { OnOk result (GainsDerivation
         (program_of (engines.program_in engine.old).now) (goal_of goal.now) out.old.items
         out.new.items) }
     ensures same { engines.program_in engine.new ≡ engines.program_in engine.old }
+    ensures kept { known_in finder.new ≡ known_in finder.old }
 {
-    match explain(alloc, engine, finder, goal)? {
-        Some(derivation) => write_lines(alloc, engine.program(), &derivation, out),
-        None => unreachable!(),
-    }
+    let derivation = explain_known(alloc, engine, finder, goal)?;
+    write_lines(alloc, engine.program(), &derivation, out)
 }
 
 // Appends each binding by which the pattern matches what the host expression makes, with a derivation;
@@ -185,18 +191,20 @@ pub(crate) fn write_derivation(
 fn explain_matches(
     alloc: Global,
     engine: &mut Engine<Table>,
-    finder: &mut Table,
+    finder: &mut Finder<Table>,
     name: &Name,
     pat: &CheckedPat,
     host: &HostExpr,
     out: &mut Vec<u8>,
 ) -> Result<(), EvalFault>
-    requires { IsShowable (program_of (engines.program_in engine.old).now) name.now
+    requires showable { IsShowable (program_of (engines.program_in engine.old).now) name.now
         (pattern_in pat.now) }
+    requires finder { (known_in finder.old).now ≡ (engines.program_in engine.old).now }
     ensures answer { TriesParts (program_of (engines.program_in engine.old).now)
         (model.matches name.now (pattern_in pat.now) (host_of host.now)) out.old.items
         out.new.items result }
     ensures same { engines.program_in engine.new ≡ engines.program_in engine.old }
+    ensures kept { known_in finder.new ≡ known_in finder.old }
 {
     let t = engine.host(host, &Binding::new(Vec::new(alloc)))?;
     Ok(show_matches(alloc, engine, finder, name, pat, &t, out)?)
@@ -206,18 +214,20 @@ fn explain_matches(
 fn show_matches(
     alloc: Global,
     engine: &mut Engine<Table>,
-    finder: &mut Table,
+    finder: &mut Finder<Table>,
     name: &Name,
     pat: &CheckedPat,
     t: &Term,
     out: &mut Vec<u8>,
 ) -> Result<(), NoMemory>
-    requires { IsShowable (program_of (engines.program_in engine.old).now) name.now
+    requires showable { IsShowable (program_of (engines.program_in engine.old).now) name.now
         (pattern_in pat.now) }
+    requires finder { (known_in finder.old).now ≡ (engines.program_in engine.old).now }
     ensures gained { OnOk result (Gains (program_of (engines.program_in engine.old).now)
         (ShowMatches (program_of (engines.program_in engine.old).now) name.now
         (pattern_in pat.now) (tree_of t.now)) out.old.items out.new.items) }
     ensures same { engines.program_in engine.new ≡ engines.program_in engine.old }
+    ensures kept { known_in finder.new ≡ known_in finder.old }
 {
     let language = language(engine, name)?;
     let found = engine.matches(language, pat, t)?;
@@ -232,21 +242,23 @@ fn show_matches(
 fn show_match(
     alloc: Global,
     engine: &mut Engine<Table>,
-    finder: &mut Table,
+    finder: &mut Finder<Table>,
     name: &Name,
     pat: &CheckedPat,
     t: &Term,
     binding: &Binding,
     out: &mut Vec<u8>,
 ) -> Result<(), NoMemory>
-    requires { HasExplanation (program_of (engines.program_in engine.old).now)
+    requires there { HasExplanation (program_of (engines.program_in engine.old).now)
         (goals.matched name.now (pattern_in pat.now) (tree_of t.now) (binding_of binding.now)) }
+    requires finder { (known_in finder.old).now ≡ (engines.program_in engine.old).now }
     ensures gained { OnOk result (GainsBehind (program_of (engines.program_in engine.old).now)
         (Explains (program_of (engines.program_in engine.old).now)
         (goals.matched name.now (pattern_in pat.now) (tree_of t.now) (binding_of binding.now)))
         (text.line_text (text.binding_text (binding_of binding.now))) out.old.items
         out.new.items) }
     ensures same { engines.program_in engine.new ≡ engines.program_in engine.old }
+    ensures kept { known_in finder.new ≡ known_in finder.old }
 {
     let goal = Goal::Match(
         name.share()?,
@@ -263,18 +275,20 @@ fn show_match(
 fn explain_splits(
     alloc: Global,
     engine: &mut Engine<Table>,
-    finder: &mut Table,
+    finder: &mut Finder<Table>,
     name: &Name,
     pat: &CheckedPat,
     host: &HostExpr,
     out: &mut Vec<u8>,
 ) -> Result<(), EvalFault>
-    requires { IsShowable (program_of (engines.program_in engine.old).now) name.now
+    requires showable { IsShowable (program_of (engines.program_in engine.old).now) name.now
         (pattern_in pat.now) }
+    requires finder { (known_in finder.old).now ≡ (engines.program_in engine.old).now }
     ensures answer { TriesParts (program_of (engines.program_in engine.old).now)
         (model.splits name.now (pattern_in pat.now) (host_of host.now)) out.old.items
         out.new.items result }
     ensures same { engines.program_in engine.new ≡ engines.program_in engine.old }
+    ensures kept { known_in finder.new ≡ known_in finder.old }
 {
     let t = engine.host(host, &Binding::new(Vec::new(alloc)))?;
     Ok(show_splits(alloc, engine, finder, name, pat, &t, out)?)
@@ -284,18 +298,20 @@ fn explain_splits(
 fn show_splits(
     alloc: Global,
     engine: &mut Engine<Table>,
-    finder: &mut Table,
+    finder: &mut Finder<Table>,
     name: &Name,
     pat: &CheckedPat,
     t: &Term,
     out: &mut Vec<u8>,
 ) -> Result<(), NoMemory>
-    requires { IsShowable (program_of (engines.program_in engine.old).now) name.now
+    requires showable { IsShowable (program_of (engines.program_in engine.old).now) name.now
         (pattern_in pat.now) }
+    requires finder { (known_in finder.old).now ≡ (engines.program_in engine.old).now }
     ensures gained { OnOk result (Gains (program_of (engines.program_in engine.old).now)
         (ShowSplits (program_of (engines.program_in engine.old).now) name.now
         (pattern_in pat.now) (tree_of t.now)) out.old.items out.new.items) }
     ensures same { engines.program_in engine.new ≡ engines.program_in engine.old }
+    ensures kept { known_in finder.new ≡ known_in finder.old }
 {
     let language = language(engine, name)?;
     let found = engine.splits(language, pat, t)?;
@@ -310,7 +326,7 @@ fn show_splits(
 fn show_split(
     alloc: Global,
     engine: &mut Engine<Table>,
-    finder: &mut Table,
+    finder: &mut Finder<Table>,
     name: &Name,
     pat: &CheckedPat,
     t: &Term,
@@ -322,6 +338,7 @@ fn show_split(
         (goals.split name.now (pattern_in pat.now) (tree_of t.now)
         (decomposition_of split.now).context (decomposition_of split.now).part
         (decomposition_of split.now).binding) }
+    requires finder { (known_in finder.old).now ≡ (engines.program_in engine.old).now }
     ensures gained { OnOk result (GainsBehind (program_of (engines.program_in engine.old).now)
         (Explains (program_of (engines.program_in engine.old).now)
         (goals.split name.now (pattern_in pat.now) (tree_of t.now)
@@ -330,6 +347,7 @@ fn show_split(
         (text.line_text (text.split_text (decomposition_of split.now))) out.old.items
         out.new.items) }
     ensures same { engines.program_in engine.new ≡ engines.program_in engine.old }
+    ensures kept { known_in finder.new ≡ known_in finder.old }
 {
     let goal = Goal::Split(
         name.share()?,

@@ -17,6 +17,7 @@ ghost use Rattle.rdx_eval.specs.Instantiation.{MakeList, Makes};
 ghost use Rattle.rdx_eval.specs.Views as engines;
 ghost use Rattle.rdx_eval.specs.Views.{terms_in};
 ghost use Rattle.rdx_deriv.specs.Derivations as goals;
+ghost use Rattle.rdx_why.specs.Finders.{known_in};
 ghost use Rattle.rdx_answer.specs.AnswerText.{holds_text, line_text};
 ghost use Rattle.rdx_answer.specs.Explained.{ExplainsMet, ExplainsValue};
 ghost use Rattle.rdx_answer.specs.Inside.Explaining.{AreParts, Gains, GainsBehind, GainsDerivation, HasAsked, HasExplanation, HasGiven, HasInputs, HasMatched, HasSource, HasValue, HasValues, IsAsked, IsGiven, IsHeld, IsLawful, IsMatched, IsSource, TriesParts};
@@ -32,6 +33,7 @@ use rdx_eval::{Engine, EvalFault};
 use rdx_lang::{Binding, CheckedLang, CheckedPat, Premise, Template};
 use rdx_table::Table;
 use rdx_term::{NoMemory, Term};
+use rdx_why::Finder;
 use std::alloc::Global;
 use std::cmp::Ordering;
 
@@ -196,19 +198,21 @@ fn first_source<'a>(
 fn write_judged(
     alloc: Global,
     engine: &mut Engine<Table>,
-    finder: &mut Table,
+    finder: &mut Finder<Table>,
     premise: &Premise,
     inputs: &Term,
     given: &Term,
     out: &mut Vec<u8>,
 ) -> Result<(), NoMemory>
-    requires { HasExplanation (program_of (engines.program_in engine.old).now)
+    requires there { HasExplanation (program_of (engines.program_in engine.old).now)
         (goals.judged premise.now.judgement (tree_of inputs.now) (tree_of given.now)) }
+    requires finder { (known_in finder.old).now ≡ (engines.program_in engine.old).now }
     ensures gained { OnOk result (GainsDerivation
         (program_of (engines.program_in engine.old).now)
         (goals.judged premise.now.judgement (tree_of inputs.now) (tree_of given.now))
         out.old.items out.new.items) }
     ensures same { engines.program_in engine.new ≡ engines.program_in engine.old }
+    ensures kept { known_in finder.new ≡ known_in finder.old }
 {
     let goal = Goal::Judge(premise.judgement.share()?, inputs.share()?, given.share()?);
     write_derivation(alloc, engine, finder, &goal, out)
@@ -219,16 +223,18 @@ fn write_judged(
 pub(crate) fn explain_holds(
     alloc: Global,
     engine: &mut Engine<Table>,
-    finder: &mut Table,
+    finder: &mut Finder<Table>,
     premise: &Premise,
     out: &mut Vec<u8>,
 ) -> Result<(), EvalFault>
     requires known { KnowsJudgement (program_of (engines.program_in engine.old).now)
         premise.now.judgement }
     requires lawful { IsLawful (program_of (engines.program_in engine.old).now) }
+    requires finder { (known_in finder.old).now ≡ (engines.program_in engine.old).now }
     ensures answer { TriesParts (program_of (engines.program_in engine.old).now)
         (model.holds (premise_of premise.now) None) out.old.items out.new.items result }
     ensures same { engines.program_in engine.new ≡ engines.program_in engine.old }
+    ensures kept { known_in finder.new ≡ known_in finder.old }
 {
     let found = meeting(engine, premise)?;
     if are_some(&found) {
@@ -242,15 +248,18 @@ pub(crate) fn explain_holds(
 fn show_held(
     alloc: Global,
     engine: &mut Engine<Table>,
-    finder: &mut Table,
+    finder: &mut Finder<Table>,
     premise: &Premise,
     out: &mut Vec<u8>,
 ) -> Result<(), NoMemory>
-    requires { IsHeld (program_of (engines.program_in engine.old).now) (premise_of premise.now) }
+    requires held { IsHeld (program_of (engines.program_in engine.old).now)
+        (premise_of premise.now) }
+    requires finder { (known_in finder.old).now ≡ (engines.program_in engine.old).now }
     ensures gained { OnOk result (GainsBehind (program_of (engines.program_in engine.old).now)
         (ExplainsMet (program_of (engines.program_in engine.old).now) (premise_of premise.now))
         (holds_text true) out.old.items out.new.items) }
     ensures same { engines.program_in engine.new ≡ engines.program_in engine.old }
+    ensures kept { known_in finder.new ≡ known_in finder.old }
 {
     let asked = ask(alloc, engine, premise)?;
     let given = first_matched(engine, asked.language, &premise.outs, &asked.outputs)?;
@@ -263,7 +272,7 @@ fn show_held(
 pub(crate) fn explain_values(
     alloc: Global,
     engine: &mut Engine<Table>,
-    finder: &mut Table,
+    finder: &mut Finder<Table>,
     premise: &Premise,
     template: &Template,
     out: &mut Vec<u8>,
@@ -271,10 +280,12 @@ pub(crate) fn explain_values(
     requires known { KnowsJudgement (program_of (engines.program_in engine.old).now)
         premise.now.judgement }
     requires lawful { IsLawful (program_of (engines.program_in engine.old).now) }
+    requires finder { (known_in finder.old).now ≡ (engines.program_in engine.old).now }
     ensures answer { TriesParts (program_of (engines.program_in engine.old).now)
         (model.holds (premise_of premise.now) (Some (template_of template.now))) out.old.items
         out.new.items result }
     ensures same { engines.program_in engine.new ≡ engines.program_in engine.old }
+    ensures kept { known_in finder.new ≡ known_in finder.old }
 {
     let found = meeting(engine, premise)?;
     let values = values_of(alloc, engine, premise, template)?;
@@ -287,20 +298,23 @@ pub(crate) fn explain_values(
 fn show_values(
     alloc: Global,
     engine: &mut Engine<Table>,
-    finder: &mut Table,
+    finder: &mut Finder<Table>,
     premise: &Premise,
     template: &Template,
     found: &[Binding],
     values: &[Term],
     out: &mut Vec<u8>,
 ) -> Result<(), NoMemory>
-    requires { HasValues (program_of (engines.program_in engine.old).now) (premise_of premise.now)
-        (template_of template.now) (bindings_of found.now) (map tree_of values.now) }
+    requires values { HasValues (program_of (engines.program_in engine.old).now)
+        (premise_of premise.now) (template_of template.now) (bindings_of found.now)
+        (map tree_of values.now) }
+    requires finder { (known_in finder.old).now ≡ (engines.program_in engine.old).now }
     ensures gained { OnOk result (Gains (program_of (engines.program_in engine.old).now)
         (λ ps. AreParts (program_of (engines.program_in engine.old).now)
         (model.holds (premise_of premise.now) (Some (template_of template.now))) ps true)
         out.old.items out.new.items) }
     ensures same { engines.program_in engine.new ≡ engines.program_in engine.old }
+    ensures kept { known_in finder.new ≡ known_in finder.old }
 {
     let asked = ask(alloc, engine, premise)?;
     write_head(b"answers", values.len(), out)?;
@@ -316,7 +330,7 @@ fn show_values(
 fn show_value(
     alloc: Global,
     engine: &mut Engine<Table>,
-    finder: &mut Table,
+    finder: &mut Finder<Table>,
     premise: &Premise,
     template: &Template,
     asked: &Asked,
@@ -324,15 +338,17 @@ fn show_value(
     wanted: &Term,
     out: &mut Vec<u8>,
 ) -> Result<(), NoMemory>
-    requires { HasValue (program_of (engines.program_in engine.old).now) (premise_of premise.now)
-        (language_in asked.now.language.now) (tree_of asked.now.inputs)
+    requires value { HasValue (program_of (engines.program_in engine.old).now)
+        (premise_of premise.now) (language_in asked.now.language.now) (tree_of asked.now.inputs)
         (terms_in asked.now.outputs) (template_of template.now) (bindings_of found.now)
         (tree_of wanted.now) }
+    requires finder { (known_in finder.old).now ≡ (engines.program_in engine.old).now }
     ensures gained { OnOk result (GainsBehind (program_of (engines.program_in engine.old).now)
         (ExplainsValue (program_of (engines.program_in engine.old).now) (premise_of premise.now)
         (template_of template.now) (tree_of wanted.now))
         (line_text (tree_text (tree_of wanted.now))) out.old.items out.new.items) }
     ensures same { engines.program_in engine.new ≡ engines.program_in engine.old }
+    ensures kept { known_in finder.new ≡ known_in finder.old }
 {
     let b = first_source(engine, template, found, wanted)?;
     let given = first_given(engine, asked.language, &premise.outs, &asked.outputs, b)?;

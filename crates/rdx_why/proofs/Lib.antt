@@ -1,5 +1,6 @@
 pub mod Alternatives
 pub mod AskedLengths
+pub mod EndLaws
 pub mod FormLaws
 pub mod FormSteps
 pub mod FoundSides
@@ -8,6 +9,7 @@ pub mod HoleLoops
 pub mod HoleSteps
 pub mod InnerSteps
 pub mod KnownContexts
+pub mod KnownGoals
 pub mod LaidBehind
 pub mod LaidGoals
 pub mod LaidItems

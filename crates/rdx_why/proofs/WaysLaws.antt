@@ -45,7 +45,7 @@ use Rattle.rdx_opened.specs.Picking.{picked}
 use Rattle.rdx_opened.specs.Opening.{Stands}
 use Rattle.rdx_opened.specs.Seeking.{IsFound, IsWanted, marks_of}
 use Rattle.rdx_why.specs.Inside.Steps.{IsOnTheWay, IsStepFrom, goals_in}
-use Rattle.rdx_why.specs.Inside.Ways.{IsWithin, WhereWay, ConditionWay, PremiseWay, FreshWay, WayOn, Ways, IsSeenGoal, Gains, AllOnTheWay, IsPassed, AreGoals, IsPartOf, RuleWay, AreRuleGoals, RuleMakes, RuleHas, RuleAt, HasSurvivors}
+use Rattle.rdx_why.specs.Inside.Ways.{IsWithin, WhereWay, ConditionWay, PremiseWay, FreshWay, WayOn, Ways, HasSeen, IsSeenGoal, Gains, AllOnTheWay, IsPassed, AreGoals, IsPartOf, RuleWay, AreRuleGoals, RuleMakes, RuleHas, RuleAt, HasSurvivors}
 use Rattle.rdx_deriv.specs.JudgementUses.{ExtraUses, JudgementUse}
 use Rattle.rdx_why.specs.declared.step.Step.{Step}
 use Rattle.rdx_opened.specs.declared.seeking.Found.{Found}
@@ -290,9 +290,12 @@ module _ (P : Program) (L : Language) (p : Pattern) (m : Template) (b c : Bindin
   where_picks = joined-picked L p h.term b h.found h.joined c h.matches a h.join h.behind
 
   -- which its pattern matches
-  pub where_seen : (t : Tree) → ((y : Tree) → (Makes (calls P) b m (value y) ↔ (y ≡ t)))
-      → ((d : Binding) → Match L p t d → visible d ≡ picked c (names p) → ⊥) → ⊥
-  where_seen t one none = none h.found (subst (λ (z : Tree). Match L p z h.found) ((one h.term).0 h.made) h.matches) where_picks
+  pub where_seen : (t : Tree) → ((y : Tree) → (Makes (calls P) b m (value y) ↔ (y ≡ t))) → HasSeen L p t c
+  where_seen t one = record {
+    found = h.found;
+    matches = subst (λ (z : Tree). Match L p z h.found) ((one h.term).0 h.made) h.matches;
+    picks = where_picks;
+  }
 
   -- and there is a join
   pub where_joins : (l : List ℕ) (t : Tree) (g : Goal) (s : Binding) → IsSeenGoal L l p t c g s → ((d : Binding) → IsJoin b s d → ⊥) → ⊥
@@ -401,9 +404,8 @@ rule_picks P L r a c h =
     seen-picked L r.inputs a h.found c h.matches (rule-ascends P L r a c h) (ways-within P L (avoiding a) r.extras c (visible h.found) h.ways)
 
 -- its inputs are matched so
-pub rule_seen : (P : Program) (L : Language) (r : JudgementRule) (a : Tree) (c : Binding) → RuleWay P L r a c
-    → ((d : Binding) → Match L r.inputs a d → visible d ≡ picked c (names r.inputs) → ⊥) → ⊥
-rule_seen P L r a c h none = none h.found h.matches (rule_picks P L r a c h)
+pub rule_seen : (P : Program) (L : Language) (r : JudgementRule) (a : Tree) (c : Binding) → RuleWay P L r a c → HasSeen L r.inputs a c
+rule_seen P L r a c h = record { found = h.found; matches = h.matches; picks = rule_picks P L r a c h }
 
 -- and its extras lead on from there
 pub rule_on : (P : Program) (L : Language) (l : List ℕ) (r : JudgementRule) (a : Tree) (c : Binding) (g : Goal) (s : Binding) → RuleWay P L r a c
@@ -429,11 +431,13 @@ rule_goes P L l r a c g s gs ks n k h m e = record {
 
 -- ---- the binding at the end
 
-module _ (P : Program) (L : Language) (l : List ℕ) (n : language_named P l ≡ Some L) (r : JudgementRule) (a o : Tree) (bs cs : List Binding)
-    (listing : Matches L r.inputs a bs) (over : ExtendOver (language_named P l) (calls P) a r.extras bs (value cs)) where
-  extended : Extend L (calls P) (avoiding a) r.extras bs (value cs)
-  extended = subst (λ (m : Option Language). ExtendOver m (calls P) a r.extras bs (value cs)) n over
+-- extras over a language that there is
+pub over_language : (o : Option Language) (L : Language) (C : Calls) (a : Tree) (es : List Extra) (bs : List Binding) (x : Answer (List Binding))
+    → o ≡ Some L → ExtendOver o C a es bs x → Extend L C (avoiding a) es bs x
+over_language o L C a es bs x n h = subst (λ (m : Option Language). ExtendOver m C a es bs x) n h
 
+module _ (P : Program) (L : Language) (r : JudgementRule) (a o : Tree) (bs cs : List Binding) (listing : Matches L r.inputs a bs)
+    (extended : Extend L (calls P) (avoiding a) r.extras bs (value cs)) where
   -- what is found is reached from a match
   pub final_some : (c : Binding) → In c cs × MakeList (calls P) c r.outputs (value o) → RuleMakes P L r a o c
   final_some c h =

@@ -1,2 +1,4 @@
 pub mod Explaining
+pub mod Finders
 pub mod Inside
+pub mod Model

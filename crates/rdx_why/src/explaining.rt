@@ -8,15 +8,19 @@ ghost use Rattle.rdx_deriv.specs.Derivations as goals;
 ghost use Rattle.rdx_deriv.specs.Derivations.{Derivation};
 ghost use Rattle.rdx_deriv.specs.DerivationView.{derivation_of, goal_of};
 ghost use Rattle.rdx_why.specs.Explaining.{CanBeAsked, Explains, HasOutputs, seen};
+ghost use Rattle.rdx_why.specs.Finders.{known_in};
 ghost use Rattle.rdx_why.specs.Inside.Frames.{IsBegun};
+ghost use Rattle.rdx_why.specs.Inside.Forms.{IsPlain};
 ghost use Rattle.rdx_why.specs.Inside.Steps.{IsOnTheWay, IsStepFrom};
 ghost use Rattle.rdx_deriv.specs.Judged.{Judged};
 ghost use Rattle.rdx_deriv.specs.Laws.{Follows};
 
 use crate::descending::{step_match, step_split};
+use crate::finder::Finder;
 use crate::inner::{match_goal, split_goal};
 use crate::judging::step_judgement;
 use crate::step::Step;
+use rdx_bind::naming::has_differ;
 use rdx_bind::visible;
 use rdx_deriv::{Deriv, Goal};
 use rdx_eval::Engine;
@@ -39,30 +43,53 @@ struct Frame {
 fn step_down<M: Matcher + Drop>(
     alloc: Global,
     engine: &mut Engine<'_, M>,
-    finder: &mut M,
+    finder: &mut Finder<'_, M>,
     goal: &Goal,
 ) -> Result<Step, NoMemory>
-    requires { IsOnTheWay (program_of engine.old.program.now) (goal_of goal.now) }
+    requires way { IsOnTheWay (program_of engine.old.program.now) (goal_of goal.now) }
+    requires finder { (known_in finder.old).now ≡ engine.old.program.now }
     ensures step { IfOk result (IsStepFrom (program_of engine.old.program.now) (goal_of goal.now)) }
     ensures same { engine.new.program ≡ engine.old.program }
+    ensures kept { known_in finder.new ≡ known_in finder.old }
 {
     match goal {
         Goal::Match(l, pat, t, b) => {
             let Some(language) = engine.language(l)? else {
                 unreachable!()
             };
-            step_match(alloc, language, finder, l, pat, t, b)
+            step_match(alloc, language, &mut finder.matcher, l, pat, t, b)
         }
         Goal::Split(l, pat, t, context, part, b) => {
             let Some(language) = engine.language(l)? else {
                 unreachable!()
             };
-            step_split(alloc, language, finder, l, pat, t, context, part, b)
+            step_split(
+                alloc,
+                language,
+                &mut finder.matcher,
+                l,
+                pat,
+                t,
+                context,
+                part,
+                b,
+            )
         }
-        Goal::Judge(j, a, o) => match step_judgement(alloc, engine, finder, j, a, o)? {
-            Some(step) => Ok(step),
-            None => unreachable!(),
-        },
+        Goal::Judge(j, a, o) => {
+            let found = step_judgement(
+                alloc,
+                engine,
+                &mut finder.matcher,
+                &mut finder.ends,
+                j,
+                a,
+                o,
+            )?;
+            match found {
+                Some(step) => Ok(step),
+                None => unreachable!(),
+            }
+        }
     }
 }
 
@@ -70,13 +97,15 @@ fn step_down<M: Matcher + Drop>(
 fn begun<M: Matcher + Drop>(
     alloc: Global,
     engine: &mut Engine<'_, M>,
-    finder: &mut M,
+    finder: &mut Finder<'_, M>,
     goal: Goal,
 ) -> Result<Frame, NoMemory>
-    requires { IsOnTheWay (program_of engine.old.program.now) (goal_of goal) }
+    requires way { IsOnTheWay (program_of engine.old.program.now) (goal_of goal) }
+    requires finder { (known_in finder.old).now ≡ engine.old.program.now }
     ensures goal { IfOk result (λ f. goal_of f.goal ≡ goal_of goal) }
     ensures begun { IfOk result (IsBegun (program_of engine.old.program.now)) }
     ensures same { engine.new.program ≡ engine.old.program }
+    ensures kept { known_in finder.new ≡ known_in finder.old }
 {
     let step = step_down(alloc, engine, finder, &goal)?;
     let Step { choice, under } = step;
@@ -166,23 +195,20 @@ fn whole_goal<M: Matcher + Drop>(
     }
 }
 
-/// A derivation of the goal, up to its mismatch names; `None` exactly where there is none.
-pub fn explain<M: Matcher + Drop>(
+// A derivation of a goal on the way to one.
+fn derived<M: Matcher + Drop>(
     alloc: Global,
     engine: &mut Engine<'_, M>,
-    finder: &mut M,
-    goal: &Goal,
-) -> Result<Option<Deriv>, NoMemory>
-    requires asked { CanBeAsked (program_of engine.old.program.now) (goal_of goal.now) }
-    ensures some { IfOk result (λ r. IfSome r (λ d. Explains (program_of engine.old.program.now)
-        (goal_of goal.now) (derivation_of d))) }
-    ensures none { IfOk result (λ r. IfNone r ((d : Derivation)
-        → ¬ Explains (program_of engine.old.program.now) (goal_of goal.now) d)) }
+    finder: &mut Finder<'_, M>,
+    goal: Goal,
+) -> Result<Deriv, NoMemory>
+    requires way { IsOnTheWay (program_of engine.old.program.now) (goal_of goal) }
+    requires finder { (known_in finder.old).now ≡ engine.old.program.now }
+    ensures derived { IfOk result (λ d. Explains (program_of engine.old.program.now)
+        (goal_of goal) (derivation_of d)) }
     ensures same { engine.new.program ≡ engine.old.program }
+    ensures kept { known_in finder.new ≡ known_in finder.old }
 {
-    let Some(goal) = whole_goal(alloc, engine, finder, goal)? else {
-        return Ok(None);
-    };
     let mut stack: Vec<Frame> = Vec::new(alloc);
     let mut top = begun(alloc, engine, finder, goal)?;
     // Each turn takes memory, so that no more of them come to pass.
@@ -210,10 +236,81 @@ pub fn explain<M: Matcher + Drop>(
                         parent.done.push(d)?;
                         top = parent;
                     }
-                    None => return Ok(Some(d)),
+                    None => return Ok(d),
                 }
             }
         }
     }
     Err(NoMemory)
+}
+
+/// A derivation of the goal, up to its mismatch names; `None` exactly where there is none.
+pub fn explain<M: Matcher + Drop>(
+    alloc: Global,
+    engine: &mut Engine<'_, M>,
+    finder: &mut Finder<'_, M>,
+    goal: &Goal,
+) -> Result<Option<Deriv>, NoMemory>
+    requires asked { CanBeAsked (program_of engine.old.program.now) (goal_of goal.now) }
+    requires finder { (known_in finder.old).now ≡ engine.old.program.now }
+    ensures some { IfOk result (λ r. IfSome r (λ d. Explains (program_of engine.old.program.now)
+        (goal_of goal.now) (derivation_of d))) }
+    ensures none { IfOk result (λ r. IfNone r ((d : Derivation)
+        → ¬ Explains (program_of engine.old.program.now) (goal_of goal.now) d)) }
+    ensures same { engine.new.program ≡ engine.old.program }
+    ensures kept { known_in finder.new ≡ known_in finder.old }
+{
+    let Some(goal) = whole_goal(alloc, engine, &mut finder.matcher, goal)? else {
+        return Ok(None);
+    };
+    Ok(Some(derived(alloc, engine, finder, goal)?))
+}
+
+// Whether what is seen of the goal is all of it: no mismatch name stands in its pattern.
+fn is_plain(goal: &Goal) -> bool
+    ensures { IsTrue result → IsPlain (goal_of goal.now) }
+{
+    match goal {
+        Goal::Match(_, pat, _, _) | Goal::Split(_, pat, _, _, _, _) => !has_differ(pat),
+        Goal::Judge(_, _, _) => true,
+    }
+}
+
+// What is seen of the goal.
+fn seen_of(alloc: Global, goal: &Goal) -> Result<Goal, NoMemory>
+    ensures { IfOk result (λ g. goal_of g ≡ seen (goal_of goal.now)) }
+{
+    match goal {
+        Goal::Match(l, pat, t, b) => match_goal(alloc, l, pat, t, visible(alloc, b)?),
+        Goal::Split(l, pat, t, context, part, b) => {
+            split_goal(alloc, l, pat, t, context, part, visible(alloc, b)?)
+        }
+        Goal::Judge(j, a, o) => Ok(Goal::Judge(j.share()?, a.share()?, o.share()?)),
+    }
+}
+
+/// A derivation of a goal that has one, up to its mismatch names.
+pub fn explain_known<M: Matcher + Drop>(
+    alloc: Global,
+    engine: &mut Engine<'_, M>,
+    finder: &mut Finder<'_, M>,
+    goal: &Goal,
+) -> Result<Deriv, NoMemory>
+    requires asked { CanBeAsked (program_of engine.old.program.now) (goal_of goal.now) }
+    requires known { (d : Derivation) × Explains (program_of engine.old.program.now)
+        (goal_of goal.now) d }
+    requires finder { (known_in finder.old).now ≡ engine.old.program.now }
+    ensures explained { IfOk result (λ d. Explains (program_of engine.old.program.now)
+        (goal_of goal.now) (derivation_of d)) }
+    ensures same { engine.new.program ≡ engine.old.program }
+    ensures kept { known_in finder.new ≡ known_in finder.old }
+{
+    if is_plain(goal) {
+        let goal = seen_of(alloc, goal)?;
+        return derived(alloc, engine, finder, goal);
+    }
+    match explain(alloc, engine, finder, goal)? {
+        Some(d) => Ok(d),
+        None => unreachable!(),
+    }
 }

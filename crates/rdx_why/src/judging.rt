@@ -22,12 +22,18 @@ ghost use Rattle.rdx_why.specs.Explaining.{HasKnownRules, HasOutputs, IsKnownExt
 ghost use Rattle.rdx_deriv.specs.Avoiding.{avoided_of};
 ghost use Rattle.rdx_deriv.specs.Inside.Faults.{IsNamed};
 ghost use Rattle.rdx_opened.specs.Picking.{picked};
+ghost use Rattle.rdx_why.specs.Inside.Keeping.{AreRulesOf};
 ghost use Rattle.rdx_why.specs.Inside.Steps.{IsStepFrom};
-ghost use Rattle.rdx_why.specs.Inside.Ways.{AreGoals, AreRuleGoals, HasSurvivors, IsPassed, IsSeenGoal, IsWithin, RuleAt, RuleHas, RuleMakes, RuleWay, WayOn, Ways};
+ghost use Rattle.rdx_why.specs.Inside.Ways.{AreGoals, AreRuleGoals, HasSeen, HasSurvivors, IsPassed, IsSeenGoal, IsWithin, RuleAt, RuleHas, RuleMakes, RuleWay, WayOn, Ways};
+ghost use Rattle.rdx_why.specs.Model.Ends.{AreEnds, HasOnly, IsRuleAt, IsSame, bound};
+ghost use Rattle.rdx_why.specs.declared.kept.End.{End as CodeEnd};
 ghost use Rattle.rdx_deriv.specs.Judged.{Judged, calls};
 
+use crate::ends::{Ends, key_of};
+use crate::kept::End;
 use crate::step::Step;
 use rdx_bind::join;
+use rdx_bind::naming::has_differ;
 use rdx_deriv::{Avoided, Goal, allows, avoiding_all, fresh_binding, made, made_list, pass};
 use rdx_eval::{Engine, EvalFault};
 use rdx_lang::{
@@ -71,6 +77,36 @@ fn seen_goal<M: Matcher + Drop>(
         }
         None => Ok(None),
     }
+}
+
+// The goal that the pattern matches the term and binds what c says of its names, which it does. It
+// is sought for mismatch names alone.
+fn known_goal<M: Matcher + Drop>(
+    alloc: Global,
+    language: &CheckedLang,
+    finder: &mut M,
+    l: &Name,
+    pat: &CheckedPat,
+    t: &Term,
+    c: &Binding,
+) -> Result<Seen, NoMemory>
+    requires { HasSeen (language_in language.now) (pattern_in pat.now) (tree_of t.now)
+        (binding_of c.now) }
+    ensures { IfOk result (λ s. IsSeenGoal (language_in language.now) l.now
+        (pattern_in pat.now) (tree_of t.now) (binding_of c.now) (goal_of s.goal)
+        (binding_of s.binding)) }
+{
+    if has_differ(pat.pat()) {
+        let Some(seen) = seen_goal(alloc, language, finder, l, pat, t, c)? else {
+            unreachable!()
+        };
+        return Ok(seen);
+    }
+    let pat = pat.pat();
+    let binding = restricted(alloc, c, &pat.names(alloc)?)?;
+    let b = binding.share()?;
+    let goal = Goal::Match(l.share()?, pat.share(alloc)?, t.share()?, b);
+    Ok(Seen { goal, binding })
 }
 
 /// What is bound behind an extra, and its goals.
@@ -149,9 +185,7 @@ fn by_where<M: Matcher + Drop>(
     let Some(t) = made(engine, program, template, b)? else {
         unreachable!()
     };
-    let Some(seen) = seen_goal(alloc, language, finder, l, pat, &t, c)? else {
-        unreachable!()
-    };
+    let seen = known_goal(alloc, language, finder, l, pat, &t, c)?;
     let Some(binding) = join(alloc, b, &seen.binding)? else {
         unreachable!()
     };
@@ -394,9 +428,7 @@ fn rule_goals<'x, M: Matcher + Drop>(
         (judgement_rule_of rule.now) (tree_of a.now) (binding_of c.now) (map goal_of r.items)) }
     ensures same { program_in engine.new ≡ program_in engine.old }
 {
-    let Some(first) = seen_goal(alloc, language, finder, l, &rule.ins, a, c)? else {
-        unreachable!()
-    };
+    let first = known_goal(alloc, language, finder, l, &rule.ins, a, c)?;
     let left = extras_goals(
         alloc,
         engine,
@@ -435,34 +467,107 @@ fn is_made<M: Matcher + Drop>(
     }
 }
 
-// The first of these bindings of which the outputs are made.
+// Whether the outputs beside the end are these.
+fn has_outputs(end: &End, o: &Term) -> bool
+    ensures { IsSame end.now.outputs (tree_of o.now) → IsTrue result }
+{
+    match &end.outputs {
+        Some(made) => made.same(o),
+        None => false,
+    }
+}
+
+// Whether the outputs are made of the end.
+fn is_made_of<M: Matcher + Drop>(
+    alloc: Global,
+    engine: &mut Engine<M>,
+    program: &Program,
+    outs: &[Template],
+    end: &End,
+    o: &Term,
+) -> Result<bool, NoMemory>
+    requires program { (program_in engine.old).now ≡ program.now }
+    requires only { HasOnly (program_of program.now) (map template_of outs.now) end.now }
+    ensures made { IfOk result (λ r. IsTrue r ↔ MakeList (calls (program_of program.now))
+        (bound end.now) (map template_of outs.now) (value (tree_of o.now))) }
+    ensures same { program_in engine.new ≡ program_in engine.old }
+{
+    if !has_outputs(end, o) {
+        return Ok(false);
+    }
+    is_made(alloc, engine, program, outs, &end.binding, o)
+}
+
+// The first binding of these ends of which the outputs are made.
 fn making_binding<M: Matcher + Drop>(
     alloc: Global,
     engine: &mut Engine<M>,
     program: &Program,
-    found: &[Binding],
+    ends: &[End],
     outs: &[Template],
     o: &Term,
 ) -> Result<Option<Binding>, NoMemory>
     requires program { (program_in engine.old).now ≡ program.now }
-    ensures some { IfOk result (λ r. IfSome r (λ c. In (binding_of c) (bindings_of found.now)
+    requires only { (e : CodeEnd) → In e ends.now
+        → HasOnly (program_of program.now) (map template_of outs.now) e }
+    ensures some { IfOk result (λ r. IfSome r (λ c. In (binding_of c) (map bound ends.now)
         × MakeList (calls (program_of program.now)) (binding_of c) (map template_of outs.now)
         (value (tree_of o.now)))) }
-    ensures none { IfOk result (λ r. IfNone r ((c : model.Binding) → In c (bindings_of found.now)
+    ensures none { IfOk result (λ r. IfNone r ((c : model.Binding) → In c (map bound ends.now)
         → MakeList (calls (program_of program.now)) c (map template_of outs.now)
         (value (tree_of o.now)) → ⊥)) }
     ensures same { program_in engine.new ≡ program_in engine.old }
 {
-    for c in found {
-        if is_made(alloc, engine, program, outs, c, o)? {
-            return Ok(Some(c.share()?));
+    for end in ends {
+        if is_made_of(alloc, engine, program, outs, end, o)? {
+            return Ok(Some(end.binding.share()?));
         }
     }
     Ok(None)
 }
 
-// A binding by which the rule has these outputs for these inputs.
-fn final_binding<M: Matcher + Drop>(
+// The end of a use of a rule with these output templates that ends with the binding.
+fn end_of<M: Matcher + Drop>(
+    alloc: Global,
+    engine: &mut Engine<M>,
+    program: &Program,
+    outs: &[Template],
+    c: &Binding,
+) -> Result<End, NoMemory>
+    requires program { (program_in engine.old).now ≡ program.now }
+    ensures bound { IfOk result (λ e. bound e ≡ binding_of c.now) }
+    ensures only { IfOk result (HasOnly (program_of program.now) (map template_of outs.now)) }
+    ensures same { program_in engine.new ≡ program_in engine.old }
+{
+    let outputs = made_list(alloc, engine, program, outs, c)?;
+    let binding = c.share()?;
+    Ok(End { binding, outputs })
+}
+
+// Those that end with these bindings.
+fn ends_by<M: Matcher + Drop>(
+    alloc: Global,
+    engine: &mut Engine<M>,
+    program: &Program,
+    outs: &[Template],
+    found: &[Binding],
+) -> Result<Vec<End>, NoMemory>
+    requires program { (program_in engine.old).now ≡ program.now }
+    ensures bound { IfOk result (λ es. map bound es.items ≡ bindings_of found.now) }
+    ensures only { IfOk result (λ es. (e : CodeEnd) → In e es.items
+        → HasOnly (program_of program.now) (map template_of outs.now) e) }
+    ensures same { program_in engine.new ≡ program_in engine.old }
+{
+    let mut ends = Vec::with_capacity(alloc, found.len())?;
+    for c in found {
+        let end = end_of(alloc, engine, program, outs, c)?;
+        ends.push(end)?;
+    }
+    Ok(ends)
+}
+
+// The ends of the rule for these inputs.
+fn ends_of<M: Matcher + Drop>(
     alloc: Global,
     engine: &mut Engine<M>,
     program: &Program,
@@ -470,11 +575,44 @@ fn final_binding<M: Matcher + Drop>(
     l: &Name,
     rule: &JRule,
     a: &Term,
-    o: &Term,
-) -> Result<Option<Binding>, NoMemory>
+) -> Result<Vec<End>, NoMemory>
     requires program { (program_in engine.old).now ≡ program.now }
     requires spoken { language_named (program_of program.now) l.now
         ≡ Some (language_in language.now) }
+    requires left { HasSurvivors (program_of program.now) (language_in language.now)
+        (judgement_rule_of rule.now) (tree_of a.now) }
+    ensures ends { IfOk result (λ es. AreEnds (program_of program.now) (language_in language.now)
+        (judgement_rule_of rule.now) (tree_of a.now) es.items) }
+    ensures same { program_in engine.new ≡ program_in engine.old }
+{
+    let start = engine.matches(language, &rule.ins, a)?;
+    let found = match engine.extend(l, start, &rule.extras, a) {
+        Ok(found) => found,
+        Err(fault) => return Err(only_memory(fault)),
+    };
+    ends_by(alloc, engine, program, &rule.outs, &found)
+}
+
+// A binding by which the rule has these outputs for these inputs.
+fn final_binding<M: Matcher + Drop>(
+    alloc: Global,
+    engine: &mut Engine<M>,
+    ends: &mut Ends,
+    program: &Program,
+    language: &CheckedLang,
+    l: &Name,
+    j: &Name,
+    place: usize,
+    rule: &JRule,
+    a: &Term,
+    o: &Term,
+) -> Result<Option<Binding>, NoMemory>
+    requires program { (program_in engine.old).now ≡ program.now }
+    requires ends { ends.old.program.now ≡ program.now }
+    requires spoken { language_named (program_of program.now) l.now
+        ≡ Some (language_in language.now) }
+    requires rule { IsRuleAt (program_of program.now) j.now (language_in language.now) place
+        (judgement_rule_of rule.now) }
     requires left { HasSurvivors (program_of program.now) (language_in language.now)
         (judgement_rule_of rule.now) (tree_of a.now) }
     ensures some { IfOk result (λ r. IfSome r (λ c. RuleMakes (program_of program.now)
@@ -483,13 +621,16 @@ fn final_binding<M: Matcher + Drop>(
     ensures none { IfOk result (λ r. IfNone r (¬ RuleHas (program_of program.now)
         (language_in language.now) (judgement_rule_of rule.now) (tree_of a.now) (tree_of o.now))) }
     ensures same { program_in engine.new ≡ program_in engine.old }
+    ensures kept { ends.new.program ≡ ends.old.program }
 {
-    let start = engine.matches(language, &rule.ins, a)?;
-    let found = match engine.extend(l, start, &rule.extras, a) {
-        Ok(found) => found,
-        Err(fault) => return Err(only_memory(fault)),
-    };
-    making_binding(alloc, engine, program, &found, &rule.outs, o)
+    let key = key_of(alloc, j, place, a)?;
+    if let Some(kept) = ends.get(&key, j, place, a) {
+        return making_binding(alloc, engine, program, kept, &rule.outs, o);
+    }
+    let found = ends_of(alloc, engine, program, language, l, rule, a)?;
+    let binding = making_binding(alloc, engine, program, &found, &rule.outs, o)?;
+    ends.keep(key, j, place, a, found)?;
+    Ok(binding)
 }
 
 /// The place of a rule, and the binding with which a use of it ends.
@@ -499,20 +640,25 @@ struct Last {
     binding: Binding,
 }
 
-// The first of the rules that has these outputs for these inputs.
+// The first of the rules of the judgement that has these outputs for these inputs.
 fn first_rule<M: Matcher + Drop>(
     alloc: Global,
     engine: &mut Engine<M>,
+    ends: &mut Ends,
     program: &Program,
     language: &CheckedLang,
     l: &Name,
+    j: &Name,
     rules: &[JRule],
     a: &Term,
     o: &Term,
 ) -> Result<Option<Last>, NoMemory>
     requires program { (program_in engine.old).now ≡ program.now }
+    requires ends { ends.old.program.now ≡ program.now }
     requires spoken { language_named (program_of program.now) l.now
         ≡ Some (language_in language.now) }
+    requires rules { AreRulesOf (program_of program.now) j.now (language_in language.now)
+        (map judgement_rule_of rules.now) }
     requires left { (x : _) → In x (map judgement_rule_of rules.now)
         → HasSurvivors (program_of program.now) (language_in language.now) x (tree_of a.now) }
     ensures some { IfOk result (λ r. IfSome r (λ x. (x.place < length rules.now)
@@ -523,14 +669,18 @@ fn first_rule<M: Matcher + Drop>(
         → RuleHas (program_of program.now) (language_in language.now) x (tree_of a.now)
         (tree_of o.now) → ⊥)) }
     ensures same { program_in engine.new ≡ program_in engine.old }
+    ensures kept { ends.new.program ≡ ends.old.program }
 {
     for place in 0..rules.len() {
         if let Some(binding) = final_binding(
             alloc,
             engine,
+            ends,
             program,
             language,
             l,
+            j,
+            place,
             &rules[place],
             a,
             o,
@@ -547,10 +697,12 @@ pub(crate) fn step_judgement<M: Matcher + Drop>(
     alloc: Global,
     engine: &mut Engine<'_, M>,
     finder: &mut M,
+    ends: &mut Ends,
     j: &Name,
     a: &Term,
     o: &Term,
 ) -> Result<Option<Step>, NoMemory>
+    requires ends { ends.old.program.now ≡ engine.old.program.now }
     requires known { HasKnownRules (program_of engine.old.program.now) }
     requires outputs { HasOutputs (program_of engine.old.program.now) j.now (tree_of a.now) }
     ensures some { IfOk result (λ r. IfSome r (IsStepFrom (program_of engine.old.program.now)
@@ -558,6 +710,7 @@ pub(crate) fn step_judgement<M: Matcher + Drop>(
     ensures none { IfOk result (λ r. IfNone r (¬ Judged (program_of engine.old.program.now) j.now
         (tree_of a.now) (tree_of o.now))) }
     ensures same { engine.new.program ≡ engine.old.program }
+    ensures kept { ends.new.program ≡ ends.old.program }
 {
     let program = engine.program();
     let Some(judgement) = engine.judgement(j)? else {
@@ -571,7 +724,7 @@ pub(crate) fn step_judgement<M: Matcher + Drop>(
     }
     let l = &judgement.language;
     let rules = judgement.rules.as_slice();
-    let Some(last) = first_rule(alloc, engine, program, language, l, rules, a, o)? else {
+    let Some(last) = first_rule(alloc, engine, ends, program, language, l, j, rules, a, o)? else {
         return Ok(None);
     };
     let rule = &rules[last.place];

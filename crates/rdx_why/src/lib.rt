@@ -4,12 +4,16 @@
 mod along;
 mod choosing;
 mod descending;
+mod ends;
 mod explaining;
+mod finder;
 mod forms;
 mod inner;
 mod judging;
+mod kept;
 mod lists;
 mod step;
 
-pub use explaining::explain;
+pub use explaining::{explain, explain_known};
+pub use finder::Finder;
 pub use rdx_deriv::{Deriv, Goal, derivation_holds, write_lines, write_rule_name};

@@ -78,6 +78,12 @@ Ways P L w (x ∷ es) e b = WayOn P L w x b (Ways P L (behind w x) es e)
 
 -- ---- one extra
 
+-- the pattern matches the term, and c says what is seen of the binding
+pub record HasSeen (L : Language) (p : Pattern) (t : Tree) (c : Binding) : Type 0 where
+  pub found : Binding
+  pub matches : Match L p t found
+  pub picks : visible found ≡ picked c (names p)
+
 -- a match of which c says what is seen, as a goal
 pub record IsSeenGoal (L : Language) (l : List ℕ) (p : Pattern) (t : Tree) (c : Binding) (g : Goal) (s : Binding) : Type 0 where
   pub found : Binding

@@ -47,6 +47,7 @@ loop-query-preserved g c =
     let few : total (counts_of c.counts_behind-counts.result) ≤ total n + 1 = subst (λ (k : Counts). total k ≤ total n + 1) (sym behind) (total-behind (query_of q) m n) in
     record {
       program = ap (λ (p : Bor Program). p.now) c.in_ok-is_met.ensures.same ∙ c.loop-query.invariant.program;
+      finder = ap (λ (p : Bor Program). p.now) c.in_ok-is_met.ensures.kept ∙ c.loop-query.invariant.finder;
       few = let h = c.loop-query.invariant.few in omega (arith, few, h);
       upto = subst (λ (b : Bool). ExplainedUpto P all (drop (i + 1) all) (counts_of c.counts_behind-counts.result) c.write_explained.new.out.items b) (sym both)
           (subst (λ (k : Counts). ExplainedUpto P all (drop (i + 1) all) k c.write_explained.new.out.items (c.loop-query.met && m)) (sym behind)

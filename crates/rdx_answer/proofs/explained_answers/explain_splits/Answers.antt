@@ -36,9 +36,9 @@ returns-in_err-t-clause-answer g c =
     (splits_fault P name p h)
     (subst (λ (b : Binding). Says tree_of (HostMakes (calls_at P height) b h) (Err c.in_err-t.field-0.0)) empty c.in_err-t.ensures.answer)
 
-pub show_splits-requires : goal.show_splits-requires
-show_splits-requires g c =
-    subst (λ (e : Bor Program). IsShowable (program_of e.now) c.args.name.now (pattern_in c.args.pat.now)) (sym c.in_ok-t.ensures.same) c.requires
+pub show_splits-requires-clause-showable : goal.show_splits-requires-clause-showable
+show_splits-requires-clause-showable g c =
+    subst (λ (e : Bor Program). IsShowable (program_of e.now) c.args.name.now (pattern_in c.args.pat.now)) (sym c.in_ok-t.ensures.same) c.requires.showable
 
 pub returns-clause-answer : goal.returns-clause-answer
 returns-clause-answer g c =

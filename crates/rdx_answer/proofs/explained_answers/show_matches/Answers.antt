@@ -26,8 +26,8 @@ use Rattle.rdx_answer.proofs.ExplainedParts.{each-next, each-end}
 use Rattle.rdx_answer.proofs.Explaining.{match_explained}
 use Rattle.rdx_answer.proofs.explained_answers.show_matches.Goals as goal
 
-pub show_match-requires : goal.show_match-requires
-show_match-requires g c =
+pub show_match-requires-clause-there : goal.show_match-requires-clause-there
+show_match-requires-clause-there g c =
     let P : programs.Program = program_of (program_in c.args.engine.now).now in
     let name : List ℕ = c.args.name.now in
     let p : Pattern = pattern_in c.args.pat.now in
@@ -40,7 +40,7 @@ show_match-requires g c =
     subst (λ (ys : List code_binding.Binding). In (binding_of x) (bindings_of ys)) c.deref-binding-items.ensures.value
     (member_at binding_of xs c.loop-binding.binding-index x c.loop-binding-test.true c.binding-item.is) in
     subst (λ (e : Bor Program). HasExplanation (program_of e.now) (matched name p t (binding_of x))) (sym c.loop-binding.invariant.same)
-    (match_explained P name p t (binding_of x) L c.requires known (c.in_ok-found.ensures.listing.sound (binding_of x) among))
+    (match_explained P name p t (binding_of x) L c.requires.showable known (c.in_ok-found.ensures.listing.sound (binding_of x) among))
 
 pub loop-binding-preserved : goal.loop-binding-preserved
 loop-binding-preserved g c =
@@ -61,6 +61,7 @@ loop-binding-preserved g c =
     c.in_ok-show_match.ensures.gained in
     record {
       same = c.show_match.ensures.same ∙ c.loop-binding.invariant.same;
+      kept = c.show_match.ensures.kept ∙ c.loop-binding.invariant.kept;
       upto = each-next P R binding_text h c.args.out.now.items bs (binding_of x) _ _ c.loop-binding.out.items c.show_match.new.out.items e gained
           c.loop-binding.invariant.upto;
     }

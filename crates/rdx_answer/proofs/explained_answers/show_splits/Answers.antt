@@ -40,7 +40,7 @@ show_split-requires-clause-there g c =
     subst (λ (ys : List code_split.Split). In (decomposition_of x) (decompositions_of ys)) c.deref-split-items.ensures.value
     (member_at decomposition_of xs c.loop-split.split-index x c.loop-split-test.true c.split-item.is) in
     subst (λ (e : Bor Program). HasExplanation (program_of e.now) (split name p t (decomposition_of x).context (decomposition_of x).part (decomposition_of x).binding)) (sym c.loop-split.invariant.same)
-    (split_explained P name p t (decomposition_of x).context (decomposition_of x).part (decomposition_of x).binding L c.requires known (c.in_ok-found.ensures.listing.sound (decomposition_of x) among))
+    (split_explained P name p t (decomposition_of x).context (decomposition_of x).part (decomposition_of x).binding L c.requires.showable known (c.in_ok-found.ensures.listing.sound (decomposition_of x) among))
 
 pub show_split-requires-clause-context : goal.show_split-requires-clause-context
 show_split-requires-clause-context g c =
@@ -71,6 +71,7 @@ loop-split-preserved g c =
     c.in_ok-show_split.ensures.gained in
     record {
       same = c.show_split.ensures.same ∙ c.loop-split.invariant.same;
+      kept = c.show_split.ensures.kept ∙ c.loop-split.invariant.kept;
       upto = each-next P R split_text h c.args.out.now.items bs (decomposition_of x) _ _ c.loop-split.out.items c.show_split.new.out.items e gained
           c.loop-split.invariant.upto;
     }

@@ -23,8 +23,8 @@ returns-in_err-found-clause-answer g c =
     parts_error bindings_in (FindsMet P q) P (holds q None) c.args.out.now.items c.from_residual.result _ c.from_residual.ensures.1 (holds_fault P q)
     c.in_err-found.ensures.answer
 
-pub show_held-requires : goal.show_held-requires
-show_held-requires g c =
+pub show_held-requires-clause-held : goal.show_held-requires-clause-held
+show_held-requires-clause-held g c =
     let P : programs.Program = program_of (program_in c.args.engine.now).now in
     let q : Premise = premise_of c.args.premise.now in
     let e : are_some (bindings_of c.in_ok-found.found.items) ≡ true =

@@ -46,8 +46,8 @@ returns-in_err-values-clause-answer g c =
     (subst (λ (p : Bor Program). Says terms_in (Then (FindsMet (program_of p.now) q) (Values (calls_at (program_of p.now) height) m)) (Err c.in_err-values.field-0.0))
     c.in_ok-found.ensures.same c.in_err-values.ensures.answer)
 
-pub show_values-requires : goal.show_values-requires
-show_values-requires g c =
+pub show_values-requires-clause-values : goal.show_values-requires-clause-values
+show_values-requires-clause-values g c =
     let P : programs.Program = program_of (program_in c.args.engine.now).now in
     let q : Premise = premise_of c.args.premise.now in
     let m : Template = template_of c.args.template.now in

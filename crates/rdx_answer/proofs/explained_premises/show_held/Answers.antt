@@ -22,7 +22,7 @@ use Rattle.rdx_answer.proofs.explained_premises.show_held.Goals as goal
 
 pub ask-requires : goal.ask-requires
 ask-requires g c =
-    found_asked (program_of (program_in c.args.engine.now).now) (premise_of c.args.premise.now) (c.requires.binding ∷ c.requires.others) c.requires.finds
+    found_asked (program_of (program_in c.args.engine.now).now) (premise_of c.args.premise.now) (c.requires.held.binding ∷ c.requires.held.others) c.requires.held.finds
 
 pub first_matched-requires : goal.first_matched-requires
 first_matched-requires g c =
@@ -32,10 +32,10 @@ first_matched-requires g c =
     let a : Tree = tree_of c.in_ok-asked.asked.inputs in
     let os : List Tree = terms_in c.in_ok-asked.asked.outputs in
     subst (λ (us : List Term). HasMatched L q.outputs (map tree_of us)) (sym c.deref.ensures.value)
-    (found_matched P q L a os c.in_ok-asked.ensures.asked c.requires.binding c.requires.others c.requires.finds)
+    (found_matched P q L a os c.in_ok-asked.ensures.asked c.requires.held.binding c.requires.held.others c.requires.held.finds)
 
-pub write_judged-requires : goal.write_judged-requires
-write_judged-requires g c =
+pub write_judged-requires-clause-there : goal.write_judged-requires-clause-there
+write_judged-requires-clause-there g c =
     let P : programs.Program = program_of (program_in c.args.engine.now).now in
     let q : Premise = premise_of c.args.premise.now in
     let L : Language = language_in c.in_ok-asked.asked.language.now in
@@ -45,7 +45,7 @@ write_judged-requires g c =
     let m : IsMatched L q.outputs os o =
     subst (λ (us : List Term). IsMatched L q.outputs (map tree_of us) o) c.deref.ensures.value c.in_ok-given.ensures.found in
     subst (λ (e : Bor Program). HasExplanation (program_of e.now) (judged q.judgement a o)) (sym (c.in_ok-given.ensures.same ∙ c.in_ok-asked.ensures.same))
-    (judged_explained P q L a os o c.requires.lawful c.in_ok-asked.ensures.asked m.is_given.among)
+    (judged_explained P q L a os o c.requires.held.lawful c.in_ok-asked.ensures.asked m.is_given.among)
 
 pub returns-clause-gained : goal.returns-clause-gained
 returns-clause-gained g c =

@@ -34,10 +34,10 @@ first_given-requires g c =
     let os : List Tree = terms_in c.args.asked.now.outputs in
     let b : Binding = binding_of c.in_ok-b.b.now in
     subst (λ (us : List Term). HasGiven L q.outputs (map tree_of us) b) (sym c.deref.ensures.value)
-    (found_given P q L a os c.requires.asked (bindings_of c.args.found.now) b c.requires.finds c.in_ok-b.ensures.found.among)
+    (found_given P q L a os c.requires.value.asked (bindings_of c.args.found.now) b c.requires.value.finds c.in_ok-b.ensures.found.among)
 
-pub write_judged-requires : goal.write_judged-requires
-write_judged-requires g c =
+pub write_judged-requires-clause-there : goal.write_judged-requires-clause-there
+write_judged-requires-clause-there g c =
     let P : programs.Program = program_of (program_in c.args.engine.now).now in
     let q : Premise = premise_of c.args.premise.now in
     let L : Language = language_in c.args.asked.now.language.now in
@@ -48,7 +48,7 @@ write_judged-requires g c =
     let m : IsGiven L q.outputs os b o =
     subst (λ (us : List Term). IsGiven L q.outputs (map tree_of us) b o) c.deref.ensures.value c.in_ok-given.ensures.found in
     subst (λ (e : Bor Program). HasExplanation (program_of e.now) (judged q.judgement a o)) (sym (c.in_ok-given.ensures.same ∙ c.in_ok-b.ensures.same))
-    (judged_explained P q L a os o c.requires.lawful c.requires.asked m.among)
+    (judged_explained P q L a os o c.requires.value.lawful c.requires.value.asked m.among)
 
 pub returns-clause-gained : goal.returns-clause-gained
 returns-clause-gained g c =
@@ -70,7 +70,7 @@ returns-clause-gained g c =
       inputs = a;
       outputs = o;
       binding = b;
-      met = met_by P q L a os c.requires.asked b o m;
+      met = met_by P q L a os c.requires.value.asked b o m;
       makes = c.in_ok-b.ensures.found.makes;
       explains = k;
     })

@@ -26,10 +26,10 @@ use Rattle.rdx_answer.proofs.explained_premises.show_values.Goals as goal
 
 pub ask-requires : goal.ask-requires
 ask-requires g c =
-    found_asked (program_of (program_in c.args.engine.now).now) (premise_of c.args.premise.now) (bindings_of c.args.found.now) c.requires.finds
+    found_asked (program_of (program_in c.args.engine.now).now) (premise_of c.args.premise.now) (bindings_of c.args.found.now) c.requires.values.finds
 
-pub show_value-requires : goal.show_value-requires
-show_value-requires g c =
+pub show_value-requires-clause-value : goal.show_value-requires-clause-value
+show_value-requires-clause-value g c =
     let P : programs.Program = program_of (program_in c.args.engine.now).now in
     let q : Premise = premise_of c.args.premise.now in
     let m : Template = template_of c.args.template.now in
@@ -41,10 +41,10 @@ show_value-requires g c =
     let os : List Tree = terms_in c.in_ok-asked.asked.outputs in
     subst (λ (e : Bor Program). HasValue (program_of e.now) q L a os m bs (tree_of x)) (sym c.loop-value.invariant.same)
     (record {
-      lawful = c.requires.lawful;
+      lawful = c.requires.values.lawful;
       asked = c.in_ok-asked.ensures.asked;
-      finds = c.requires.finds;
-      source = value_source P m bs (map tree_of xs) (tree_of x) c.requires.values
+      finds = c.requires.values.finds;
+      source = value_source P m bs (map tree_of xs) (tree_of x) c.requires.values.values
           (member_at tree_of xs c.loop-value.value-index x c.loop-value-test.true c.value-item.is);
     })
 
@@ -65,6 +65,7 @@ loop-value-preserved g c =
     c.show_value.new.out.items) c.loop-value.invariant.same c.in_ok-show_value.ensures.gained in
     record {
       same = c.show_value.ensures.same ∙ c.loop-value.invariant.same;
+      kept = c.show_value.ensures.kept ∙ c.loop-value.invariant.kept;
       upto = each-next P (ExplainsValue P q m) tree_text h c.args.out.now.items vs (tree_of x) _ _ c.loop-value.out.items c.show_value.new.out.items e gained
           c.loop-value.invariant.upto;
     }
@@ -81,6 +82,6 @@ returns-clause-gained g c =
     (rest_none tree_of xs c.loop-value.value-index c.loop-value-test.false) c.loop-value.invariant.upto in
     record {
       parts = said h ∷ u.explained;
-      shows = values_parts P q m (bindings_of c.args.found.now) vs u.explained c.requires.finds c.requires.values u.each;
+      shows = values_parts P q m (bindings_of c.args.found.now) vs u.explained c.requires.values.finds c.requires.values.values u.each;
       gained = u.gained;
     }

@@ -13,4 +13,5 @@ invariant-loop-place g l = record {
   none : (x : JudgementRule) → In x (map judgement_rule_of l.rules)
       → RuleHas (program_of l.program) (language_in l.language) x (tree_of l.a) (tree_of l.o) → In x (map judgement_rule_of (drop l.place l.rules));
   same : program_in l.engine ≡ program_in l.fn.engine;
+  kept : l.ends.program ≡ l.fn.ends.program;
 }

@@ -76,6 +76,29 @@ first_rule-requires-clause-spoken g c =
     let e : p ≡ c.args.engine.now.program.now = c.program-program.ensures in
     subst (λ (q : Program). language_named (program_of q) J.language ≡ Some L) (sym e) spoken
 
+pub first_rule-requires-clause-ends : goal.first_rule-requires-clause-ends
+first_rule-requires-clause-ends g c = c.requires.ends ∙ sym c.program-program.ensures
+
+pub first_rule-requires-clause-rules : goal.first_rule-requires-clause-rules
+first_rule-requires-clause-rules g c =
+    let P = program_of c.args.engine.now.program.now in
+    let j : List ℕ = c.args.j.now in
+    let J : model.Judgement = judgement_of c.in-Some.judgement.now in
+    let named : judgement_named P j ≡ Some J =
+    sym c.in_ok-judgement.ensures.found ∙ ap (option_map (λ (x : Bor Judgement). judgement_of x.now)) c.in-Some.is in
+    let L : Language = language_in c.in-Some-2.language.now in
+    let spoken : language_named P J.language ≡ Some L =
+    ap (λ (p : Program). language_named (program_of p) J.language) (sym (ap (λ (p : Bor Program). p.now) c.in_ok-judgement.ensures.same))
+    ∙ sym c.in_ok-language.ensures.found ∙ ap language_found c.in-Some-2.is in
+    let p : Program = c.program-program.result.now in
+    let e : p ≡ c.args.engine.now.program.now = c.program-program.ensures in
+    record {
+      judgement = J;
+      named = subst (λ (q : Program). judgement_named (program_of q) j ≡ Some J) (sym e) named;
+      spoken = subst (λ (q : Program). language_named (program_of q) J.language ≡ Some L) (sym e) spoken;
+      rules = sym (ap (λ (xs : List JRule). map judgement_rule_of xs) c.as_slice-rules.ensures.value);
+    }
+
 pub first_rule-requires-clause-left : goal.first_rule-requires-clause-left
 first_rule-requires-clause-left g c =
     let P = program_of c.args.engine.now.program.now in
