@@ -268,21 +268,24 @@ module _ {L : Language} {c : Binding} {f : Focus} {q : Pattern} {rs : List Slot}
       (subst (λ (b : Binding). HasLength b xs y h.0 k) (whole_wanted i) h.2)) in
       answer_taken L l c a f q rs ts o n y d.0 k d.1 s
 
-  -- and there is one
-  pub found_there : (l : List ℕ) → HasAscendingNames c → IsOpenedItems (many q None (items_of rs))
+  -- and there is an answer with one
+  pub sought_there : (l : List ℕ) → HasAscendingNames c → IsOpenedItems (many q None (items_of rs))
       → have_known_nonterminals (defined L) (many q None (items_of rs)) ≡ true → names q ≡ [] → list_any (bytes_eq y) xs ≡ false
-      → CanBeLaid L l c f (many q None (items_of rs)) ts → ((e : Binding) (k : ℕ) → IsAnswered L p t f e → HasLength w xs y e k → ⊥) → ⊥
-  found_there l a o n z free h none =
+      → CanBeLaid L l c f (many q None (items_of rs)) ts → (e : Binding) × (k : ℕ) × IsAnswered L p t f e × HasLength w xs y e k
+  sought_there l a o n z free h =
       let os = many q (Some y) (items_of rs) in
       let zs = item_names (many q None (items_of rs)) in
       let apart : In y zs → ⊥ = name_apart y zs (subst (λ (vs : List (List ℕ)). list_any (bytes_eq y) vs ≡ false) i.named free) in
       let d = answer_there L l c a f q rs ts o n y z apart h in
       let m : IsAnswered L p t f (visible d.0) =
       subst (λ (r : Pattern). IsAnswered L r t f (visible d.0)) (sym i.asked)
-      (subst (λ (u : Tree). IsAnswered L (seq os) u f (visible d.0)) (sym i.term) (used-answered i.mark d.2)) in
-      none (visible d.0) d.1 m
-      (subst (λ (b : Binding). HasLength b xs y (visible d.0) d.1) (sym (whole_wanted i))
-      (subst (λ (vs : List (List ℕ)). HasLength (picked c zs) vs y (visible d.0) d.1) (sym i.named) d.3))
+      (subst (λ (u : Tree). IsAnswered L (seq os) u f (visible d.0)) (sym i.term) (used-answered i.mark d.2)) in (
+        visible d.0,
+        d.1,
+        m,
+        subst (λ (b : Binding). HasLength b xs y (visible d.0) d.1) (sym (whole_wanted i))
+            (subst (λ (vs : List (List ℕ)). HasLength (picked c (item_names (many q None (items_of rs)))) vs y (visible d.0) d.1) (sym i.named) d.3),
+      )
 
 -- where no split that is found is wanted, no answer is
 pub none_at_place : (L : Language) (p : Pattern) (t : Tree) (k : ℕ) (D s : Tree) (f : Focus) (w : Binding) (xs : List (List ℕ)) (y : List ℕ)

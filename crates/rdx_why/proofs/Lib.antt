@@ -1,11 +1,14 @@
 pub mod Alternatives
+pub mod AroundAnswers
 pub mod AskedLengths
 pub mod EndLaws
 pub mod FormLaws
 pub mod FormSteps
 pub mod FoundSides
 pub mod Frames
+pub mod HoleLists
 pub mod HoleLoops
+pub mod HoleQuestions
 pub mod HoleSteps
 pub mod InnerSteps
 pub mod KnownContexts
@@ -18,6 +21,7 @@ pub mod LaidTurns
 pub mod LengthNames
 pub mod LengthsAhead
 pub mod ListSteps
+pub mod PathLaws
 pub mod TakenLengths
 pub mod TwoPatterns
 pub mod WaysLaws

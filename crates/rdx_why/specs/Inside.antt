@@ -1,3 +1,4 @@
+pub mod Around
 pub mod Contexts
 pub mod Forms
 pub mod Frames

@@ -1,7 +1,8 @@
 // Steps down from nonterminals: by the first alternative that matches, or splits so. What the form of an
 // alternative rules out is not asked, nor the last one that is left, where it binds nothing.
-ghost use Rattle.std.specs.Prelude.{◌≡◌, ◌≤◌, IfNone, IfOk, IfSome, IsTrue, drop, length, map};
+ghost use Rattle.std.specs.Prelude.{◌≡◌, ◌≤◌, IfNone, IfOk, IfSome, IsFalse, IsTrue, drop, length, map};
 ghost use Rattle.rdx_lang.specs.Bindings as model;
+ghost use Rattle.rdx_lang.specs.Bindings.{no_names};
 ghost use Rattle.rdx_lang.specs.Checked.{language_in};
 ghost use Rattle.rdx_lang.specs.Members.{In};
 ghost use Rattle.rdx_lang.specs.PatternView.{pattern_of};
@@ -11,28 +12,18 @@ ghost use Rattle.rdx_lang.specs.Shown.{binding_of};
 ghost use Rattle.rdx_term.specs.View.{tree_of};
 ghost use Rattle.rdx_deriv.specs.Uses.{IsMatchUse, IsSplitUse};
 ghost use Rattle.rdx_lang.proofs.RuleSteps.{SomeMatch, SomeSplit};
-ghost use Rattle.rdx_why.specs.Inside.Forms.{BindsNothing, NeverMatches, NeverSplits};
+ghost use Rattle.rdx_why.specs.Inside.Around.{IsPath};
+ghost use Rattle.rdx_why.specs.Inside.Forms.{NeverMatches, NeverSplits};
 ghost use Rattle.rdx_why.specs.Inside.Steps.{IsStep};
 
-use crate::forms::{may_match, may_split};
+use crate::around::{Path, shared_path, splits_around};
+use crate::forms::{binds_nothing, may_match, may_split};
 use crate::inner::{match_goal, one_under, split_goal};
 use crate::step::Step;
-use rdx_bind::naming::has_differ;
 use rdx_lang::{Binding, CheckedLang, Matcher, Pat, Ref};
 use rdx_opened::{Wanted, found_match, found_split};
 use rdx_term::{Name, NoMemory, Term};
 use std::alloc::Global;
-
-// Whether no name and no mismatch name stands in the pattern itself.
-fn binds_nothing(alloc: Global, pat: &Pat) -> Result<bool, NoMemory>
-    ensures { IfOk result (λ r. IsTrue r → BindsNothing (pattern_of pat.now)) }
-{
-    if has_differ(pat) {
-        return Ok(false);
-    }
-    let names = pat.names(alloc)?;
-    Ok(names.is_empty())
-}
 
 // How many alternatives there are up to the last one whose form leaves it open that it matches.
 fn open_matches(language: &CheckedLang, alternatives: &[Pat], t: &Term) -> usize
@@ -87,6 +78,18 @@ fn binding_of_match<M: Matcher + Drop>(
     found_match(alloc, language, finder, q, t, Wanted::Any)
 }
 
+// The binding of no name, where this is so.
+fn nothing_where(alloc: Global, holds: bool) -> Option<Binding>
+    ensures some { IfSome result (λ b. IsTrue holds × (binding_of b ≡ no_names)) }
+    ensures none { IfNone result (IsFalse holds) }
+{
+    if holds {
+        Some(Binding::new(Vec::new(alloc)))
+    } else {
+        None
+    }
+}
+
 // The same where it splits the term into these.
 fn binding_of_split<M: Matcher + Drop>(
     alloc: Global,
@@ -97,9 +100,12 @@ fn binding_of_split<M: Matcher + Drop>(
     context: &Term,
     part: &Term,
     is_sure: bool,
+    path: &Option<Path>,
 ) -> Result<Option<Binding>, NoMemory>
-    requires { IsTrue is_sure → SomeSplit (language_in language.now) (pattern_of q.now) (tree_of t.now)
+    requires sure { IsTrue is_sure → SomeSplit (language_in language.now) (pattern_of q.now) (tree_of t.now)
         (tree_of context.now) (tree_of part.now) }
+    requires path { IfSome path.now (λ w. IsPath (language_in language.now) (tree_of t.now)
+        (tree_of context.now) (tree_of part.now) w.name (tree_of w.inner) (tree_of w.around)) }
     ensures some { IfOk result (λ r. IfSome r (λ b. Split (language_in language.now)
         (pattern_of q.now) (tree_of t.now) (tree_of context.now) (tree_of part.now) (binding_of b))) }
     ensures none { IfOk result (λ r. IfNone r ((b : model.Binding)
@@ -112,7 +118,10 @@ fn binding_of_split<M: Matcher + Drop>(
     if !may_split(language, q, context) {
         return Ok(None);
     }
-    found_split(alloc, language, finder, q, t, context, part, Wanted::Any)
+    match splits_around(alloc, language, finder, q, t, context, part, path)? {
+        Some(splits) => Ok(nothing_where(alloc, splits)),
+        None => found_split(alloc, language, finder, q, t, context, part, Wanted::Any),
+    }
 }
 
 /// A nonterminal that matches: its first alternative that does.
@@ -163,10 +172,11 @@ pub(crate) fn step_nt_split<M: Matcher + Drop>(
 {
     let alternatives = language.alternatives(x);
     let open = open_splits(language, alternatives, context);
+    let path = shared_path(alloc, language, alternatives, open, context)?;
     for place in 0..open {
         let q = &alternatives[place];
         let is_last = place + 1 == open;
-        let found = binding_of_split(alloc, language, finder, q, t, context, part, is_last)?;
+        let found = binding_of_split(alloc, language, finder, q, t, context, part, is_last, &path)?;
         if let Some(c) = found {
             let mut choice = Vec::new(alloc);
             choice.push(place)?;

@@ -25,8 +25,8 @@ use rdx_opened::{known_match, known_split};
 use rdx_term::{Name, NoMemory, Term};
 use std::alloc::Global;
 
-// The items of a list pattern that is opened.
-fn items_of(pat: &Pat) -> Option<&[Item]>
+/// The items of a list pattern.
+pub(crate) fn items_of(pat: &Pat) -> Option<&[Item]>
     ensures some { IfSome result (λ items. pattern_of pat.now
         ≡ seq (items_of (map slot_of items.now))) }
     ensures none { IfNone result ((ps : Items) → pattern_of pat.now ≡ seq ps → ⊥) }

@@ -1,15 +1,28 @@
 // What the form of a pattern rules out.
-ghost use Rattle.std.specs.Prelude.{◌≡◌, IsFalse, map};
+ghost use Rattle.std.specs.Prelude.{◌≡◌, IfOk, IsFalse, IsTrue, map};
 ghost use Rattle.rdx_lang.specs.Checked.{language_in};
 ghost use Rattle.rdx_lang.specs.PatternView.{pattern_of, slot_of, items_of};
 ghost use Rattle.rdx_term.specs.View.{tree_of, trees_of};
-ghost use Rattle.rdx_why.specs.Inside.Forms.{NeverMatch, NeverMatches, NeverSplit, NeverSplits};
+ghost use Rattle.rdx_why.specs.Inside.Forms.{BindsNothing, NeverMatch, NeverMatches, NeverSplit, NeverSplits};
 ghost use Rattle.rdx_lang.specs.Facts.{SplitsNothing};
 ghost use Rattle.rdx_lang.specs.Patterns.{nt, seq};
 
 use rdx_bind::atoms::{has_prefix, is_hole, is_of_kind, is_other_symbol};
+use rdx_bind::naming::has_differ;
 use rdx_lang::{CheckedLang, Item, Pat, Ref};
-use rdx_term::Term;
+use rdx_term::{NoMemory, Term};
+use std::alloc::Global;
+
+/// Whether no name and no mismatch name stands in the pattern itself.
+pub(crate) fn binds_nothing(alloc: Global, pat: &Pat) -> Result<bool, NoMemory>
+    ensures { IfOk result (λ r. IsTrue r → BindsNothing (pattern_of pat.now)) }
+{
+    if has_differ(pat) {
+        return Ok(false);
+    }
+    let names = pat.names(alloc)?;
+    Ok(names.is_empty())
+}
 
 /// Whether the form of the pattern leaves it open that it matches the term.
 #[cycle(forms)]

@@ -2,6 +2,7 @@
 #![tactic(auto)]
 
 mod along;
+mod around;
 mod choosing;
 mod descending;
 mod ends;

@@ -24,14 +24,15 @@ ghost use Rattle.rdx_opened.specs.Picking as picking;
 ghost use Rattle.rdx_opened.specs.Seeking.{marks_of};
 ghost use Rattle.rdx_why.specs.Inside.Steps.{AllFollowIn, IsLaid};
 ghost use Rattle.rdx_deriv.specs.Uses as uses;
-ghost use Rattle.rdx_deriv.specs.Uses.{ItemUses};
+ghost use Rattle.rdx_deriv.specs.Uses.{ItemUses, at, nowhere};
 
+use crate::around::{built, question_around, shared_terms};
 use crate::inner::{match_goal, split_goal};
 use rdx_bind::is_same;
 use rdx_deriv::{Focus, Goal, parts_around};
 use rdx_lang::{Binding, CheckedLang, CheckedPat, Item, Matcher, Pat, Split, first_variant};
 use rdx_opened::{Mark, asked, in_turn, restricted, turns_of, whole};
-use rdx_term::{Name, NoMemory, Term, list};
+use rdx_term::{Name, NoMemory, Term};
 use std::alloc::Global;
 use std::rc::RcStr;
 
@@ -59,8 +60,8 @@ fn terms_behind(terms: &[Term], count: usize) -> &[Term]
     &terms[count..]
 }
 
-// The pattern of the item.
-fn pattern_in(item: &Item) -> &Pat
+/// The pattern of the item.
+pub(crate) fn pattern_in(item: &Item) -> &Pat
     ensures { pattern_of result.now ≡ slot_pattern (slot_of item.now) }
 {
     match item {
@@ -121,8 +122,8 @@ fn shared_length(length: &Option<Name>) -> Result<Option<Name>, NoMemory>
     }
 }
 
-// The same item once more.
-fn shared_item(alloc: Global, item: &Item) -> Result<Item, NoMemory>
+/// The same item once more.
+pub(crate) fn shared_item(alloc: Global, item: &Item) -> Result<Item, NoMemory>
     ensures { IfOk result (λ s. slot_of s ≡ slot_of item.now) }
 {
     match item {
@@ -160,18 +161,11 @@ fn other_name(alloc: Global, names: &[Name]) -> Result<Name, NoMemory>
     }
 }
 
-// The list of the terms; one that would be too large is taken as want of memory.
+// The list of the terms.
 fn listed(alloc: Global, terms: &[Term]) -> Result<Term, NoMemory>
     ensures { IfOk result (λ t. tree_of t ≡ built_list terms.now) }
 {
-    let mut items = Vec::with_capacity(alloc, terms.len())?;
-    for term in terms {
-        items.push(term.share()?)?;
-    }
-    match list(alloc, items) {
-        Ok(t) => Ok(t),
-        Err(_) => Err(NoMemory),
-    }
+    built(alloc, shared_terms(alloc, terms)?)
 }
 
 // What is sought in a listing: what is said of these names, and a length under this one.
@@ -262,35 +256,135 @@ fn length_among_splits(
     Ok(None)
 }
 
-// The length that a matcher finds for the question, where one is sought.
-fn length_found<M: Matcher + Drop>(
+// The length in a match of the pattern, where one is sought.
+fn length_matched<M: Matcher + Drop>(
     alloc: Global,
     language: &CheckedLang,
     finder: &mut M,
-    question: &CheckedPat,
+    pat: &Pat,
     t: &Term,
-    focus: Focus<'_>,
     sought: Sought<'_>,
 ) -> Result<Option<usize>, NoMemory>
     requires { IsAscending name_cmp sought.names.now }
     ensures some { IfOk result (λ r. IfSome r (λ k. (e : model.Binding)
-        × IsAnswered (language_in language.now) (pattern_in question.now) (tree_of t.now)
+        × IsAnswered (language_in language.now) (pattern_of pat.now) (tree_of t.now) nowhere e
+        × HasLength (binding_of sought.entry.wanted.now) sought.entry.names.now
+        sought.entry.length.now e k)) }
+    ensures none { IfOk result (λ r. IfNone r ((e : model.Binding) (k : ℕ)
+        → IsAnswered (language_in language.now) (pattern_of pat.now) (tree_of t.now) nowhere e
+        → HasLength (binding_of sought.entry.wanted.now) sought.entry.names.now
+        sought.entry.length.now e k → ⊥)) }
+{
+    let question = asked(alloc, language, pat)?;
+    let found = finder.matches(language, &question, t)?;
+    length_among(alloc, sought, &found)
+}
+
+// The length in a split by the pattern, at the place into the context and the part.
+fn length_split<M: Matcher + Drop>(
+    alloc: Global,
+    language: &CheckedLang,
+    finder: &mut M,
+    pat: &Pat,
+    t: &Term,
+    place: usize,
+    context: &Term,
+    part: &Term,
+    sought: Sought<'_>,
+) -> Result<Option<usize>, NoMemory>
+    requires { IsAscending name_cmp sought.names.now }
+    ensures some { IfOk result (λ r. IfSome r (λ k. (e : model.Binding)
+        × IsAnswered (language_in language.now) (pattern_of pat.now) (tree_of t.now)
+        (at place (tree_of context.now) (tree_of part.now)) e
+        × HasLength (binding_of sought.entry.wanted.now) sought.entry.names.now
+        sought.entry.length.now e k)) }
+    ensures none { IfOk result (λ r. IfNone r ((e : model.Binding) (k : ℕ)
+        → IsAnswered (language_in language.now) (pattern_of pat.now) (tree_of t.now)
+        (at place (tree_of context.now) (tree_of part.now)) e
+        → HasLength (binding_of sought.entry.wanted.now) sought.entry.names.now
+        sought.entry.length.now e k → ⊥)) }
+{
+    let question = asked(alloc, language, pat)?;
+    let found = finder.splits(language, &question, t)?;
+    length_among_splits(alloc, sought, &found, t, place, context, part)
+}
+
+// The same of the list of the terms, where there is a split; it is asked around the hole, where that
+// decides.
+fn length_at<M: Matcher + Drop>(
+    alloc: Global,
+    language: &CheckedLang,
+    finder: &mut M,
+    pat: &Pat,
+    terms: &[Term],
+    place: usize,
+    context: &Term,
+    part: &Term,
+    sought: Sought<'_>,
+) -> Result<Option<usize>, NoMemory>
+    requires ascending { IsAscending name_cmp sought.names.now }
+    requires there { (e : model.Binding) × IsAnswered (language_in language.now)
+        (pattern_of pat.now) (built_list terms.now)
+        (at place (tree_of context.now) (tree_of part.now)) e }
+    ensures some { IfOk result (λ r. IfSome r (λ k. (e : model.Binding)
+        × IsAnswered (language_in language.now) (pattern_of pat.now) (built_list terms.now)
+        (at place (tree_of context.now) (tree_of part.now)) e
+        × HasLength (binding_of sought.entry.wanted.now) sought.entry.names.now
+        sought.entry.length.now e k)) }
+    ensures none { IfOk result (λ r. IfNone r ((e : model.Binding) (k : ℕ)
+        → IsAnswered (language_in language.now) (pattern_of pat.now) (built_list terms.now)
+        (at place (tree_of context.now) (tree_of part.now)) e
+        → HasLength (binding_of sought.entry.wanted.now) sought.entry.names.now
+        sought.entry.length.now e k → ⊥)) }
+{
+    match question_around(alloc, language, pat, terms, place, context)? {
+        Some(question) => length_matched(
+            alloc,
+            language,
+            finder,
+            &question.pat,
+            &question.around,
+            sought,
+        ),
+        None => {
+            let t = listed(alloc, terms)?;
+            length_split(
+                alloc, language, finder, pat, &t, place, context, part, sought,
+            )
+        }
+    }
+}
+
+// The length that a matcher finds for the pattern and the list of the terms, where one is sought.
+fn length_found<M: Matcher + Drop>(
+    alloc: Global,
+    language: &CheckedLang,
+    finder: &mut M,
+    pat: &Pat,
+    terms: &[Term],
+    focus: Focus<'_>,
+    sought: Sought<'_>,
+) -> Result<Option<usize>, NoMemory>
+    requires ascending { IsAscending name_cmp sought.names.now }
+    requires there { (e : model.Binding) × IsAnswered (language_in language.now)
+        (pattern_of pat.now) (built_list terms.now) (focus_of focus) e }
+    ensures some { IfOk result (λ r. IfSome r (λ k. (e : model.Binding)
+        × IsAnswered (language_in language.now) (pattern_of pat.now) (built_list terms.now)
         (focus_of focus.entry) e × HasLength (binding_of sought.entry.wanted.now)
         sought.entry.names.now sought.entry.length.now e k)) }
     ensures none { IfOk result (λ r. IfNone r ((e : model.Binding) (k : ℕ)
-        → IsAnswered (language_in language.now) (pattern_in question.now) (tree_of t.now)
+        → IsAnswered (language_in language.now) (pattern_of pat.now) (built_list terms.now)
         (focus_of focus.entry) e → HasLength (binding_of sought.entry.wanted.now)
         sought.entry.names.now sought.entry.length.now e k → ⊥)) }
 {
     match focus {
         Focus::Nowhere => {
-            let found = finder.matches(language, question, t)?;
-            length_among(alloc, sought, &found)
+            let t = listed(alloc, terms)?;
+            length_matched(alloc, language, finder, pat, &t, sought)
         }
-        Focus::At(place, context, part) => {
-            let found = finder.splits(language, question, t)?;
-            length_among_splits(alloc, sought, &found, t, place, context, part)
-        }
+        Focus::At(place, context, part) => length_at(
+            alloc, language, finder, pat, terms, place, context, part, sought,
+        ),
     }
 }
 
@@ -324,14 +418,12 @@ fn asked_length<M: Matcher + Drop>(
     let wanted = restricted(alloc, c, &names)?;
     let length = other_name(alloc, &names)?;
     let named = repetition_and(alloc, q, Some(length.share()?), others)?;
-    let question = asked(alloc, language, &named)?;
-    let t = listed(alloc, terms)?;
     let sought = Sought {
         names: &names,
         wanted: &wanted,
         length: &length,
     };
-    match length_found(alloc, language, finder, &question, &t, focus, sought)? {
+    match length_found(alloc, language, finder, &named, terms, focus, sought)? {
         Some(count) => Ok(count),
         None => unreachable!(),
     }
