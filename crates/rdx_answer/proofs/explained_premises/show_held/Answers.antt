@@ -45,7 +45,7 @@ write_judged-requires-clause-there g c =
     let m : IsMatched L q.outputs os o =
     subst (λ (us : List Term). IsMatched L q.outputs (map tree_of us) o) c.deref.ensures.value c.in_ok-given.ensures.found in
     subst (λ (e : Bor Program). HasExplanation (program_of e.now) (judged q.judgement a o)) (sym (c.in_ok-given.ensures.same ∙ c.in_ok-asked.ensures.same))
-    (judged_explained P q L a os o c.requires.lawful c.in_ok-asked.ensures.asked m.is_given.among)
+    (judged_explained P q L a os o c.requires.held.lawful c.in_ok-asked.ensures.asked m.is_given.among)
 
 pub returns-clause-gained : goal.returns-clause-gained
 returns-clause-gained g c =
