@@ -24,6 +24,7 @@ mod term;
 
 pub use error::{Build, NoMemory};
 pub use name::Name;
+pub use spelling::is_spelling;
 pub use term::build::{list, marked_list};
 pub use term::text::text_of;
 pub use term::{Node, Term};

@@ -6,7 +6,7 @@ ghost use Rattle.std.specs.Str.{IsUtf8};
 ghost use Rattle.rdx_term.specs.Spelling.{is_name};
 
 use crate::error::NoMemory;
-use crate::spelling::is_name;
+use crate::spelling::is_spelling;
 use std::marker::Model;
 use std::rc::RcStr;
 
@@ -34,7 +34,7 @@ impl Name {
         ensures some { IfSome result (λ name. name ≡ rc_str_bytes text) }
         ensures none { IsNone result ↔ IsFalse (is_name (rc_str_bytes text)) }
     {
-        if is_name(text.as_str()) {
+        if is_spelling(text.as_str()) {
             Some(Name { text })
         } else {
             None

@@ -102,8 +102,8 @@ pub fn is_symbol(text: &str) -> bool
     is_token(text) && is_symbol_token(text)
 }
 
-// A symbol other than `hole`.
-pub(crate) fn is_name(text: &str) -> bool
+/// The text is a symbol spelling other than `hole`, as that of a name is. Takes no memory.
+pub fn is_spelling(text: &str) -> bool
     ensures { result ≡ is_name text.now }
 {
     is_symbol(text) && text != "hole"
