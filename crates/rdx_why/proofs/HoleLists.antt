@@ -1,6 +1,6 @@
 -- A list pattern splits a list as the pattern with `hole` in the place of its item on the path matches the list with the hole in the place of the
 -- term there.
-use Rattle.std.proofs.Common.{◌≡◌, ◌≢◌, ℕ, zero, suc, List, [], ◌∷◌, ◌++◌, Option, Some, None, refl, sym, ◌∙◌, ap, subst, inl, inr, ◌⊎◌, arith}
+use Rattle.std.proofs.Common.{◌≡◌, ◌≢◌, ℕ, zero, suc, List, [], ◌∷◌, ◌++◌, Option, Some, None, refl, sym, ◌∙◌, ap, subst, inl, inr}
 use Rattle.std.proofs.lemmas.Option.{same_Some}
 use Rattle.std.specs.Prelude.{slice_get}
 use Rattle.rdx_term.specs.Items.{item_at, put_at}
@@ -14,7 +14,7 @@ use Rattle.rdx_lang.specs.Members.{In, here, there}
 use Rattle.rdx_lang.specs.Names.{names}
 use Rattle.rdx_lang.specs.Patterns.{Pattern, hole, Items, one, many, Language}
 use Rattle.rdx_lang.specs.PatternView.{Slot, just, repeated, items_of}
-use Rattle.rdx_lang.specs.Rules.{Match, MatchItems, MatchRun, match_hole, match_one, match_many, run_end, run_more}
+use Rattle.rdx_lang.specs.Rules.{MatchItems, MatchRun, match_hole, match_one, match_many, run_end, run_more}
 use Rattle.rdx_lang.specs.Rules.{Split, SplitItems, SplitRun, split_here, split_behind, split_many, run_here, run_there, run_behind}
 use Rattle.rdx_lang.proofs.JoinLaws.{unit_left, unit_left-only}
 use Rattle.rdx_lang.proofs.NameLaws.{items-ascends, run-ascends}

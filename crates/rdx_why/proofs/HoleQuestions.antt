@@ -17,7 +17,6 @@ use Rattle.rdx_lang.specs.Listing.{Matches}
 use Rattle.rdx_lang.specs.Members.{In, here, there}
 use Rattle.rdx_lang.specs.Patterns.{Pattern, Language}
 use Rattle.rdx_lang.specs.PatternView.{Slot, slot_of}
-use Rattle.rdx_lang.specs.Rules.{Match}
 use Rattle.rdx_lang.specs.Shown.{binding_of, bindings_of}
 use Rattle.rdx_lang.specs.declared.binding.Binding as code_binding
 use Rattle.rdx_lang.specs.declared.pattern.Item as code_item

@@ -1,5 +1,5 @@
 -- The way that alternatives share, and what the list around the hole says of their splits.
-use Rattle.std.proofs.Common.{◌≡◌, ℕ, zero, suc, ◌<◌, Option, Some, List, refl, sym, ◌∙◌, ap, subst, inl, inr}
+use Rattle.std.proofs.Common.{◌≡◌, ℕ, zero, suc, ◌<◌, Some, List, refl, sym, ◌∙◌, ap, subst, inl, inr}
 use Rattle.rdx_term.specs.Items.{trees_count, item_at, put_at}
 use Rattle.rdx_term.specs.Tree.{Tree, list, Trees, cons}
 use Rattle.rdx_term.specs.Tree.{nil as no_trees}
@@ -9,9 +9,9 @@ use Rattle.rdx_lang.specs.Bindings.{Binding, no_names}
 use Rattle.rdx_lang.specs.Members.{In}
 use Rattle.rdx_lang.specs.Patterns.{Pattern, nt, seq, Language}
 use Rattle.rdx_lang.specs.PatternView.{Slot, items_of}
-use Rattle.rdx_lang.specs.Rules.{Match, MatchItems, match_seq, Split, SplitItems, split_seq}
+use Rattle.rdx_lang.specs.Rules.{Match, match_seq, Split, SplitItems, split_seq}
 use Rattle.rdx_lang.specs.declared.pattern.Ref.{Ref}
-use Rattle.rdx_lang.proofs.RuleSteps.{SomeMatch, SomeSplit, ListSplit, list_inside, seq_splits, nt_splits}
+use Rattle.rdx_lang.proofs.RuleSteps.{SomeMatch, ListSplit, list_inside, seq_splits, nt_splits}
 use Rattle.rdx_lang.proofs.SplitLaws.{items-along}
 use Rattle.rdx_bind.proofs.NoSets.{split-nothing}
 use Rattle.rdx_why.specs.Inside.Around.{IsGoing, IsWay, with_hole, NoOtherIsHole, IsHoleList, IsShared, IsPath}

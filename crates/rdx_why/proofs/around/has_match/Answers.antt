@@ -1,6 +1,6 @@
 use Rattle.std.proofs.Common.{◌≡◌, ℕ, length, ap, ◌∙◌, subst, arith}
 use Rattle.std.specs.Prelude.{◌==◌}
-use Rattle.rdx_lang.specs.Checked.{language_in, pattern_in}
+use Rattle.rdx_lang.specs.Checked.{language_in}
 use Rattle.rdx_lang.specs.Listing.{Matches}
 use Rattle.rdx_lang.specs.Patterns.{Pattern}
 use Rattle.rdx_lang.specs.Shown.{bindings_of}

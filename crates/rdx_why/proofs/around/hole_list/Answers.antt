@@ -1,7 +1,7 @@
 use Rattle.std.proofs.Common.{sym, ap, ◌∙◌, subst}
 use Rattle.std.proofs.lemmas.Result.{IfOk-weaker}
 use Rattle.rdx_term.specs.Tree.{Tree}
-use Rattle.rdx_term.specs.View.{built_list, tree_of, trees_of}
+use Rattle.rdx_term.specs.View.{built_list, trees_of}
 use Rattle.rdx_why.specs.Inside.Around.{IsHoleList}
 use Rattle.rdx_why.proofs.HoleQuestions.{hole_listed}
 use Rattle.rdx_why.proofs.around.hole_list.Goals as goal

@@ -1,4 +1,4 @@
-use Rattle.std.proofs.Common.{◌≡◌, ◌∙◌, Option, Some, get_or, length, map, sym, ap, subst}
+use Rattle.std.proofs.Common.{◌∙◌, get_or, map, sym, ap, subst}
 use Rattle.rdx_term.specs.Tree.{Tree, list}
 use Rattle.rdx_term.specs.View.{tree_of, trees_of}
 use Rattle.rdx_lang.specs.Checked.{language_in}

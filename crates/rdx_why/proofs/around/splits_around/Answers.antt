@@ -1,9 +1,7 @@
-use Rattle.std.proofs.Common.{◌≡◌, ◌∙◌, true, false, sym, ap, subst}
+use Rattle.std.proofs.Common.{◌≡◌, ◌∙◌, true, false, sym, ap}
 use Rattle.std.proofs.lemmas.Option.{same_Some}
-use Rattle.std.specs.Prelude.{IfSome}
 use Rattle.rdx_term.specs.View.{tree_of}
 use Rattle.rdx_lang.specs.Checked.{language_in}
-use Rattle.rdx_lang.specs.PatternView.{pattern_of}
 use Rattle.rdx_lang.specs.Patterns.{nt}
 use Rattle.rdx_lang.proofs.LookupLaws.{is_same-equal}
 use Rattle.rdx_why.specs.Inside.Around.{IsPath}

@@ -1,7 +1,6 @@
-use Rattle.std.proofs.Common.{◌≡◌, ◌∙◌, ap}
-use Rattle.rdx_lang.specs.Bindings.{no_names, of_pairs}
+use Rattle.std.proofs.Common.{◌∙◌, ap}
+use Rattle.rdx_lang.specs.Bindings.{of_pairs}
 use Rattle.rdx_lang.specs.BindingView.{pairs_of}
-use Rattle.rdx_lang.specs.Shown.{binding_of}
 use Rattle.rdx_why.proofs.choosing.nothing_where.Goals as goal
 
 pub returns-then-holds-clause-some : goal.returns-then-holds-clause-some
