@@ -16,13 +16,14 @@ use Rattle.rdx_deriv.specs.Lines.{derivation_lines}
 use Rattle.rdx_why.specs.Explaining.{Explains}
 use Rattle.rdx_answer.specs.AnswerText.{counted_text, line_text, lines_text, fault_line}
 use Rattle.rdx_answer.specs.Answering.{HostValue, IsAnswer, over_value, over_fault, counts_behind}
+use Rattle.rdx_answer.specs.Bound.{Bound}
 use Rattle.rdx_answer.specs.Explained.{Part, said, shown, said_text, whole_text, explained_line, head_line, AreSaid, ExplainEach, explain_none, explain_more, ShowMatches, ShowSplits, show_value, show_fault, ExplainsValue, show_values, Shows, AreExplained, none_explained, more_explained, WritesExplained, AllCanBeExplained}
 use Rattle.rdx_answer.specs.HoldsAnswers.{FindsMet, Values, values_of, values_found}
 use Rattle.rdx_answer.specs.Inside.Appending.{AppendsAnswer}
 use Rattle.rdx_answer.specs.Inside.Explaining.{AreParts, Gains, GainsAnswer, GainsBehind, GainsDerivation, is_shown, IsLawful, IsShowableQuery}
 use Rattle.rdx_answer.specs.MatchAnswers.{IsMatchesAnswer, IsSplitsAnswer}
 use Rattle.rdx_answer.specs.Queries as model
-use Rattle.rdx_answer.specs.Queries.{NamesKnown, matches, whether, splits, value as itself, holds, reducts, tagged, stepper, generate, check, test_equal, test_step, test_run, test_match, test_holds, test_results}
+use Rattle.rdx_answer.specs.Queries.{NamesKnown, matches, whether, splits, value as itself, holds, reducts, tagged, stepper, generate, check, alike, substituted, test_equal, test_step, test_run, test_match, test_holds, test_results}
 use Rattle.rdx_answer.specs.Tests.{Counts, no_tests}
 use Rattle.rdx_answer.specs.Views.{AllNamesKnown, query_of}
 use Rattle.rdx_answer.specs.declared.queries.Query.{Query}
@@ -132,6 +133,8 @@ said_shows P (tagged name h) ps e a = a
 said_shows P (stepper name h) ps e a = a
 said_shows P (generate name p size seed) ps e a = a
 said_shows P (check name p h attempts seed) ps e a = a
+said_shows P (alike fs h k) ps e a = a
+said_shows P (substituted fs h k l) ps e a = a
 said_shows P (test_equal h k) ps e a = a
 said_shows P (test_step name h ks) ps e a = a
 said_shows P (test_run name h ks) ps e a = a
@@ -182,54 +185,54 @@ module _ (P : Program) (name : List ℕ) (p : Pattern) (h : Host) where
 -- ---- queries
 
 -- the parts so far, which those of the rest complete, where so many tests were counted, and whether all so far is met; and what is known of the rest
-pub record ExplainedUpto (P : Program) (all rest : List Query) (c : Counts) (text : List ℕ) (met : Bool) : Type 0 where
+pub record ExplainedUpto (P : Program) (bs : List Bound) (all rest : List Query) (c : Counts) (text : List ℕ) (met : Bool) : Type 0 where
   pub front : List Part
-  pub completes : (ps : List Part) (m : Bool) → AreExplained P c (map query_of rest) ps m
-      → AreExplained P no_tests (map query_of all) (front ++ ps) (met && m)
+  pub completes : (ps : List Part) (m : Bool) → AreExplained P c (map (query_of bs) rest) ps m
+      → AreExplained P no_tests (map (query_of bs) all) (front ++ ps) (met && m)
   pub written : text ≡ whole_text P front
-  pub named : AllNamesKnown P (map query_of rest)
-  pub shown : AllCanBeExplained P (map query_of rest)
+  pub named : AllNamesKnown P (map (query_of bs) rest)
+  pub shown : AllCanBeExplained P (map (query_of bs) rest)
 
-module _ (P : Program) (all : List Query) where
+module _ (P : Program) (bs : List Bound) (all : List Query) where
   -- at the start there are none
-  pub explained_start : (text : List ℕ) → text ≡ [] → AllNamesKnown P (map query_of all) → AllCanBeExplained P (map query_of all)
-      → ExplainedUpto P all all no_tests text true
+  pub explained_start : (text : List ℕ) → text ≡ [] → AllNamesKnown P (map (query_of bs) all) → AllCanBeExplained P (map (query_of bs) all)
+      → ExplainedUpto P bs all all no_tests text true
   explained_start text e n s = record { front = []; completes = λ ps m k. k; written = e; named = n; shown = s }
 
   -- the next query can be explained
   pub explained_named : (i : ℕ) (q : Query) (c : Counts) (text : List ℕ) (met : Bool) → i < length all → q ≡ get_or all i q → IsLawful P
-      → ExplainedUpto P all (drop i all) c text met → IsShowableQuery P (query_of q)
+      → ExplainedUpto P bs all (drop i all) c text met → IsShowableQuery P (query_of bs q)
   explained_named i q c text met h e l u = record {
     lawful = l;
-    named = (subst (AllNamesKnown P) (rest_at query_of all i q h e) u.named).0;
-    shown = (subst (AllCanBeExplained P) (rest_at query_of all i q h e) u.shown).0;
+    named = (subst (AllNamesKnown P) (rest_at (query_of bs) all i q h e) u.named).0;
+    shown = (subst (AllCanBeExplained P) (rest_at (query_of bs) all i q h e) u.shown).0;
   }
 
   -- one answer more
   pub explained_next : (i : ℕ) (q : Query) (c : Counts) (before after : List ℕ) (met m : Bool) → i < length all → q ≡ get_or all i q
-      → GainsAnswer P c (query_of q) before after m → ExplainedUpto P all (drop i all) c before met
-      → ExplainedUpto P all (drop (i + 1) all) (counts_behind (query_of q) m c) after (met && m)
+      → GainsAnswer P c (query_of bs q) before after m → ExplainedUpto P bs all (drop i all) c before met
+      → ExplainedUpto P bs all (drop (i + 1) all) (counts_behind (query_of bs q) m c) after (met && m)
   explained_next i q c before after met m h e a u = record {
     front = u.front ++ a.parts;
     completes = λ ps n r.
-        subst (λ (b : Bool). AreExplained P no_tests (map query_of all) ((u.front ++ a.parts) ++ ps) b) (sym (and-assoc met m n))
-        (subst (λ (qs : List Part). AreExplained P no_tests (map query_of all) qs (met && (m && n))) (sym (append_assoc u.front a.parts ps))
+        subst (λ (b : Bool). AreExplained P no_tests (map (query_of bs) all) ((u.front ++ a.parts) ++ ps) b) (sym (and-assoc met m n))
+        (subst (λ (qs : List Part). AreExplained P no_tests (map (query_of bs) all) qs (met && (m && n))) (sym (append_assoc u.front a.parts ps))
         (u.completes (a.parts ++ ps) (m && n)
-        (subst (λ qs. AreExplained P c qs (a.parts ++ ps) (m && n)) (sym (rest_at query_of all i q h e)) (more_explained a.parts ps m n a.shows r))));
+        (subst (λ qs. AreExplained P c qs (a.parts ++ ps) (m && n)) (sym (rest_at (query_of bs) all i q h e)) (more_explained a.parts ps m n a.shows r))));
     written = a.gained ∙ ap (λ z. z ++ whole_text P a.parts) u.written ∙ sym (whole-append P u.front a.parts);
-    named = (subst (AllNamesKnown P) (rest_at query_of all i q h e) u.named).1;
-    shown = (subst (AllCanBeExplained P) (rest_at query_of all i q h e) u.shown).1;
+    named = (subst (AllNamesKnown P) (rest_at (query_of bs) all i q h e) u.named).1;
+    shown = (subst (AllCanBeExplained P) (rest_at (query_of bs) all i q h e) u.shown).1;
   }
 
   -- all queries are answered
-  pub explained_end : (i : ℕ) (c : Counts) (text : List ℕ) (met : Bool) → length all ≤ i → ExplainedUpto P all (drop i all) c text met
-      → WritesExplained P no_tests (map query_of all) text met
+  pub explained_end : (i : ℕ) (c : Counts) (text : List ℕ) (met : Bool) → length all ≤ i → ExplainedUpto P bs all (drop i all) c text met
+      → WritesExplained P no_tests (map (query_of bs) all) text met
   explained_end i c text met e u = record {
     parts = u.front;
     explained =
-        subst (λ (b : Bool). AreExplained P no_tests (map query_of all) u.front b) (and-true met)
-        (subst (λ (qs : List Part). AreExplained P no_tests (map query_of all) qs (met && true)) (append-nil u.front)
-        (u.completes [] true (subst (λ qs. AreExplained P c qs [] true) (sym (rest_none query_of all i e)) none_explained)));
+        subst (λ (b : Bool). AreExplained P no_tests (map (query_of bs) all) u.front b) (and-true met)
+        (subst (λ (qs : List Part). AreExplained P no_tests (map (query_of bs) all) qs (met && true)) (append-nil u.front)
+        (u.completes [] true (subst (λ qs. AreExplained P c qs [] true) (sym (rest_none (query_of bs) all i e)) none_explained)));
     printed = u.written;
   }
 

@@ -7,6 +7,8 @@ pub mod SameTexts
 pub mod LeastAlike
 pub mod AppendedComparison
 pub mod Compared
+pub mod FoundForms
+pub mod Outcomes
 pub mod Trying
 pub mod Attempting
 pub mod OverHosts

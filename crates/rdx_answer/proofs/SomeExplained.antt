@@ -39,7 +39,7 @@ use Rattle.rdx_answer.specs.Explained.{Part, said, shown, said_text, explained_l
 use Rattle.rdx_answer.specs.HoldsAnswers.{FindsMet, WritesWhether, whether_found, question_faulted, Values, ValuesOf, values_of, bindings_faulted, WritesValues, values_found, values_faulted}
 use Rattle.rdx_answer.specs.Laws.{ExplainsAnswers, EachAnswerIsExplained}
 use Rattle.rdx_answer.specs.MatchAnswers.{Finds, FindsSplits, IsMatchesAnswer, IsSplitsAnswer}
-use Rattle.rdx_answer.specs.Queries.{Query, matches, whether, splits, value, holds, reducts, tagged, stepper, generate, check, test_equal, test_step, test_run, test_match, test_holds, test_results}
+use Rattle.rdx_answer.specs.Queries.{Query, matches, whether, splits, value, holds, reducts, tagged, stepper, generate, check, alike, substituted, test_equal, test_step, test_run, test_match, test_holds, test_results}
 use Rattle.rdx_answer.specs.Tests.{Counts}
 use Rattle.rdx_answer.proofs.ExplainedRuns.{said-append}
 
@@ -299,6 +299,8 @@ module _ (derived : WhatFollowsHasDerivation) (answered : OutputsAreJudged) (P :
   answer_explained c (stepper name h) text met s a = record { parts = said text ∷ []; shows = plain text; said = all_said text }
   answer_explained c (generate name p size seed) text met s a = record { parts = said text ∷ []; shows = plain text; said = all_said text }
   answer_explained c (check name p h n seed) text met s a = record { parts = said text ∷ []; shows = plain text; said = all_said text }
+  answer_explained c (alike fs h k) text met s a = record { parts = said text ∷ []; shows = plain text; said = all_said text }
+  answer_explained c (substituted fs h k l) text met s a = record { parts = said text ∷ []; shows = plain text; said = all_said text }
   answer_explained c (test_equal h k) text met s a = record { parts = said text ∷ []; shows = plain text; said = all_said text }
   answer_explained c (test_step name h ks) text met s a = record { parts = said text ∷ []; shows = plain text; said = all_said text }
   answer_explained c (test_run name h ks) text met s a = record { parts = said text ∷ []; shows = plain text; said = all_said text }

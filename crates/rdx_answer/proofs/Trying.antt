@@ -2,17 +2,19 @@
 use Rattle.std.proofs.Common.{◌≡◌, ℕ, Bool, false, List, [], ◌∷◌, Some, refl, sym, subst}
 use Rattle.std.specs.Prelude.{Result, Ok, Err, IfOk, IsErrAnd, OnOk}
 use Rattle.rdx_term.specs.Tree.{Tree}
+use Rattle.rdx_term.specs.View.{tree_of}
 use Rattle.rdx_lang.specs.Programs.{Program}
 use Rattle.rdx_lang.specs.Templates.{Host}
 use Rattle.rdx_eval.specs.Answers.{Answer, value, fault, Fault}
 use Rattle.rdx_eval.specs.Views.{Says}
 use Rattle.rdx_eval.specs.declared.fault.EvalFault.{EvalFault}
 use Rattle.rdx_eval.specs.declared.fault.EvalFault.TheVariants.{Named, NoMemory}
+use Rattle.rdx_answer.specs.AlphaAnswers.{IsAlikeAnswer, IsSubstitutedAnswer}
 use Rattle.rdx_answer.specs.AnswerText.{fault_line}
-use Rattle.rdx_answer.specs.Answering.{IsAnswer, IsValueAnswer, HostValue, Over, over_value, OverEach}
+use Rattle.rdx_answer.specs.Answering.{IsAnswer, IsValueAnswer, HostValue, Over, over_value, over_fault, OverEach}
 use Rattle.rdx_answer.specs.Inside.Appending.{Tries, host_in, IsAnswerOver}
 use Rattle.rdx_answer.specs.MatchAnswers.{IsMatchesAnswer, IsWhetherAnswer, IsSplitsAnswer}
-use Rattle.rdx_answer.specs.Queries.{Query, matches, whether, splits, value as itself, holds, reducts, tagged, stepper, generate, check, test_equal, test_step, test_run, test_match, test_holds, test_results}
+use Rattle.rdx_answer.specs.Queries.{Query, matches, whether, splits, value as itself, holds, reducts, tagged, stepper, generate, check, alike, substituted, test_equal, test_step, test_run, test_match, test_holds, test_results}
 use Rattle.rdx_answer.specs.StepAnswers.{IsReductsAnswer, IsTaggedAnswer}
 use Rattle.rdx_answer.specs.StepperAnswers.{IsStepperAnswer}
 use Rattle.rdx_answer.specs.TestAnswers.{IsStepTestAnswer, IsRunTestAnswer, IsMatchTestAnswer}
@@ -43,6 +45,16 @@ tried_as V W before after (Ok x) k a = record { text = a.text; answer = k a.text
 tried_as V W before after (Err (Named f)) k a = (a.0, k _ _ a.1)
 tried_as V W before after (Err NoMemory) k a = tt
 
+-- a host expression has a fault, by `?`
+pub host_faulted : (P : Program) (k : Host) (W : Tree → List ℕ → Bool → Type 0) (out : List ℕ) (r : Result Bool EvalFault) (e : EvalFault)
+    → IsErrAnd r (λ d. d ≡ e) → Says tree_of (HostValue P k) (Err e) → Tries (Over P k W) out out r
+host_faulted P k W out r e d h = error_tried tree_of (HostValue P k) (Over P k W) out r e d (λ f v. over_fault f v refl refl) h
+
+-- it makes a term, of which W has what is appended
+pub host_made : (P : Program) (k : Host) (W : Tree → List ℕ → Bool → Type 0) (t : Tree) (before after : List ℕ) (r : Result Bool EvalFault)
+    → HostValue P k (value t) → Tries (W t) before after r → Tries (Over P k W) before after r
+host_made P k W t before after r v a = tried_as (Over P k W) (W t) before after r (λ text met b. over_value t v b) a
+
 -- equal host expressions
 same_host : (h k : Host) → Some h ≡ Some k → k ≡ h
 same_host h k e = cc
@@ -60,6 +72,9 @@ module _ (P : Program) (cs : List ℕ) (c : Counts) where
   answer_over (stepper name k) h text met e a = subst (λ (i : Host). Over P i (IsStepperAnswer P name cs) text met) (same_host k h e) a
   answer_over (generate name p size seed) h text met e a = absurd cc
   answer_over (check name p k attempts seed) h text met e a = absurd cc
+  answer_over (alike fs k l) h text met e a = subst (λ (i : Host). Over P i (λ t. Over P l (IsAlikeAnswer fs t)) text met) (same_host k h e) a
+  answer_over (substituted fs k l m) h text met e a =
+      subst (λ (i : Host). Over P i (λ t. Over P l (λ x. Over P m (IsSubstitutedAnswer fs t x))) text met) (same_host k h e) a
   answer_over (test_equal k l) h text met e a =
       subst (λ (i : Host). Over P i (λ t. Over P l (λ u. Compares (t ∷ []) (u ∷ []))) text met) (same_host k h e) a
   answer_over (test_step name k ls) h text met e a =

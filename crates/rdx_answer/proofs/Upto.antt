@@ -4,9 +4,10 @@ use Rattle.std.specs.Prelude.{◌&&◌}
 use Rattle.rdx_lang.proofs.Rest.{rest_at, rest_none}
 use Rattle.rdx_lang.specs.Programs.{Program}
 use Rattle.rdx_answer.specs.Answering.{AreAnswers, no_answers, more_answers, counts_behind}
+use Rattle.rdx_answer.specs.Bound.{Bound}
 use Rattle.rdx_answer.specs.Inside.Appending.{AppendsAnswer}
 use Rattle.rdx_answer.specs.Queries as model
-use Rattle.rdx_answer.specs.Queries.{NamesKnown, matches, whether, splits, value, holds, reducts, tagged, stepper, generate, check, test_equal, test_step, test_run, test_match, test_holds, test_results}
+use Rattle.rdx_answer.specs.Queries.{NamesKnown, matches, whether, splits, value, holds, reducts, tagged, stepper, generate, check, alike, substituted, test_equal, test_step, test_run, test_match, test_holds, test_results}
 use Rattle.rdx_answer.specs.Tests.{Counts, no_tests, one_more}
 use Rattle.rdx_answer.specs.Views.{AllNamesKnown, query_of}
 use Rattle.rdx_answer.specs.declared.queries.Query.{Query}
@@ -34,6 +35,8 @@ total-behind (tagged name h) m c = omega arith
 total-behind (stepper name h) m c = omega arith
 total-behind (generate name p size seed) m c = omega arith
 total-behind (check name p h attempts seed) m c = omega arith
+total-behind (alike fs h k) m c = omega arith
+total-behind (substituted fs h k l) m c = omega arith
 total-behind (test_equal h k) m c = total-more m c
 total-behind (test_step name h ks) m c = total-more m c
 total-behind (test_run name h ks) m c = total-more m c
@@ -55,37 +58,37 @@ and-true false = refl
 
 -- ---- queries
 
--- the text so far, which the answers to the rest complete, where so many tests were counted, and whether all so far is met; and what the rest names is
--- known
-pub record Upto (P : Program) (cs : List ℕ) (all rest : List Query) (c : Counts) (text : List ℕ) (met : Bool) : Type 0 where
-  pub completes : (texts : List ℕ) (m : Bool) → AreAnswers P cs c (map query_of rest) texts m
-      → AreAnswers P cs no_tests (map query_of all) (text ++ texts) (met && m)
-  pub named : AllNamesKnown P (map query_of rest)
+-- the text so far, which the answers to the rest complete, where the languages have these binding forms and so many tests were counted, and whether
+-- all so far is met; and what the rest names is known
+pub record Upto (P : Program) (cs : List ℕ) (bs : List Bound) (all rest : List Query) (c : Counts) (text : List ℕ) (met : Bool) : Type 0 where
+  pub completes : (texts : List ℕ) (m : Bool) → AreAnswers P cs c (map (query_of bs) rest) texts m
+      → AreAnswers P cs no_tests (map (query_of bs) all) (text ++ texts) (met && m)
+  pub named : AllNamesKnown P (map (query_of bs) rest)
 
-module _ (P : Program) (cs : List ℕ) (all : List Query) where
+module _ (P : Program) (cs : List ℕ) (bs : List Bound) (all : List Query) where
   -- what the next query names is known
-  pub upto_named : (i : ℕ) (q : Query) (c : Counts) (text : List ℕ) (met : Bool) → i < length all → q ≡ get_or all i q → Upto P cs all (drop i all) c text met
-      → NamesKnown P (query_of q)
-  upto_named i q c text met h e u = (subst (AllNamesKnown P) (rest_at query_of all i q h e) u.named).0
+  pub upto_named : (i : ℕ) (q : Query) (c : Counts) (text : List ℕ) (met : Bool) → i < length all → q ≡ get_or all i q → Upto P cs bs all (drop i all) c text met
+      → NamesKnown P (query_of bs q)
+  upto_named i q c text met h e u = (subst (AllNamesKnown P) (rest_at (query_of bs) all i q h e) u.named).0
 
   -- one answer more
   pub upto_next : (i : ℕ) (q : Query) (c : Counts) (before after : List ℕ) (met m : Bool) → i < length all → q ≡ get_or all i q
-      → AppendsAnswer P cs c (query_of q) before after m → Upto P cs all (drop i all) c before met
-      → Upto P cs all (drop (i + 1) all) (counts_behind (query_of q) m c) after (met && m)
+      → AppendsAnswer P cs c (query_of bs q) before after m → Upto P cs bs all (drop i all) c before met
+      → Upto P cs bs all (drop (i + 1) all) (counts_behind (query_of bs q) m c) after (met && m)
   upto_next i q c before after met m h e a u = record {
     completes = λ texts n r.
-        subst (λ (b : Bool). AreAnswers P cs no_tests (map query_of all) (after ++ texts) b) (sym (and-assoc met m n))
-        (subst (λ (x : List ℕ). AreAnswers P cs no_tests (map query_of all) (x ++ texts) (met && (m && n))) (sym a.gained)
-        (subst (λ (x : List ℕ). AreAnswers P cs no_tests (map query_of all) x (met && (m && n))) (sym (append_assoc before a.text texts))
+        subst (λ (b : Bool). AreAnswers P cs no_tests (map (query_of bs) all) (after ++ texts) b) (sym (and-assoc met m n))
+        (subst (λ (x : List ℕ). AreAnswers P cs no_tests (map (query_of bs) all) (x ++ texts) (met && (m && n))) (sym a.gained)
+        (subst (λ (x : List ℕ). AreAnswers P cs no_tests (map (query_of bs) all) x (met && (m && n))) (sym (append_assoc before a.text texts))
         (u.completes (a.text ++ texts) (m && n)
-        (subst (λ qs. AreAnswers P cs c qs (a.text ++ texts) (m && n)) (sym (rest_at query_of all i q h e)) (more_answers a.text texts m n a.answer r)))));
-    named = (subst (AllNamesKnown P) (rest_at query_of all i q h e) u.named).1;
+        (subst (λ qs. AreAnswers P cs c qs (a.text ++ texts) (m && n)) (sym (rest_at (query_of bs) all i q h e)) (more_answers a.text texts m n a.answer r)))));
+    named = (subst (AllNamesKnown P) (rest_at (query_of bs) all i q h e) u.named).1;
   }
 
   -- all queries are answered
-  pub upto_end : (i : ℕ) (c : Counts) (text : List ℕ) (met : Bool) → length all ≤ i → Upto P cs all (drop i all) c text met
-      → AreAnswers P cs no_tests (map query_of all) text met
+  pub upto_end : (i : ℕ) (c : Counts) (text : List ℕ) (met : Bool) → length all ≤ i → Upto P cs bs all (drop i all) c text met
+      → AreAnswers P cs no_tests (map (query_of bs) all) text met
   upto_end i c text met e u =
-      subst (λ (b : Bool). AreAnswers P cs no_tests (map query_of all) text b) (and-true met)
-      (subst (λ (x : List ℕ). AreAnswers P cs no_tests (map query_of all) x (met && true)) (append-nil text)
-      (u.completes [] true (subst (λ qs. AreAnswers P cs c qs [] true) (sym (rest_none query_of all i e)) no_answers)))
+      subst (λ (b : Bool). AreAnswers P cs no_tests (map (query_of bs) all) text b) (and-true met)
+      (subst (λ (x : List ℕ). AreAnswers P cs no_tests (map (query_of bs) all) x (met && true)) (append-nil text)
+      (u.completes [] true (subst (λ qs. AreAnswers P cs c qs [] true) (sym (rest_none (query_of bs) all i e)) no_answers)))

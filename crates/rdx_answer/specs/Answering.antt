@@ -8,11 +8,12 @@ use Rattle.rdx_eval.specs.Answers as evaluation
 use Rattle.rdx_eval.specs.Answers.{Answer, Fault, Gather, Single}
 use Rattle.rdx_eval.specs.Heights.{calls_at, height}
 use Rattle.rdx_eval.specs.Instantiation.{HostMakes}
+use Rattle.rdx_answer.specs.AlphaAnswers.{IsAlikeAnswer, IsSubstitutedAnswer}
 use Rattle.rdx_answer.specs.AnswerText.{value_line, fault_line}
 use Rattle.rdx_answer.specs.GenerateAnswers.{IsGenerateAnswer, IsCheckAnswer}
 use Rattle.rdx_answer.specs.HoldsAnswers.{IsPremiseAnswer}
 use Rattle.rdx_answer.specs.MatchAnswers.{IsMatchesAnswer, IsWhetherAnswer, IsSplitsAnswer}
-use Rattle.rdx_answer.specs.Queries.{Query, matches, whether, splits, value, holds, reducts, tagged, stepper, generate, check, test_equal, test_step, test_run, test_match, test_holds, test_results}
+use Rattle.rdx_answer.specs.Queries.{Query, matches, whether, splits, value, holds, reducts, tagged, stepper, generate, check, alike, substituted, test_equal, test_step, test_run, test_match, test_holds, test_results}
 use Rattle.rdx_answer.specs.StepAnswers.{IsReductsAnswer, IsTaggedAnswer}
 use Rattle.rdx_answer.specs.StepperAnswers.{IsStepperAnswer}
 use Rattle.rdx_answer.specs.TestAnswers.{IsStepTestAnswer, IsRunTestAnswer, IsMatchTestAnswer, IsHoldsTestAnswer, IsResultsAnswer}
@@ -58,6 +59,8 @@ IsAnswer P cs c (tagged name h) text met = Over P h (IsTaggedAnswer P name) text
 IsAnswer P cs c (stepper name h) text met = Over P h (IsStepperAnswer P name cs) text met
 IsAnswer P cs c (generate name p size seed) text met = IsGenerateAnswer P name p size seed text met
 IsAnswer P cs c (check name p h attempts seed) text met = IsCheckAnswer P name p h attempts seed text met
+IsAnswer P cs c (alike fs h k) text met = Over P h (λ t. Over P k (IsAlikeAnswer fs t)) text met
+IsAnswer P cs c (substituted fs h k l) text met = Over P h (λ t. Over P k (λ x. Over P l (IsSubstitutedAnswer fs t x))) text met
 IsAnswer P cs c (test_equal h k) text met = Over P h (λ t. Over P k (λ u. Compares (t ∷ []) (u ∷ []))) text met
 IsAnswer P cs c (test_step name h ks) text met = Over P h (λ t. OverEach P ks (IsStepTestAnswer P name t)) text met
 IsAnswer P cs c (test_run name h ks) text met = Over P h (λ t. OverEach P ks (IsRunTestAnswer P name t)) text met
@@ -77,6 +80,8 @@ counts_behind (tagged name h) met c = c
 counts_behind (stepper name h) met c = c
 counts_behind (generate name p size seed) met c = c
 counts_behind (check name p h attempts seed) met c = c
+counts_behind (alike fs h k) met c = c
+counts_behind (substituted fs h k l) met c = c
 counts_behind (test_equal h k) met c = one_more met c
 counts_behind (test_step name h ks) met c = one_more met c
 counts_behind (test_run name h ks) met c = one_more met c

@@ -23,7 +23,7 @@ use Rattle.rdx_answer.specs.Answering.{IsAnswer, HostValue, counts_behind}
 use Rattle.rdx_answer.specs.AnswerText.{binding_text, split_text, holds_text, line_text}
 use Rattle.rdx_answer.specs.HoldsAnswers.{FindsMet, Values}
 use Rattle.rdx_answer.specs.MatchAnswers.{Finds, FindsSplits}
-use Rattle.rdx_answer.specs.Queries.{Query, matches, whether, splits, value as value_query, holds, reducts, tagged, stepper, generate, check, test_equal, test_step, test_run, test_match, test_holds, test_results}
+use Rattle.rdx_answer.specs.Queries.{Query, matches, whether, splits, value as value_query, holds, reducts, tagged, stepper, generate, check, alike, substituted, test_equal, test_step, test_run, test_match, test_holds, test_results}
 use Rattle.rdx_answer.specs.Tests.{Counts}
 use Rattle.rdx_term.specs.Text.{tree_text}
 
@@ -142,6 +142,8 @@ CanBeExplained P (tagged name h) = Unit {0}
 CanBeExplained P (stepper name h) = Unit {0}
 CanBeExplained P (generate name p size seed) = Unit {0}
 CanBeExplained P (check name p h attempts seed) = Unit {0}
+CanBeExplained P (alike fs h k) = Unit {0}
+CanBeExplained P (substituted fs h k l) = Unit {0}
 CanBeExplained P (test_equal h k) = Unit {0}
 CanBeExplained P (test_step name h ks) = Unit {0}
 CanBeExplained P (test_run name h ks) = Unit {0}
@@ -175,6 +177,8 @@ Shows P (tagged name h) ps = AreSaid ps
 Shows P (stepper name h) ps = AreSaid ps
 Shows P (generate name p size seed) ps = AreSaid ps
 Shows P (check name p h attempts seed) ps = AreSaid ps
+Shows P (alike fs h k) ps = AreSaid ps
+Shows P (substituted fs h k l) ps = AreSaid ps
 Shows P (test_equal h k) ps = AreSaid ps
 Shows P (test_step name h ks) ps = AreSaid ps
 Shows P (test_run name h ks) ps = AreSaid ps

@@ -6,3 +6,5 @@ pub mod Comparing
 pub mod Contexts
 pub mod Whether
 pub mod Explaining
+pub mod Tabled
+pub mod Putting

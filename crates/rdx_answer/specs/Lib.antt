@@ -1,5 +1,7 @@
+pub mod Bound
 pub mod Queries
 pub mod AnswerText
+pub mod AlphaAnswers
 pub mod MatchAnswers
 pub mod HoldsAnswers
 pub mod StepAnswers
@@ -14,4 +16,5 @@ pub mod Workload
 pub mod Examples
 pub mod Laws
 pub mod Views
+pub mod Model
 pub mod Inside

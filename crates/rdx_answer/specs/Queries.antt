@@ -3,6 +3,7 @@ use Rattle.std.specs.Prelude.{◌≡◌, ℕ, Bool, List, Option, Some, IsSome}
 use Rattle.rdx_lang.specs.Patterns.{Pattern}
 use Rattle.rdx_lang.specs.Programs.{Judgement, Premise, Program, Relation, language_named, judgement_named, relation_named}
 use Rattle.rdx_lang.specs.Templates.{Host, Template}
+use Rattle.rdx_alpha.specs.Forms.{Form}
 
 -- a query, over what a host expression makes: in the language of a name, the bindings by which a pattern matches it, whether there are some, or
 -- what the pattern splits it into; itself; or, by the relation of a name, the terms that it leads to, the steps with the names of their rules, or the
@@ -21,6 +22,10 @@ pub data Query : Type 0 where
   -- binding by which the pattern matches one of so many generated terms, from the words of a seed
   generate : List ℕ → Pattern → ℕ → ℕ → Query
   check : List ℕ → Pattern → Host → ℕ → ℕ → Query
+  -- under binding forms, whether what two host expressions make is alpha equivalent; or what the first makes with what the third makes put for the
+  -- symbol that the second makes
+  alike : List Form → Host → Host → Query
+  substituted : List Form → Host → Host → Host → Query
   -- a test: that two host expressions make the same; that the relation of a name leads from what one makes to what the others make, in one step, or
   -- where the run from it ends; that a pattern matches what one makes, or that it does not; or that a premise is met
   test_equal : Host → Host → Query
@@ -55,6 +60,8 @@ NamesKnown P (tagged name h) = KnowsRelation P name
 NamesKnown P (stepper name h) = KnowsRelation P name
 NamesKnown P (generate name p size seed) = IsSome (language_named P name)
 NamesKnown P (check name p h attempts seed) = IsSome (language_named P name)
+NamesKnown P (alike fs h k) = Unit {0}
+NamesKnown P (substituted fs h k l) = Unit {0}
 NamesKnown P (test_equal h k) = Unit {0}
 NamesKnown P (test_step name h ks) = KnowsRelation P name
 NamesKnown P (test_run name h ks) = KnowsRelation P name

@@ -9,10 +9,13 @@ ghost use Rattle.rdx_answer.specs.Inside.Appending.{AppendsAnswer, IsAnswerOver,
 ghost use Rattle.rdx_answer.specs.Inside.Counting.{counts_of};
 ghost use Rattle.rdx_answer.specs.Queries.{NamesKnown};
 ghost use Rattle.rdx_answer.specs.Explained.{IsExplainable};
+ghost use Rattle.rdx_answer.specs.Inside.Tabled.{forms_in};
 ghost use Rattle.rdx_answer.specs.Modes.{AreAnswersIn, IsWhy};
 ghost use Rattle.rdx_answer.specs.Views.{AllNamesKnown, program_in, queries_of, query_of};
 ghost use Rattle.rdx_term.specs.View.{tree_of};
 
+use crate::alpha_answers::{write_alike, write_substituted};
+use crate::bound::FormTable;
 use crate::comparing::write_equality;
 use crate::counting::{Counts, counts_behind, no_counts, write_results};
 use crate::explained_answers::answer_explained;
@@ -83,11 +86,20 @@ fn answer_by(
         (queries_of file.now) a.transcript.items a.met) }
 {
     let mut engine = Engine::new(alloc, &file.program, host, Table::new(alloc)?);
+    let table = FormTable::new(alloc, &file.forms)?;
     let mut transcript = Vec::new(alloc);
     let mut counts = no_counts();
     let mut met = true;
     for query in &file.queries {
-        let is_met = write_answer(alloc, &mut engine, choices, counts, query, &mut transcript)?;
+        let is_met = write_answer(
+            alloc,
+            &mut engine,
+            &table,
+            choices,
+            counts,
+            query,
+            &mut transcript,
+        )?;
         counts = counts_behind(query, is_met, counts);
         met = met && is_met;
     }
@@ -99,20 +111,21 @@ fn answer_by(
 pub(crate) fn write_answer(
     alloc: Global,
     engine: &mut Engine<Table>,
+    table: &FormTable<'_>,
     choices: &[u64],
     counts: Counts,
     query: &Query,
     out: &mut Vec<u8>,
 ) -> Result<bool, NoMemory>
     requires known { NamesKnown (program_of (engines.program_in engine.old).now)
-        (query_of query.now) }
+        (query_of (forms_in table.now) query.now) }
     requires few { counts.passed + counts.failed < 2 ^ 63 }
     ensures answer { IfOk result (λ met. AppendsAnswer
         (program_of (engines.program_in engine.old).now) choices.now (counts_of counts)
-        (query_of query.now) out.old.items out.new.items met) }
+        (query_of (forms_in table.now) query.now) out.old.items out.new.items met) }
     ensures same { engines.program_in engine.new ≡ engines.program_in engine.old }
 {
-    match try_answer(alloc, engine, choices, counts, query, out) {
+    match try_answer(alloc, engine, table, choices, counts, query, out) {
         Ok(met) => Ok(met),
         Err(EvalFault::Named(fault)) => {
             write_fault(&fault, out)?;
@@ -126,17 +139,18 @@ pub(crate) fn write_answer(
 fn try_answer(
     alloc: Global,
     engine: &mut Engine<Table>,
+    table: &FormTable<'_>,
     choices: &[u64],
     counts: Counts,
     query: &Query,
     out: &mut Vec<u8>,
 ) -> Result<bool, EvalFault>
     requires known { NamesKnown (program_of (engines.program_in engine.old).now)
-        (query_of query.now) }
+        (query_of (forms_in table.now) query.now) }
     requires few { counts.passed + counts.failed < 2 ^ 63 }
     ensures answer { Tries
         (IsAnswer (program_of (engines.program_in engine.old).now) choices.now (counts_of counts)
-        (query_of query.now)) out.old.items out.new.items result }
+        (query_of (forms_in table.now) query.now)) out.old.items out.new.items result }
     ensures same { engines.program_in engine.new ≡ engines.program_in engine.old }
 {
     match query {
@@ -159,11 +173,13 @@ fn try_answer(
         | Query::Reducts(_, host)
         | Query::Tagged(_, host)
         | Query::Stepper(_, host)
+        | Query::Alpha(_, host, _)
+        | Query::Substitute(_, host, _, _)
         | Query::TestEqual(host, _)
         | Query::TestStep(_, host, _)
         | Query::TestRun(_, host, _)
         | Query::TestMatch(_, _, host, _) => {
-            try_answer_with(alloc, engine, choices, counts, query, host, out)
+            try_answer_with(alloc, engine, table, choices, counts, query, host, out)
         }
     }
 }
@@ -172,6 +188,7 @@ fn try_answer(
 fn try_answer_with(
     alloc: Global,
     engine: &mut Engine<Table>,
+    table: &FormTable<'_>,
     choices: &[u64],
     counts: Counts,
     query: &Query,
@@ -179,15 +196,15 @@ fn try_answer_with(
     out: &mut Vec<u8>,
 ) -> Result<bool, EvalFault>
     requires known { NamesKnown (program_of (engines.program_in engine.old).now)
-        (query_of query.now) }
-    requires host { host_in (query_of query.now) ≡ Some (host_of host.now) }
+        (query_of (forms_in table.now) query.now) }
+    requires host { host_in (query_of (forms_in table.now) query.now) ≡ Some (host_of host.now) }
     ensures answer { Tries
         (IsAnswer (program_of (engines.program_in engine.old).now) choices.now (counts_of counts)
-        (query_of query.now)) out.old.items out.new.items result }
+        (query_of (forms_in table.now) query.now)) out.old.items out.new.items result }
     ensures same { engines.program_in engine.new ≡ engines.program_in engine.old }
 {
     let t = engine.host(host, &Binding::new(Vec::new(alloc)))?;
-    try_answer_over(alloc, engine, choices, query, &t, out)
+    try_answer_over(alloc, engine, table, choices, query, &t, out)
 }
 
 // Appends the answer to a query whose first host expression makes this term, or gives the fault of
@@ -195,17 +212,18 @@ fn try_answer_with(
 fn try_answer_over(
     alloc: Global,
     engine: &mut Engine<Table>,
+    table: &FormTable<'_>,
     choices: &[u64],
     query: &Query,
     t: &Term,
     out: &mut Vec<u8>,
 ) -> Result<bool, EvalFault>
     requires known { NamesKnown (program_of (engines.program_in engine.old).now)
-        (query_of query.now) }
-    requires host { IsSome (host_in (query_of query.now)) }
+        (query_of (forms_in table.now) query.now) }
+    requires host { IsSome (host_in (query_of (forms_in table.now) query.now)) }
     ensures answer { Tries
         (IsAnswerOver (program_of (engines.program_in engine.old).now) choices.now
-        (query_of query.now) (tree_of t.now)) out.old.items out.new.items result }
+        (query_of (forms_in table.now) query.now) (tree_of t.now)) out.old.items out.new.items result }
     ensures same { engines.program_in engine.new ≡ engines.program_in engine.old }
 {
     match query {
@@ -219,6 +237,15 @@ fn try_answer_over(
         Query::Reducts(name, _) => answer_reducts(alloc, engine, name, t, out),
         Query::Tagged(name, _) => answer_steps(alloc, engine, name, t, out),
         Query::Stepper(name, _) => Ok(answer_stepper(alloc, engine, name, choices, t, out)?),
+        Query::Alpha(name, _, other) => {
+            let u = engine.host(other, &Binding::new(Vec::new(alloc)))?;
+            Ok(write_alike(alloc, table.named(name), t, &u, out)?)
+        }
+        Query::Substitute(name, _, other, last) => {
+            let x = engine.host(other, &Binding::new(Vec::new(alloc)))?;
+            let v = engine.host(last, &Binding::new(Vec::new(alloc)))?;
+            Ok(write_substituted(alloc, table.named(name), t, &x, &v, out)?)
+        }
         Query::TestEqual(_, other) => {
             let u = engine.host(other, &Binding::new(Vec::new(alloc)))?;
             Ok(write_equality(t, &u, out)?)

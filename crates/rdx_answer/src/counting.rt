@@ -1,6 +1,7 @@
 // How tests are counted.
-ghost use Rattle.std.specs.Prelude.{◌≡◌, ◌++◌, ◌+◌, ◌^◌, ◌<◌, OnOk};
+ghost use Rattle.std.specs.Prelude.{◌≡◌, ◌++◌, ◌+◌, ◌^◌, ◌<◌, List, OnOk};
 ghost use Rattle.rdx_answer.specs.Answering as model;
+ghost use Rattle.rdx_answer.specs.Bound.{Bound};
 ghost use Rattle.rdx_answer.specs.Inside.Counting.{counts_of};
 ghost use Rattle.rdx_answer.specs.Tests.{no_tests, one_more, results_line};
 ghost use Rattle.rdx_answer.specs.Views.{query_of};
@@ -47,8 +48,8 @@ fn one_more(passed: bool, counts: Counts) -> Counts
 /// How tests are counted behind a query, by whether what it states is met.
 pub(crate) fn counts_behind(query: &Query, is_met: bool, counts: Counts) -> Counts
     requires { counts.passed + counts.failed < 2 ^ 63 }
-    ensures { counts_of result
-        ≡ model.counts_behind (query_of query.now) is_met (counts_of counts) }
+    ensures { (bs : List Bound) → counts_of result
+        ≡ model.counts_behind (query_of bs query.now) is_met (counts_of counts) }
 {
     match query {
         Query::Match(_, _, _)
@@ -60,7 +61,9 @@ pub(crate) fn counts_behind(query: &Query, is_met: bool, counts: Counts) -> Coun
         | Query::Tagged(_, _)
         | Query::Stepper(_, _)
         | Query::Generate(_, _, _, _)
-        | Query::Check(_, _, _, _, _) => counts,
+        | Query::Check(_, _, _, _, _)
+        | Query::Alpha(_, _, _)
+        | Query::Substitute(_, _, _, _) => counts,
         Query::TestEqual(_, _)
         | Query::TestStep(_, _, _)
         | Query::TestRun(_, _, _)

@@ -1,6 +1,6 @@
 // The answers to the queries of a file with derivations: under each binding, each split, each judgement
 // that holds and each value of a template stands one of it.
-ghost use Rattle.std.specs.Prelude.{◌≡◌, ◌+◌, ◌^◌, ◌<◌, IfOk, IsTrue, OnOk};
+ghost use Rattle.std.specs.Prelude.{◌≡◌, ◌+◌, ◌^◌, ◌<◌, List, IfOk, IsTrue, OnOk};
 ghost use Rattle.rdx_lang.specs.Checked.{pattern_in};
 ghost use Rattle.rdx_lang.specs.ProgramView.{program_of};
 ghost use Rattle.rdx_lang.specs.Shown.{binding_of, decomposition_of};
@@ -11,10 +11,12 @@ ghost use Rattle.rdx_deriv.specs.DerivationView.{goal_of};
 ghost use Rattle.rdx_why.specs.Explaining.{Explains};
 ghost use Rattle.rdx_why.specs.Finders.{known_in};
 ghost use Rattle.rdx_answer.specs.AnswerText as text;
+ghost use Rattle.rdx_answer.specs.Bound.{Bound};
 ghost use Rattle.rdx_answer.specs.Explained.{IsExplainable, ShowMatches, ShowSplits, WritesExplained};
 ghost use Rattle.rdx_answer.specs.Inside.Counting.{counts_of};
 ghost use Rattle.rdx_answer.specs.Inside.Explaining as explaining;
 ghost use Rattle.rdx_answer.specs.Inside.Explaining.{Gains, GainsAnswer, GainsBehind, GainsDerivation, HasExplanation, IsShowable, IsShowableQuery, TriesParts};
+ghost use Rattle.rdx_answer.specs.Inside.Tabled.{forms_in};
 ghost use Rattle.rdx_answer.specs.Queries as model;
 ghost use Rattle.rdx_answer.specs.Tests.{no_tests};
 ghost use Rattle.rdx_answer.specs.Views.{AllNamesKnown, program_in, queries_of, query_of};
@@ -22,6 +24,7 @@ ghost use Rattle.rdx_term.specs.Context.{is_context};
 ghost use Rattle.rdx_term.specs.View.{tree_of};
 
 use crate::answers::{Answered, write_answer};
+use crate::bound::FormTable;
 use crate::counting::{Counts, counts_behind, no_counts};
 use crate::explained_premises::{explain_holds, explain_values};
 use crate::match_answers::language;
@@ -49,6 +52,7 @@ pub(crate) fn answer_explained(
 {
     let mut engine = Engine::new(alloc, &file.program, host, Table::new(alloc)?);
     let mut finder = Finder::new(alloc, &file.program, Table::new(alloc)?);
+    let table = FormTable::new(alloc, &file.forms)?;
     let mut transcript = Vec::new(alloc);
     let mut counts = no_counts();
     let mut met = true;
@@ -57,6 +61,7 @@ pub(crate) fn answer_explained(
             alloc,
             &mut engine,
             &mut finder,
+            &table,
             counts,
             query,
             &mut transcript,
@@ -69,7 +74,7 @@ pub(crate) fn answer_explained(
 
 // Whether derivations stand in the answer to a query.
 fn is_shown(query: &Query) -> bool
-    ensures { result ≡ explaining.is_shown (query_of query.now) }
+    ensures { (bs : List Bound) → result ≡ explaining.is_shown (query_of bs query.now) }
 {
     match query {
         Query::Match(_, _, _) | Query::Decompose(_, _, _) | Query::Holds(_, _) => true,
@@ -80,6 +85,8 @@ fn is_shown(query: &Query) -> bool
         | Query::Stepper(_, _)
         | Query::Generate(_, _, _, _)
         | Query::Check(_, _, _, _, _)
+        | Query::Alpha(_, _, _)
+        | Query::Substitute(_, _, _, _)
         | Query::TestEqual(_, _)
         | Query::TestStep(_, _, _)
         | Query::TestRun(_, _, _)
@@ -94,24 +101,25 @@ fn write_explained(
     alloc: Global,
     engine: &mut Engine<Table>,
     finder: &mut Finder<Table>,
+    table: &FormTable<'_>,
     counts: Counts,
     query: &Query,
     out: &mut Vec<u8>,
 ) -> Result<bool, NoMemory>
     requires shown { IsShowableQuery (program_of (engines.program_in engine.old).now)
-        (query_of query.now) }
+        (query_of (forms_in table.now) query.now) }
     requires few { counts.passed + counts.failed < 2 ^ 63 }
     requires finder { (known_in finder.old).now ≡ (engines.program_in engine.old).now }
     ensures answer { IfOk result (λ met. GainsAnswer
-        (program_of (engines.program_in engine.old).now) (counts_of counts) (query_of query.now)
-        out.old.items out.new.items met) }
+        (program_of (engines.program_in engine.old).now) (counts_of counts)
+        (query_of (forms_in table.now) query.now) out.old.items out.new.items met) }
     ensures same { engines.program_in engine.new ≡ engines.program_in engine.old }
     ensures kept { known_in finder.new ≡ known_in finder.old }
 {
     if !is_shown(query) {
-        return write_answer(alloc, engine, &[], counts, query, out);
+        return write_answer(alloc, engine, table, &[], counts, query, out);
     }
-    match show(alloc, engine, finder, query, out) {
+    match show(alloc, engine, finder, table, query, out) {
         Ok(()) => Ok(true),
         Err(EvalFault::Named(fault)) => {
             write_fault(&fault, out)?;
@@ -126,15 +134,16 @@ fn show(
     alloc: Global,
     engine: &mut Engine<Table>,
     finder: &mut Finder<Table>,
+    table: &FormTable<'_>,
     query: &Query,
     out: &mut Vec<u8>,
 ) -> Result<(), EvalFault>
     requires shown { IsShowableQuery (program_of (engines.program_in engine.old).now)
-        (query_of query.now) }
-    requires kind { IsTrue (explaining.is_shown (query_of query.now)) }
+        (query_of (forms_in table.now) query.now) }
+    requires kind { IsTrue (explaining.is_shown (query_of (forms_in table.now) query.now)) }
     requires finder { (known_in finder.old).now ≡ (engines.program_in engine.old).now }
     ensures answer { TriesParts (program_of (engines.program_in engine.old).now)
-        (query_of query.now) out.old.items out.new.items result }
+        (query_of (forms_in table.now) query.now) out.old.items out.new.items result }
     ensures same { engines.program_in engine.new ≡ engines.program_in engine.old }
     ensures kept { known_in finder.new ≡ known_in finder.old }
 {
@@ -156,6 +165,8 @@ fn show(
         | Query::Stepper(_, _)
         | Query::Generate(_, _, _, _)
         | Query::Check(_, _, _, _, _)
+        | Query::Alpha(_, _, _)
+        | Query::Substitute(_, _, _, _)
         | Query::TestEqual(_, _)
         | Query::TestStep(_, _, _)
         | Query::TestRun(_, _, _)

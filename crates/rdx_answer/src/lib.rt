@@ -7,7 +7,9 @@
 //! [`workload_text`] is a file with as many tests as one likes.
 #![tactic(auto)]
 
+mod alpha_answers;
 mod answers;
+mod bound;
 mod comparing;
 mod counting;
 mod explained_answers;

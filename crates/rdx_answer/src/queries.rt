@@ -1,4 +1,5 @@
 // What a file that was accepted defines and asks.
+use rdx_alpha::BindingForm;
 use rdx_lang::{CheckedPat, HostExpr, Premise, Program, Template};
 use rdx_term::Name;
 
@@ -27,6 +28,11 @@ pub enum Query {
     /// Whether the host expression makes `#f` for a binding by which the pattern matches one of so many
     /// terms generated of it, in the language of this name, from the words of the seed.
     Check(Name, CheckedPat, HostExpr, u32, u64),
+    /// Whether two terms are alpha equivalent under the binding forms of the language of this name.
+    Alpha(Name, HostExpr, HostExpr),
+    /// The first term with the third put for the symbol that is the second, under the binding forms of
+    /// the language of this name.
+    Substitute(Name, HostExpr, HostExpr, HostExpr),
     /// A test that two host expressions make the same, marks forgotten.
     TestEqual(HostExpr, HostExpr),
     /// A test that the terms to which the relation of this name leads from the term are those that
@@ -48,4 +54,6 @@ pub struct CheckedFile {
     pub program: Program,
     /// The queries, in the file's order.
     pub queries: Vec<Query>,
+    /// The binding forms of each language, under its name.
+    pub forms: Vec<(Name, Vec<BindingForm>)>,
 }

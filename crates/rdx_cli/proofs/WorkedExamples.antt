@@ -4,6 +4,7 @@ use Rattle.std.proofs.Math.Utf8.{encode}
 use Rattle.std.proofs.lemmas.Fmt.{decimal_digit, decimal_step}
 use Rattle.std.proofs.lemmas.Str.{chars_from_encodes}
 use Rattle.std.specs.Prelude.{Bool, true, false, Option, Some, None, is_none, decimal}
+use Rattle.std.specs.Str.{chars}
 use Rattle.rdx_base.specs.declared.place.Span.{Span}
 use Rattle.rdx_sexp.specs.Begin.{body}
 use Rattle.rdx_sexp.specs.Examples.{place, columns, CommentsAlone, NoText, WrongBracket}
@@ -142,9 +143,10 @@ sample_first =
 abbrev sample_second : Sexp
 sample_second = asks sample (word sample (codes "L")) (number sample 1) (number sample 1)
 
--- what is known before the first form: none of them defines a metafunction or a judgement, or asks for cross nonterminals
+-- what is known before the first form: none of them defines a metafunction or a judgement, or asks for cross nonterminals, and the language L has no
+-- binding forms
 abbrev start : Known
-start = nothing_in (record { metafunctions = []; judgements = [] }) [] []
+start = nothing_in (record { metafunctions = []; judgements = [] }) [] [] ((codes "L", []) ∷ [])
 
 -- what is known behind it
 abbrev behind : Option Defined → Known
@@ -173,6 +175,7 @@ forms_accepted (accepts_query a b) = let n = a.means in absurd cc
 forms_accepted (accepts_passed a b) = let n = a.means in absurd cc
 
 pub queries_are_answered : AnswersInOrder → QueriesAreAnswered
+unfolding chars
 queries_are_answered answers_in_order =
     let w = answers_in_order sample in
     answered answered_forms true answered_data

@@ -6,7 +6,7 @@ use Rattle.rdx_sexp.specs.Sexp.{Sexp}
 use Rattle.rdx_patterns.specs.Refusal.{Refusal, unnamed, named, or_else, first_refusal}
 use Rattle.rdx_patterns.specs.declared.shape.fault.DefKind.{DefKind}
 use Rattle.rdx_patterns.proofs.Firsts.{none_of}
-use Rattle.rdx_forms.specs.Inside.Earlier.{number, earlier_of, earlier}
+use Rattle.rdx_forms.specs.Reported.{number, earlier_of, earlier}
 
 -- ---- two refusals
 
@@ -25,7 +25,7 @@ pub earlier_of-first : (r q : Refusal) → number r.kind ≤ number q.kind → e
 earlier_of-first r q h = ap (λ (b : Bool). if b then q else r) (le-ltb (number q.kind) (number r.kind) h)
 
 -- the second is where it has one
-earlier_of-second : (r q : Refusal) → number q.kind < number r.kind → earlier_of r q ≡ q
+pub earlier_of-second : (r q : Refusal) → number q.kind < number r.kind → earlier_of r q ≡ q
 earlier_of-second r q h = ap (λ (b : Bool). if b then q else r) (lt-ltb (number q.kind) (number r.kind) h)
 
 -- what is reported has no greater number than the first

@@ -42,7 +42,8 @@ use Rattle.rdx_forms.specs.RelationForms.{bad_relation_at}
 use Rattle.rdx_forms.specs.Inside.Closing.{ClosesByContexts, ClosesByCrosses, contexts_refusal, contexts_relation, crosses_refusal, crosses_relation, context_parts_refusal, compatible_parts_refusal}
 use Rattle.rdx_forms.specs.Inside.Defining.{AnswersBy}
 use Rattle.rdx_forms.specs.Answers.{RelatesBy}
-use Rattle.rdx_forms.specs.Inside.Earlier.{earlier, IsFirstFault}
+use Rattle.rdx_forms.specs.Reported.{earlier}
+use Rattle.rdx_forms.specs.Inside.Earlier.{IsFirstFault}
 use Rattle.rdx_forms.specs.Faults.{IsFaultAt}
 use Rattle.rdx_patterns.specs.Ends.{ends_in}
 use Rattle.rdx_patterns.specs.Among.{AreAmong}

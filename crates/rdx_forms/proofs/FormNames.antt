@@ -1,5 +1,5 @@
 -- The names in forms that define languages.
-use Rattle.std.proofs.Common.{◌≡◌, ℕ, Bool, true, false, List, [], ◌∷◌, Option, Some, None, ◌∙◌, ap, Result, Ok, Err}
+use Rattle.std.proofs.Common.{◌≡◌, ℕ, Bool, true, false, List, [], ◌∷◌, Option, Some, None, ◌∙◌, refl, ap, Result, Ok, Err, sym}
 use Rattle.std.specs.Prelude.{codes, if◌then◌else◌, option_map}
 use Rattle.rdx_sexp.specs.Sexp.{Sexp}
 use Rattle.rdx_lang.specs.Patterns.{Language}
@@ -10,7 +10,7 @@ use Rattle.rdx_patterns.specs.Parts.{parts, text_of, is_word, is_symbol}
 use Rattle.rdx_patterns.specs.declared.shape.fault.DefFault.{DefFault}
 use Rattle.rdx_patterns.specs.declared.shape.fault.DefFault.TheVariants.{Refused, NoMemory}
 use Rattle.rdx_forms.specs.Definitions.{language}
-use Rattle.rdx_forms.specs.OneForm.{by_check, by_recursion, by_late_check}
+use Rattle.rdx_forms.specs.OneForm.{IsRefusedForm, by_check, by_recursion, by_late_check}
 use Rattle.rdx_forms.specs.FormKinds.{defines, form_kind}
 use Rattle.rdx_forms.specs.FormKinds as kind
 use Rattle.rdx_forms.specs.Forms.{form_refusal, refusal_by_kind, late_refusal, late_refusal_by_kind, form_definition, definition_by_kind}
@@ -19,7 +19,15 @@ use Rattle.rdx_forms.specs.Answers.{DefinesBy}
 use Rattle.rdx_forms.specs.Inside.PartViews.{second_among}
 use Rattle.rdx_lang.specs.Programs.{language_named}
 use Rattle.rdx_forms.specs.Known.{Known, or_empty}
-use Rattle.rdx_forms.specs.LanguageForms.{base_name, named_base, unknown_at, unknown_by, language_refusal, language_escape}
+use Rattle.rdx_forms.specs.LanguageForms.{base_among, base_name, named_base, unknown_at, unknown_by, language_refusal, language_escape, plain_refusal, plain_language, extension_refusal, extended_language}
+use Rattle.rdx_forms.specs.BindingParts.{grammar_part, binding_refusal}
+use Rattle.rdx_forms.specs.Reported.{earlier}
+use Rattle.rdx_forms.proofs.CheckNumbers.{earlier_none}
+use Rattle.rdx_forms.proofs.GrammarParts.{part-unrefused}
+use Rattle.rdx_grammar.specs.Refused.{recursion_at}
+use Rattle.rdx_patterns.specs.Refusal.{Refusal, unnamed, or_else}
+use Rattle.rdx_patterns.specs.Unbuilt.{unbuilt_at}
+use Rattle.rdx_patterns.specs.declared.shape.fault.DefKind.TheVariants.{Shape}
 
 -- ---- the name of the language that is defined
 
@@ -72,28 +80,61 @@ unknown_at-known K l L e = ap (λ o. unknown_by o l) e
 
 -- ---- forms by their kinds
 
--- what the parts of a form say of the form
-by_parts : (K : Known) (base : Language) (l0 : Option Sexp) (d : Sexp) (g : Option GrammarForm) (x : Result CheckedLang DefFault) → form_refusal K d ≡ language_refusal K base l0 d g → form_definition K d ≡ option_map language (option_map (language_over base) g) → late_refusal d ≡ language_escape d g → DefinesOver K base l0 d g x → DefinesBy K d x
-by_parts K base l0 d g (Ok c) e f l a = record {
+-- what the parts of a form say of the form, which has no binding forms
+by_parts : (K : Known) (base : Language) (l0 : Option Sexp) (d : Sexp) (g : Option GrammarForm) (x : Result CheckedLang DefFault) → grammar_part d ≡ d → form_refusal K d ≡ language_refusal K base l0 d g → form_definition K d ≡ option_map language (option_map (language_over base) g) → late_refusal d ≡ language_escape d g → DefinesOver K base l0 d g x → DefinesBy K d x
+by_parts K base l0 d g (Ok c) p e f l a = record {
   passes = e ∙ a.passes;
   means = f ∙ ap (option_map language) a.means;
   sound = a.free;
   passes_late = l ∙ a.passes_late;
 }
-by_parts K base l0 d g (Err NoMemory) e f l a = tt
-by_parts K base l0 d g (Err (Refused r)) e f l (language_by_check h) = by_check (e ∙ h)
-by_parts K base l0 d g (Err (Refused r)) e f l (language_by_recursion L x h k i j) = by_recursion L x (e ∙ h) (f ∙ ap (option_map language) k) i j
-by_parts K base l0 d g (Err (Refused r)) e f l (language_by_escape L h k i j) = by_late_check (language L) (e ∙ h) (f ∙ ap (option_map language) k) i (l ∙ j)
+by_parts K base l0 d g (Err NoMemory) p e f l a = tt
+by_parts K base l0 d g (Err (Refused r)) p e f l (language_by_check h) = by_check (e ∙ h)
+by_parts K base l0 d g (Err (Refused r)) p e f l (language_by_recursion L x h k i j) =
+    by_recursion L x (e ∙ h) (f ∙ ap (option_map language) k) i (j ∙ ap (λ c. recursion_at c x) (sym p))
+by_parts K base l0 d g (Err (Refused r)) p e f l (language_by_escape L h k i j) =
+    by_late_check (language L) (e ∙ h) (f ∙ ap (option_map language) k) i (l ∙ j)
+
+-- the refusal of a form without binding forms is that of what it is without them
+unbound : (refusal : Sexp → Option Refusal) (d : Sexp) → grammar_part d ≡ d → earlier (refusal (grammar_part d)) (binding_refusal d) ≡ refusal d
+unbound refusal d p =
+    (λ i. earlier (refusal (p i)) ((ap binding_refusal (sym p) ∙ part-unrefused d) i)) ∙ earlier_none (refusal d)
 
 -- what is said of its parts is said of a `define-language` form
-pub by_language : (K : Known) (d : Sexp) (x : Result CheckedLang DefFault) → form_kind d ≡ defines kind.language → DefinesOver K empty_language None d (language_form d) x → DefinesBy K d x
-by_language K d x e a =
-    by_parts K empty_language None d (language_form d) x (ap (refusal_by_kind K d) e) (ap (definition_by_kind K d) e) (ap (late_refusal_by_kind d) e) a
+pub by_language : (K : Known) (d : Sexp) (x : Result CheckedLang DefFault) → grammar_part d ≡ d → form_kind d ≡ defines kind.language → DefinesOver K empty_language None d (language_form d) x → DefinesBy K d x
+by_language K d x p e a =
+    by_parts K empty_language None d (language_form d) x p
+    (ap (refusal_by_kind K d) e ∙ unbound (plain_refusal K) d p)
+    (ap (definition_by_kind K d) e ∙ ap (λ c. option_map language (plain_language c)) p)
+    (ap (late_refusal_by_kind d) e ∙ ap (λ c. language_escape c (language_form c)) p) a
 
 -- what is said of its parts, over the base that it names, is said of a `define-extended-language` form
-pub by_extension : (K : Known) (base : Language) (l0 : Option Sexp) (d : Sexp) (x : Result CheckedLang DefFault) → form_kind d ≡ defines kind.extension → base_name d ≡ l0 → named_base K l0 ≡ base → DefinesOver K base l0 d (extension_form d) x → DefinesBy K d x
-by_extension K base l0 d x e f h a =
-    by_parts K base l0 d (extension_form d) x
-    (ap (refusal_by_kind K d) e ∙ λ i. language_refusal K ((ap (named_base K) f ∙ h) i) (f i) d (extension_form d))
-    (ap (definition_by_kind K d) e ∙ λ i. option_map language (option_map (language_over ((ap (named_base K) f ∙ h) i)) (extension_form d)))
-    (ap (late_refusal_by_kind d) e) a
+pub by_extension : (K : Known) (base : Language) (l0 : Option Sexp) (d : Sexp) (x : Result CheckedLang DefFault) → grammar_part d ≡ d → form_kind d ≡ defines kind.extension → base_name d ≡ l0 → named_base K l0 ≡ base → DefinesOver K base l0 d (extension_form d) x → DefinesBy K d x
+by_extension K base l0 d x p e f h a =
+    by_parts K base l0 d (extension_form d) x p
+    (ap (refusal_by_kind K d) e ∙ unbound (extension_refusal K) d p ∙ λ i. language_refusal K ((ap (named_base K) f ∙ h) i) (f i) d (extension_form d))
+    (ap (definition_by_kind K d) e ∙ ap (λ c. option_map language (extended_language K c)) p
+    ∙ λ i. option_map language (option_map (language_over ((ap (named_base K) f ∙ h) i)) (extension_form d)))
+    (ap (late_refusal_by_kind d) e ∙ ap (λ c. language_escape c (extension_form c)) p) a
+
+-- ---- an extension without the name of a language
+
+either_none : (b : Bool) → (let o : Option GrammarForm = if b then None else None in o) ≡ None
+either_none true = refl
+either_none false = refl
+
+-- has not the parts of an extension
+no_extension : (head : List ℕ) (o : Option (List Sexp)) → base_among o ≡ None → form_parts head extension_parts o ≡ None
+no_extension head None e = refl
+no_extension head (Some []) e = refl
+no_extension head (Some (h ∷ [])) e = either_none (is_word head h)
+no_extension head (Some (h ∷ l ∷ [])) e = either_none (is_word head h)
+no_extension head (Some (h ∷ l ∷ l0 ∷ ds)) e = absurd cc
+
+-- and is refused as one that has not its shape
+pub without_base : (K : Known) (d : Sexp) (r : Refusal) → form_kind d ≡ defines kind.extension → grammar_part d ≡ d → base_name d ≡ None
+    → Some r ≡ or_else (unbuilt_at d) (Some (unnamed Shape d)) → IsRefusedForm K d r
+without_base K d r e p n m =
+    by_check
+    (ap (refusal_by_kind K d) e ∙ unbound (extension_refusal K) d p
+    ∙ ap (λ g. language_refusal K (named_base K (base_name d)) (base_name d) d g) (no_extension (codes "define-extended-language") (parts d) n) ∙ sym m)

@@ -14,7 +14,8 @@ use Rattle.rdx_forms.specs.MatchForms.{QueryParts, query_among, query_parts}
 use Rattle.rdx_forms.specs.DefineParts.{DefineKind, DefineParts, ClosureParts, kind_among, define_by, define_among, define_parts, closure_among, closure_parts}
 use Rattle.rdx_forms.specs.StepForms.{StepParts, steps_among, step_parts}
 use Rattle.rdx_forms.specs.TestForms.{EqualParts, LeadingParts, equal_among, leading_among, equal_parts, leading_parts}
-use Rattle.rdx_forms.specs.Inside.Asking.{AreReadable}
+use Rattle.rdx_forms.specs.AlphaForms.{AlikeParts, PutParts, alike_among, put_among, alike_parts, put_parts}
+use Rattle.rdx_forms.specs.Fitting.{AreReadable}
 
 -- ---- what can be read
 
@@ -213,3 +214,42 @@ items_of-closure (Some (h ∷ r ∷ l ∷ p ∷ x ∷ xs)) q e = absurd cc
 
 pub closure-items : (d : Sexp) (q : ClosureParts) → closure_parts d ≡ Some q → ClosureItems (parts d) q
 closure-items d q e = items_of-closure (parts d) q e
+
+-- the items of a form that asks whether terms are alpha equivalent
+pub record AlikeItems (o : Option (List Sexp)) (q : AlikeParts) : Type 0 where
+  pub head : Sexp
+  pub are : o ≡ Some (head ∷ q.language ∷ q.one ∷ q.other ∷ [])
+
+items_of-alike : (o : Option (List Sexp)) (q : AlikeParts) → alike_among o ≡ Some q → AlikeItems o q
+items_of-alike None q e = absurd cc
+items_of-alike (Some []) q e = absurd cc
+items_of-alike (Some (h ∷ [])) q e = absurd cc
+items_of-alike (Some (h ∷ l ∷ [])) q e = absurd cc
+items_of-alike (Some (h ∷ l ∷ t ∷ [])) q e = absurd cc
+items_of-alike (Some (h ∷ l ∷ t ∷ u ∷ [])) q e =
+    passed-by (AlikeItems (Some (h ∷ l ∷ t ∷ u ∷ []))) (is_symbol l) (record { language = l; one = t; other = u }) q
+    (record { head = h; are = refl }) e
+items_of-alike (Some (h ∷ l ∷ t ∷ u ∷ x ∷ xs)) q e = absurd cc
+
+pub alike-items : (d : Sexp) (q : AlikeParts) → alike_parts d ≡ Some q → AlikeItems (parts d) q
+alike-items d q e = items_of-alike (parts d) q e
+
+-- the items of a form that puts a term for a symbol
+pub record PutItems (o : Option (List Sexp)) (q : PutParts) : Type 0 where
+  pub head : Sexp
+  pub are : o ≡ Some (head ∷ q.language ∷ q.whole ∷ q.symbol ∷ q.value ∷ [])
+
+items_of-put : (o : Option (List Sexp)) (q : PutParts) → put_among o ≡ Some q → PutItems o q
+items_of-put None q e = absurd cc
+items_of-put (Some []) q e = absurd cc
+items_of-put (Some (h ∷ [])) q e = absurd cc
+items_of-put (Some (h ∷ l ∷ [])) q e = absurd cc
+items_of-put (Some (h ∷ l ∷ t ∷ [])) q e = absurd cc
+items_of-put (Some (h ∷ l ∷ t ∷ u ∷ [])) q e = absurd cc
+items_of-put (Some (h ∷ l ∷ t ∷ u ∷ v ∷ [])) q e =
+    passed-by (PutItems (Some (h ∷ l ∷ t ∷ u ∷ v ∷ []))) (is_symbol l) (record { language = l; whole = t; symbol = u; value = v }) q
+    (record { head = h; are = refl }) e
+items_of-put (Some (h ∷ l ∷ t ∷ u ∷ v ∷ x ∷ xs)) q e = absurd cc
+
+pub put-items : (d : Sexp) (q : PutParts) → put_parts d ≡ Some q → PutItems (parts d) q
+put-items d q e = items_of-put (parts d) q e

@@ -45,7 +45,8 @@ use Rattle.rdx_forms.specs.GenerateForms.{GenerateParts, generate_parts, check_p
 use Rattle.rdx_answer.specs.Queries.{generate, check}
 use Rattle.rdx_forms.specs.Answers.{IsGenerating, IsChecking}
 use Rattle.rdx_forms.specs.Faults.{IsFaultAt, IsRefusedBy}
-use Rattle.rdx_forms.specs.Inside.Earlier.{number, earlier, IsFirstFault}
+use Rattle.rdx_forms.specs.Reported.{number, earlier}
+use Rattle.rdx_forms.specs.Inside.Earlier.{IsFirstFault}
 use Rattle.rdx_forms.specs.Inside.Generating.{ReadsNumbers, GenerateNumbers, CheckNumbers, generate_faults, check_faults, names_unless, names_to_read, both_refusal, ReadsBoth}
 use Rattle.rdx_forms.proofs.CheckNumbers.{or_none, one-behind, none-at, IsFrom, Checks, AreChecks, refused, merge, merged, merge-checks, unnamed-number, named-number, earlier_of-first, refused-number}
 use Rattle.rdx_forms.proofs.GainingNothing.{parts-ask}

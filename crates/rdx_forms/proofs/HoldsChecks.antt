@@ -29,7 +29,8 @@ use Rattle.rdx_forms.specs.Known.{Known, judgement_language}
 use Rattle.rdx_answer.specs.Queries.{holds, test_holds}
 use Rattle.rdx_forms.specs.Inside.Asking.{IsHoldsFit}
 use Rattle.rdx_forms.specs.Answers.{HoldsAskedBy, IsHolding, IsHoldsTest}
-use Rattle.rdx_forms.specs.Inside.Earlier.{number, earlier, IsUnless}
+use Rattle.rdx_forms.specs.Reported.{number, earlier}
+use Rattle.rdx_forms.specs.Inside.Earlier.{IsUnless}
 use Rattle.rdx_forms.specs.Faults.{IsFaultAt, IsRefusedBy}
 use Rattle.rdx_forms.proofs.CheckNumbers.{or_none, HasNumber, Checks, AreChecks, refused, merge, merged}
 use Rattle.rdx_forms.proofs.ClauseStands.{of_lone_premise}

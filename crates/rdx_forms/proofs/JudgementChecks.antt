@@ -32,7 +32,8 @@ use Rattle.rdx_forms.specs.Known.{Known}
 use Rattle.rdx_forms.specs.LanguageForms.{named_base, unknown_at}
 use Rattle.rdx_forms.specs.Answers.{JudgementsBy}
 use Rattle.rdx_forms.specs.Inside.Defining.{taken_at_item}
-use Rattle.rdx_forms.specs.Inside.Earlier.{earlier, IsUnless}
+use Rattle.rdx_forms.specs.Reported.{earlier}
+use Rattle.rdx_forms.specs.Inside.Earlier.{IsUnless}
 use Rattle.rdx_forms.specs.Faults.{IsRefusedBy}
 use Rattle.rdx_forms.specs.Inside.PartViews.{language_item, symbol_item, second_among}
 use Rattle.rdx_patterns.proofs.Booleans.{and_true}

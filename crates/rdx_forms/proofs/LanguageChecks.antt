@@ -18,7 +18,8 @@ use Rattle.rdx_patterns.specs.declared.shape.fault.DefFault.TheVariants.{Refused
 use Rattle.rdx_patterns.specs.declared.shape.fault.DefKind.TheVariants.{Unbuilt, Shape, UnknownLanguage, Duplicate, BadName, BadPattern, EllipsisDepth, RacketEscape}
 use Rattle.rdx_patterns.specs.declared.shape.fault.DefRefusal.{DefRefusal}
 use Rattle.rdx_forms.specs.Inside.Defining.{IsLanguageFault, language_by_check, language_by_recursion, language_by_escape, DefinesOver, IsNamed, taken_at_item}
-use Rattle.rdx_forms.specs.Inside.Earlier.{number, earlier, IsFirstFault, IsUnless}
+use Rattle.rdx_forms.specs.Reported.{number, earlier}
+use Rattle.rdx_forms.specs.Inside.Earlier.{IsFirstFault, IsUnless}
 use Rattle.rdx_forms.specs.Inside.PartViews.{second_item}
 use Rattle.rdx_forms.specs.Known.{Known, is_taken}
 use Rattle.rdx_forms.specs.MetafunctionForms.{function_taken_at}

@@ -22,3 +22,7 @@ pub mod GainingNothing
 pub mod EndsAsked
 pub mod OptionFaults
 pub mod GenerateChecks
+pub mod GrammarParts
+pub mod WithBindings
+pub mod BoundChecks
+pub mod FileForms

@@ -31,7 +31,8 @@ use Rattle.rdx_forms.specs.LanguageForms.{named_base, unknown_at, unknown_by}
 use Rattle.rdx_forms.specs.MatchForms.{QueryParts, query_parts, query_shape_at, query_refusal, query_over, bad_query_at, query_escape_at}
 use Rattle.rdx_forms.specs.Inside.Asking.{IsFit}
 use Rattle.rdx_forms.specs.Answers.{IsAsked}
-use Rattle.rdx_forms.specs.Inside.Earlier.{earlier, IsFirstFault}
+use Rattle.rdx_forms.specs.Reported.{earlier}
+use Rattle.rdx_forms.specs.Inside.Earlier.{IsFirstFault}
 use Rattle.rdx_forms.specs.Faults.{IsFaultAt, IsRefusedBy}
 use Rattle.rdx_forms.proofs.CheckNumbers.{or_none, one-behind, Checks, AreChecks, refused, merge, merged, merge-checks, unnamed-number, named-number}
 use Rattle.rdx_forms.proofs.LanguageChecks.{unknown-number}

@@ -42,7 +42,8 @@ use Rattle.rdx_forms.specs.LanguageForms.{named_base, unknown_at, name_taken_at}
 use Rattle.rdx_forms.specs.RelationForms.{bad_relation_at}
 use Rattle.rdx_forms.specs.Inside.Defining.{parts_refusal, parts_relation, RelatesOver}
 use Rattle.rdx_forms.specs.Answers.{RelatesBy}
-use Rattle.rdx_forms.specs.Inside.Earlier.{earlier, IsUnless}
+use Rattle.rdx_forms.specs.Reported.{earlier}
+use Rattle.rdx_forms.specs.Inside.Earlier.{IsUnless}
 use Rattle.rdx_forms.specs.Faults.{IsFaultAt, IsRefusedBy}
 use Rattle.rdx_forms.specs.Fitting.{IsRelationOf, language_at}
 use Rattle.rdx_forms.specs.Inside.PartViews.{second_among, symbol_item, language_item}

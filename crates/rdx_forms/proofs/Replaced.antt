@@ -7,6 +7,7 @@ use Rattle.rdx_lang.specs.ProgramView.{program_of}
 use Rattle.rdx_lang.specs.Programs.{Program}
 use Rattle.rdx_lang.specs.declared.checked.CheckedLang.{CheckedLang}
 use Rattle.rdx_templates.specs.Scope.{scope_of}
+use Rattle.rdx_answer.specs.Views.{bound_of}
 use Rattle.rdx_forms.specs.KnownView.{known_of}
 use Rattle.rdx_forms.specs.Model.Tabled.{AreTabled}
 use Rattle.rdx_forms.specs.Known as model
@@ -34,13 +35,14 @@ over_languages k ls = record {
     judgements = (program_of k.program).judgements;
     relations = (program_of k.program).relations;
   };
+  forms = bound_of k.forms.items;
 }
 
 -- it stays the same, where a language is put in the place of one with the same meaning
 pub same-known : (k : Known) (i : ℕ) (x y : CheckedLang) → i < length k.program.languages.items → language_in y ≡ language_in (get_or k.program.languages.items i x)
     → over_languages k (set k.program.languages.items i y) ≡ known_of k
 same-known k i x y h e =
-    ap (λ (Ls : List Language). let P : Program = record (program_of k.program) { languages = Ls } in let K : model.Known = record { scope = scope_of k.scope; languages = map (λ l. (l.0, rc_str_bytes l.1)) k.languages.items; ends = k.ends.items; program = P } in K)
+    ap (λ (Ls : List Language). let P : Program = record (program_of k.program) { languages = Ls } in let K : model.Known = record { scope = scope_of k.scope; languages = map (λ l. (l.0, rc_str_bytes l.1)) k.languages.items; ends = k.ends.items; program = P; forms = bound_of k.forms.items } in K)
     (map-set language_in k.program.languages.items i x y h e)
 
 -- what is defined is found in the tables as before

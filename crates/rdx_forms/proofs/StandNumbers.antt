@@ -13,7 +13,7 @@ use Rattle.rdx_parts.specs.StandChecks.{shape_at, repeated_at, repeated_name_at,
 use Rattle.rdx_parts.specs.StandRefusal.{stands_refusal}
 use Rattle.rdx_parts.specs.Stands.{Stand}
 use Rattle.rdx_relations.specs.LanguageRefusal.{unnamable_language_at, refusal_over}
-use Rattle.rdx_forms.specs.Inside.Earlier.{number}
+use Rattle.rdx_forms.specs.Reported.{number}
 use Rattle.rdx_forms.specs.Known.{Known}
 use Rattle.rdx_forms.specs.LanguageForms.{unknown_by, unknown_at}
 use Rattle.rdx_forms.proofs.CheckNumbers.{HasNumber, Checks, AreChecks, refused, or_none, unnamed-number, named-number}

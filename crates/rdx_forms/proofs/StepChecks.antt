@@ -20,7 +20,7 @@ use Rattle.rdx_forms.specs.Known.{Known}
 use Rattle.rdx_forms.specs.StepForms.{StepParts, step_parts, steps_shape_at, unknown_relation_by, unknown_relation_at, steps_refusal}
 use Rattle.rdx_forms.specs.Inside.Asking.{IsStepFit}
 use Rattle.rdx_forms.specs.Answers.{IsStepping}
-use Rattle.rdx_forms.specs.Inside.Earlier.{earlier}
+use Rattle.rdx_forms.specs.Reported.{earlier}
 use Rattle.rdx_forms.specs.Faults.{IsFaultAt, IsRefusedBy}
 use Rattle.rdx_forms.proofs.CheckNumbers.{or_none, HasNumber, Checks, AreChecks, refused, merge, merged, named-number}
 use Rattle.rdx_forms.proofs.FormParts.{unbuilt_at-built, step-items, parts-readable, parts-built}

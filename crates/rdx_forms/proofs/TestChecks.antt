@@ -26,9 +26,11 @@ use Rattle.rdx_forms.specs.Known.{Known}
 use Rattle.rdx_answer.specs.Queries.{test_equal}
 use Rattle.rdx_forms.specs.StepForms.{unknown_relation_by}
 use Rattle.rdx_forms.specs.TestForms.{EqualParts, LeadingParts, equal_parts, leading_parts, hosts_shape_at, bad_hosts_at, undriven_hosts_at, hosts_escape_at, unknown_tested_at, test_refusal_over, equal_refusal, leading_refusal}
-use Rattle.rdx_forms.specs.Inside.Asking.{AreReadable, hosts_refusal, ReadsHosts, IsEqualFit, IsLeadingFit}
+use Rattle.rdx_forms.specs.Fitting.{AreReadable}
+use Rattle.rdx_forms.specs.Inside.Asking.{hosts_refusal, ReadsHosts, IsEqualFit, IsLeadingFit}
 use Rattle.rdx_forms.specs.Answers.{IsSame, IsLeading}
-use Rattle.rdx_forms.specs.Inside.Earlier.{earlier, IsFirstFault}
+use Rattle.rdx_forms.specs.Reported.{earlier}
+use Rattle.rdx_forms.specs.Inside.Earlier.{IsFirstFault}
 use Rattle.rdx_forms.specs.Faults.{IsFaultAt, IsRefusedBy}
 use Rattle.rdx_patterns.proofs.Rests.{drop-at}
 use Rattle.rdx_forms.proofs.CheckNumbers.{or_none, one-behind, HasNumber, Checks, AreChecks, refused, merge, merged, unnamed-number, first-number-of, earlier-assoc, earlier_none}
@@ -43,7 +45,7 @@ abbrev pub hosts_checks : Known → List Sexp → Checks
 hosts_checks K hs = (1, hosts_shape_at hs) ∷ (5, bad_hosts_at K hs) ∷ (9, undriven_hosts_at K hs) ∷ (10, hosts_escape_at K hs) ∷ []
 
 -- their numbers ascend
-hosts-checks : (K : Known) (hs : List Sexp) → AreChecks 0 (hosts_checks K hs)
+pub hosts-checks : (K : Known) (hs : List Sexp) → AreChecks 0 (hosts_checks K hs)
 hosts-checks K hs =
     let shapes = first-number-of 1 host_shape_at hs (λ h. unnamed-number Shape (earliest start (host_shapes h))) in
     let bad = first-number-of 5 (λ h. bad_host_at (parts_of_host K h)) hs (λ h. unnamed-number BadPattern (earliest start (bad_parts (parts_of_host K h)))) in
@@ -77,7 +79,7 @@ hosts-more K h hs =
     ∙ merged 0 (host_checks K.scope h) (hosts_checks K hs) (host-checks K.scope h) (hosts-checks K hs)
 
 -- they refuse them, where they are built
-hosts-refusal : (K : Known) (hs : List Sexp) → AllBuilt hs → hosts_refusal K.scope hs ≡ refused (hosts_checks K hs)
+pub hosts-refusal : (K : Known) (hs : List Sexp) → AllBuilt hs → hosts_refusal K.scope hs ≡ refused (hosts_checks K hs)
 hosts-refusal K [] b = refl
 hosts-refusal K (h ∷ hs) b =
     (λ i. earlier (host-refusal K.scope h b.0 i) (hosts-refusal K hs b.1 i)) ∙ sym (hosts-more K h hs)

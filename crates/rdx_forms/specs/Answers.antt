@@ -25,9 +25,13 @@ use Rattle.rdx_forms.specs.MatchForms.{query_parts, query_refusal, match_query}
 use Rattle.rdx_forms.specs.GenerateForms.{generate_parts, check_parts, generate_refusal, check_refusal, generate_query, check_query}
 use Rattle.rdx_forms.specs.declared.generate_forms.Generating.{Generating}
 use Rattle.rdx_forms.specs.declared.generate_forms.Checking.{Checking}
-use Rattle.rdx_answer.specs.Queries.{Query, generate, check, holds, test_equal, test_holds}
+use Rattle.rdx_answer.specs.Bound.{forms_named}
+use Rattle.rdx_answer.specs.Queries.{Query, generate, check, alike, substituted, holds, test_equal, test_holds}
+use Rattle.rdx_forms.specs.AlphaForms.{alike_parts, put_parts, alike_refusal, put_refusal, alike_query, put_query}
 use Rattle.rdx_forms.specs.StepForms.{step_parts, steps_refusal, steps_query}
 use Rattle.rdx_forms.specs.TestForms.{equal_parts, leading_parts, equal_refusal, leading_refusal, equal_query, leading_query}
+use Rattle.rdx_forms.specs.declared.alpha_forms.Alike.{Alike}
+use Rattle.rdx_forms.specs.declared.alpha_forms.Putting.{Putting}
 use Rattle.rdx_forms.specs.declared.match_forms.Asked.{Asked}
 use Rattle.rdx_forms.specs.declared.step_forms.Stepping.{Stepping}
 use Rattle.rdx_forms.specs.declared.test_forms.Leading.{Leading}
@@ -131,6 +135,26 @@ pub record IsSame (K : Known) (d : Sexp) (h k : Host) : Type 0 where
 abbrev pub EqualAskedBy : Known → Sexp → Result Same DefFault → Type 0
 EqualAskedBy K d (Ok a) = IsSame K d (host_of a.found) (host_of a.wanted)
 EqualAskedBy K d (Err e) = IsFaultAt (equal_refusal K d (equal_parts d)) e
+
+-- the form is accepted, and asks whether these make alpha equivalent terms, in the language of this name
+pub record IsAlikeAsked (K : Known) (d : Sexp) (name : List ℕ) (h k : Host) : Type 0 where
+  pub passes : alike_refusal K d (alike_parts d) ≡ None
+  pub means : alike_query K d ≡ Some (alike (forms_named K.forms name) h k)
+
+-- the answer to the form
+abbrev pub AlikeAskedBy : Known → Sexp → Result Alike DefFault → Type 0
+AlikeAskedBy K d (Ok a) = IsAlikeAsked K d a.name (host_of a.one) (host_of a.other)
+AlikeAskedBy K d (Err e) = IsFaultAt (alike_refusal K d (alike_parts d)) e
+
+-- the form is accepted, and asks for what the first makes with what the last makes put for what the other makes, in the language of this name
+pub record IsPutAsked (K : Known) (d : Sexp) (name : List ℕ) (h k l : Host) : Type 0 where
+  pub passes : put_refusal K d (put_parts d) ≡ None
+  pub means : put_query K d ≡ Some (substituted (forms_named K.forms name) h k l)
+
+-- the answer to the form
+abbrev pub PutAskedBy : Known → Sexp → Result Putting DefFault → Type 0
+PutAskedBy K d (Ok a) = IsPutAsked K d a.name (host_of a.whole) (host_of a.symbol) (host_of a.value)
+PutAskedBy K d (Err e) = IsFaultAt (put_refusal K d (put_parts d)) e
 
 -- the form is accepted, and is a test of the relation of this name, from what h makes to what the others make
 pub record IsLeading (K : Known) (d : Sexp) (name : List ℕ) (h : Host) (hs : List Host) : Type 0 where

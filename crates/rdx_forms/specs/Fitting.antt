@@ -1,6 +1,6 @@
 -- What holds of all that is known, for closures and for what is read: languages have the cross nonterminals for which the file asks, and the
 -- patterns of relations are well formed in their languages.
-use Rattle.std.specs.Prelude.{◌≡◌, ℕ, List, Option, Some, None, IsTrue}
+use Rattle.std.specs.Prelude.{◌≡◌, ℕ, List, [], ◌∷◌, Option, Some, None, IsTrue}
 use Rattle.rdx_sexp.specs.Sexp.{Sexp}
 use Rattle.rdx_lang.specs.Closures.{has_well_formed_patterns}
 use Rattle.rdx_lang.specs.Members.{In}
@@ -10,6 +10,7 @@ use Rattle.rdx_lang.specs.References.{is_among}
 use Rattle.rdx_lang.specs.WellFormed.{defined}
 use Rattle.rdx_lang.specs.declared.pattern.Ref.TheVariants.{Nt, Cross}
 use Rattle.rdx_patterns.specs.Parts.{text_of}
+use Rattle.rdx_patterns.specs.Readable.{IsReadable}
 use Rattle.rdx_forms.specs.Known.{Known}
 
 -- the language has all cross nonterminals to y, if y is a nonterminal of it
@@ -36,3 +37,10 @@ pub record IsRelationOf (P : Program) (R : Relation) : Type 0 where
 pub record IsFitting (K : Known) : Type 0 where
   pub crossed : AreCrossed K.program.languages K.ends
   pub relations : (R : Relation) → In R K.program.relations → IsRelationOf K.program R
+
+-- ---- what is read
+
+-- all of these can be read
+abbrev pub AreReadable : List Sexp → Type 0
+AreReadable [] = Unit {0}
+AreReadable (d ∷ ds) = IsReadable d × AreReadable ds

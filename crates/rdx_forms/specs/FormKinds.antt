@@ -14,7 +14,8 @@ pub data DefinitionKind : Type 0 where
 -- what a form asks: the bindings by which a pattern matches a term, whether there are some, or what the pattern splits the term into; what a
 -- host expression makes; whether a premise is met, or what a template makes of the bindings that meet it; the terms to which a relation leads from
 -- a term, the steps with the names of their rules, or a walk of them; a term generated of a pattern, or whether a host expression makes #f for one of
--- many; and the kinds of tests, with how many of them passed and failed
+-- many; under the binding forms of a language, whether two terms are alpha equivalent, or a term with another put for a symbol in it; and the kinds
+-- of tests, with how many of them passed and failed
 pub data QueryKind : Type 0 where
   matches : QueryKind
   whether : QueryKind
@@ -26,6 +27,8 @@ pub data QueryKind : Type 0 where
   stepper : QueryKind
   generate : QueryKind
   check : QueryKind
+  alike : QueryKind
+  put : QueryKind
   test_equal : QueryKind
   test_step : QueryKind
   test_run : QueryKind
@@ -44,8 +47,6 @@ pub data FormKind : Type 0 where
   defines : DefinitionKind → FormKind
   asks : QueryKind → FormKind
   passes : PassedKind → FormKind
-  -- what is not built yet
-  to_come : FormKind
 
 -- the heads of forms
 abbrev pub heads : List (List ℕ × FormKind)
@@ -64,6 +65,8 @@ heads =
     ∷ (codes "stepper", asks stepper)
     ∷ (codes "generate-term", asks generate)
     ∷ (codes "redex-check", asks check)
+    ∷ (codes "alpha-equivalent?", asks alike)
+    ∷ (codes "substitute", asks put)
     ∷ (codes "test-equal", asks test_equal)
     ∷ (codes "test-->", asks test_step)
     ∷ (codes "test-->>", asks test_run)
@@ -73,8 +76,6 @@ heads =
     ∷ (codes "test-results", asks test_results)
     ∷ (codes "require", passes wants)
     ∷ (codes "provide", passes offers)
-    ∷ (codes "alpha-equivalent?", to_come)
-    ∷ (codes "substitute", to_come)
     ∷ []
 
 -- what a form with a head of this text does, by such a table; a head that does not stand in it is that of a host expression

@@ -3,12 +3,13 @@
 use Rattle.std.specs.Prelude.{Bool, true, false, Option, Some, None, option_map}
 use Rattle.rdx_sexp.specs.Sexp.{Sexp}
 use Rattle.rdx_grammar.specs.Forms.{language_form, extension_form}
-use Rattle.rdx_patterns.specs.Refusal.{Refusal, unnamed}
-use Rattle.rdx_patterns.specs.declared.shape.fault.DefKind.TheVariants.{Unbuilt}
+use Rattle.rdx_patterns.specs.Refusal.{Refusal}
+use Rattle.rdx_forms.specs.AlphaForms.{alike_parts, put_parts, alike_refusal, put_refusal, alike_query, put_query}
+use Rattle.rdx_forms.specs.BindingParts.{grammar_part, binding_refusal}
 use Rattle.rdx_forms.specs.Definitions.{Defined, language, metafunction, judgement, relation}
 use Rattle.rdx_forms.specs.DefineForms.{define_refusal, defined_relation}
 use Rattle.rdx_forms.specs.FormKinds as kind
-use Rattle.rdx_forms.specs.FormKinds.{DefinitionKind, QueryKind, PassedKind, FormKind, defines, asks, passes, to_come, form_kind}
+use Rattle.rdx_forms.specs.FormKinds.{DefinitionKind, QueryKind, PassedKind, FormKind, defines, asks, passes, form_kind}
 use Rattle.rdx_forms.specs.Known.{Known}
 use Rattle.rdx_forms.specs.GenerateForms.{generate_parts, check_parts, generate_refusal, check_refusal, generate_query, check_query}
 use Rattle.rdx_forms.specs.HoldsForms.{holds_parts, lone_parts, holds_refusal, holds_query, holds_test_query}
@@ -18,32 +19,34 @@ use Rattle.rdx_forms.specs.LanguageForms.{plain_refusal, plain_language, extensi
 use Rattle.rdx_forms.specs.MatchForms.{query_parts, query_refusal, match_query}
 use Rattle.rdx_forms.specs.MetafunctionForms.{function_refusal, defined_function}
 use Rattle.rdx_forms.specs.PassedForms.{wants_refusal, offers_refusal}
+use Rattle.rdx_forms.specs.Reported.{earlier}
 use Rattle.rdx_answer.specs.Queries.{Query, matches, whether, splits, reducts, tagged, stepper, test_step, test_run, test_match, test_results}
 use Rattle.rdx_forms.specs.StepForms.{step_parts, steps_refusal, steps_query}
 use Rattle.rdx_forms.specs.TestForms.{equal_parts, leading_parts, equal_refusal, leading_refusal, equal_query, leading_query, results_refusal}
 
 -- ---- definitions: a case for each kind
 
--- the refusal of a form that defines this, but for left recursion and for what comes behind that
+-- the refusal of a form that defines this, but for left recursion and for what comes behind that; one that defines a language is looked at without its
+-- binding forms, and for these
 abbrev pub definition_refusal : Known → Sexp → DefinitionKind → Option Refusal
-definition_refusal K d kind.language = plain_refusal K d
-definition_refusal K d kind.extension = extension_refusal K d
+definition_refusal K d kind.language = earlier (plain_refusal K (grammar_part d)) (binding_refusal d)
+definition_refusal K d kind.extension = earlier (extension_refusal K (grammar_part d)) (binding_refusal d)
 definition_refusal K d kind.metafunction = function_refusal K d
 definition_refusal K d kind.judgement = define_judgement_refusal K d
 definition_refusal K d kind.relation = define_refusal K d
 
 -- the refusal by what comes behind left recursion
 abbrev pub definition_late_refusal : Sexp → DefinitionKind → Option Refusal
-definition_late_refusal d kind.language = language_escape d (language_form d)
-definition_late_refusal d kind.extension = language_escape d (extension_form d)
+definition_late_refusal d kind.language = language_escape (grammar_part d) (language_form (grammar_part d))
+definition_late_refusal d kind.extension = language_escape (grammar_part d) (extension_form (grammar_part d))
 definition_late_refusal d kind.metafunction = None
 definition_late_refusal d kind.judgement = None
 definition_late_refusal d kind.relation = None
 
 -- what it defines, if it has the parts
 abbrev pub definition_of : Known → Sexp → DefinitionKind → Option Defined
-definition_of K d kind.language = option_map language (plain_language d)
-definition_of K d kind.extension = option_map language (extended_language K d)
+definition_of K d kind.language = option_map language (plain_language (grammar_part d))
+definition_of K d kind.extension = option_map language (extended_language K (grammar_part d))
 definition_of K d kind.metafunction = option_map metafunction (defined_function K d)
 definition_of K d kind.judgement = option_map judgement (defined_judgement K d)
 definition_of K d kind.relation = option_map relation (defined_relation K d)
@@ -62,6 +65,8 @@ question_refusal K d kind.tagged = steps_refusal K d (step_parts d)
 question_refusal K d kind.stepper = steps_refusal K d (step_parts d)
 question_refusal K d kind.generate = generate_refusal K d (generate_parts d)
 question_refusal K d kind.check = check_refusal K d (check_parts d)
+question_refusal K d kind.alike = alike_refusal K d (alike_parts d)
+question_refusal K d kind.put = put_refusal K d (put_parts d)
 question_refusal K d kind.test_equal = equal_refusal K d (equal_parts d)
 question_refusal K d kind.test_step = leading_refusal K d (leading_parts d)
 question_refusal K d kind.test_run = leading_refusal K d (leading_parts d)
@@ -82,6 +87,8 @@ asked_query K d kind.tagged = steps_query K tagged d
 asked_query K d kind.stepper = steps_query K stepper d
 asked_query K d kind.generate = generate_query K d
 asked_query K d kind.check = check_query K d
+asked_query K d kind.alike = alike_query K d
+asked_query K d kind.put = put_query K d
 asked_query K d kind.test_equal = equal_query K d
 asked_query K d kind.test_step = leading_query K test_step d
 asked_query K d kind.test_run = leading_query K test_run d
@@ -99,40 +106,35 @@ passed_refusal d kind.offers = offers_refusal d
 
 -- ---- forms
 
--- the refusal of a form that does this; S0, where that is not built yet
+-- the refusal of a form that does this
 abbrev pub refusal_by_kind : Known → Sexp → FormKind → Option Refusal
 refusal_by_kind K d (defines k) = definition_refusal K d k
 refusal_by_kind K d (asks k) = question_refusal K d k
 refusal_by_kind K d (passes k) = passed_refusal d k
-refusal_by_kind K d to_come = Some (unnamed Unbuilt d)
 
 -- its refusal by what comes behind left recursion
 abbrev pub late_refusal_by_kind : Sexp → FormKind → Option Refusal
 late_refusal_by_kind d (defines k) = definition_late_refusal d k
 late_refusal_by_kind d (asks k) = None
 late_refusal_by_kind d (passes k) = None
-late_refusal_by_kind d to_come = None
 
 -- what it defines, if anything
 abbrev pub definition_by_kind : Known → Sexp → FormKind → Option Defined
 definition_by_kind K d (defines k) = definition_of K d k
 definition_by_kind K d (asks k) = None
 definition_by_kind K d (passes k) = None
-definition_by_kind K d to_come = None
 
 -- the query that it asks, if any
 abbrev pub query_by_kind : Known → Sexp → FormKind → Option Query
 query_by_kind K d (defines k) = None
 query_by_kind K d (asks k) = asked_query K d k
 query_by_kind K d (passes k) = None
-query_by_kind K d to_come = None
 
 -- it is passed over
 abbrev pub is_passed_kind : FormKind → Bool
 is_passed_kind (defines k) = false
 is_passed_kind (asks k) = false
 is_passed_kind (passes k) = true
-is_passed_kind to_come = false
 
 -- the refusal of a form, but for left recursion and for what comes behind that
 abbrev pub form_refusal : Known → Sexp → Option Refusal

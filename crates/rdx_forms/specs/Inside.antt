@@ -7,3 +7,5 @@ pub mod Passing
 pub mod Closing
 pub mod OptionViews
 pub mod Generating
+pub mod Copies
+pub mod Binding

@@ -5,24 +5,26 @@ use Rattle.rdx_lang.specs.Programs.{Program, language_named, metafunction_named,
 use Rattle.rdx_patterns.specs.Ends.{crossed_for}
 use Rattle.rdx_grammar.specs.Languages.{empty_language}
 use Rattle.rdx_templates.specs.Scope.{Scope}
+use Rattle.rdx_answer.specs.Bound.{Bound}
 use Rattle.rdx_forms.specs.Definitions.{Defined, language, metafunction, judgement, relation}
 
 -- the scope of the file, the names of its judgements with those of their languages, the nonterminals to which it asks for cross nonterminals,
--- and the program of the forms before
+-- the program of the forms before, and the binding forms of the languages of the whole file
 pub record Known : Type 0 where
   pub scope : Scope
   pub languages : List (List ℕ × List ℕ)
   pub ends : List (List ℕ)
   pub program : Program
+  pub forms : List Bound
 
 -- what defines nothing
 abbrev pub empty_program : Program
 empty_program = record { languages = []; metafunctions = []; judgements = []; relations = [] }
 
 -- what is known before the first form of a file of this scope, whose judgements have these languages, and which asks for cross nonterminals to
--- these
-abbrev pub nothing_in : Scope → List (List ℕ × List ℕ) → List (List ℕ) → Known
-nothing_in S ls ys = record { scope = S; languages = ls; ends = ys; program = empty_program }
+-- these, and whose languages have these binding forms
+abbrev pub nothing_in : Scope → List (List ℕ × List ℕ) → List (List ℕ) → List Bound → Known
+nothing_in S ls ys bs = record { scope = S; languages = ls; ends = ys; program = empty_program; forms = bs }
 
 -- a program with one more of what a form can define
 abbrev pub extended_by : Program → Defined → Program

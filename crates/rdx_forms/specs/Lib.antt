@@ -2,8 +2,9 @@ pub mod Definitions
 pub mod DefineParts
 pub mod Ends
 pub mod Known
-pub mod Before
 pub mod FormKinds
+pub mod BindingParts
+pub mod Before
 pub mod LanguageForms
 pub mod HostForms
 pub mod MatchForms
@@ -12,12 +13,14 @@ pub mod Options
 pub mod GenerateForms
 pub mod StepForms
 pub mod TestForms
+pub mod AlphaForms
 pub mod RelationForms
 pub mod ClosureForms
 pub mod DefineForms
 pub mod MetafunctionForms
 pub mod JudgementForms
 pub mod PassedForms
+pub mod Reported
 pub mod Forms
 pub mod OneForm
 pub mod KnownView

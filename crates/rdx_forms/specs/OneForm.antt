@@ -6,6 +6,7 @@ use Rattle.rdx_lang.specs.Patterns.{Language}
 use Rattle.rdx_lang.specs.declared.pattern.Ref.{Ref}
 use Rattle.rdx_patterns.specs.Refusal.{Refusal}
 use Rattle.rdx_grammar.specs.Refused.{recursion_at}
+use Rattle.rdx_forms.specs.BindingParts.{grammar_part}
 use Rattle.rdx_forms.specs.Definitions.{Defined, language, IsSound}
 use Rattle.rdx_forms.specs.Forms.{form_refusal, late_refusal, form_definition, form_query, is_passed}
 use Rattle.rdx_forms.specs.Known.{Known}
@@ -31,5 +32,5 @@ pub record IsPassedOver (K : Known) (d : Sexp) : Type 0 where
 -- the form is refused, by a check that looks at its data; by S7, since its language is left-recursive; or, where that is not, by the check behind it
 pub data IsRefusedForm (K : Known) (d : Sexp) (r : Refusal) : Type 0 where
   by_check : form_refusal K d ≡ Some r → IsRefusedForm K d r
-  by_recursion : (L : Language) (x : Ref) → form_refusal K d ≡ None → form_definition K d ≡ Some (language L) → IsFirstRecursive L x → r ≡ recursion_at d x → IsRefusedForm K d r
+  by_recursion : (L : Language) (x : Ref) → form_refusal K d ≡ None → form_definition K d ≡ Some (language L) → IsFirstRecursive L x → r ≡ recursion_at (grammar_part d) x → IsRefusedForm K d r
   by_late_check : (x : Defined) → form_refusal K d ≡ None → form_definition K d ≡ Some x → IsSound x → late_refusal d ≡ Some r → IsRefusedForm K d r

@@ -1,12 +1,14 @@
 // What is known before the first form of a file, and what is added to it by what a form defines.
 ghost use Rattle.std.specs.Prelude.{◌≡◌, IfOk, OnOk};
 ghost use Rattle.rdx_forms.specs.Before.{known_before};
+ghost use Rattle.rdx_forms.specs.Fitting.{AreReadable};
 ghost use Rattle.rdx_forms.specs.KnownView.{known_of};
 ghost use Rattle.rdx_lang.specs.Checked.{language_in};
 ghost use Rattle.rdx_lang.specs.ProgramView.{judgement_of, metafunction_of, relation_of};
 ghost use Rattle.rdx_forms.specs.Definitions as defined;
 ghost use Rattle.rdx_forms.specs.Known.{with_definition};
 
+use crate::binding_forms::file_forms;
 use crate::ends::file_ends;
 use crate::known::Known;
 use crate::tables::{Tables, add_text, make_room};
@@ -19,12 +21,14 @@ use std::alloc::Global;
 
 /// What is known before the first of these forms.
 pub fn nothing_known(alloc: Global, forms: &[Datum]) -> Result<Known, NoMemory>
+    requires { AreReadable forms.now }
     ensures { IfOk result (λ known. known_of known ≡ known_before forms.now) }
 {
     let scope = scope_of(alloc, forms)?;
     let languages = judgement_languages(alloc, forms)?;
     let tables = Tables::new(alloc, &languages)?;
     let ends = file_ends(alloc, forms)?;
+    let bound = file_forms(alloc, forms)?;
     let program = Program {
         languages: Vec::new(alloc),
         metafunctions: Vec::new(alloc),
@@ -36,6 +40,7 @@ pub fn nothing_known(alloc: Global, forms: &[Datum]) -> Result<Known, NoMemory>
         languages,
         ends,
         program,
+        forms: bound,
         tables,
     })
 }

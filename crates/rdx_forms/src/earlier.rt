@@ -1,7 +1,7 @@
 // Which of two refusals is reported: the one by the check with the lesser number.
 ghost use Rattle.std.specs.Prelude.{◌≡◌, Ok, Option, IfOk};
 ghost use Rattle.rdx_patterns.specs.Refusal.{Refusal, refusal_of};
-ghost use Rattle.rdx_forms.specs.Inside.Earlier as model;
+ghost use Rattle.rdx_forms.specs.Reported as model;
 ghost use Rattle.rdx_forms.specs.Inside.Earlier.{IsFirstFault, IsUnless};
 ghost use Rattle.rdx_forms.specs.Faults.{IsRefusedBy};
 

@@ -4,6 +4,7 @@ ghost use Rattle.rdx_lang.specs.ProgramView.{program_of};
 ghost use Rattle.rdx_forms.specs.Model.Tabled.{AreTabled, FindsFirsts};
 
 use crate::tables::Tables;
+use rdx_alpha::BindingForm;
 use rdx_lang::Program;
 use rdx_templates::Scope;
 use rdx_term::Name;
@@ -20,6 +21,8 @@ pub struct Known {
     /// The nonterminals to which the file asks for cross nonterminals.
     pub ends: Vec<Name>,
     pub program: Program,
+    /// The binding forms of the languages of the whole file, under their names.
+    pub forms: Vec<(Name, Vec<BindingForm>)>,
     pub(crate) tables: Tables,
     ghost tabled: { AreTabled tables (program_of program) },
     ghost asked: { FindsFirsts tables.asked (map (λ p. p.0) languages.items) },

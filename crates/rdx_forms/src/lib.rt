@@ -8,6 +8,9 @@
 #![tactic(auto)]
 
 mod adding;
+mod alpha_forms;
+mod binding_forms;
+mod binding_parts;
 mod closure_forms;
 mod define_forms;
 mod earlier;
@@ -31,6 +34,7 @@ mod tables;
 mod test_forms;
 
 pub use adding::{add_judgement, add_language, add_metafunction, add_relation, nothing_known};
+pub use alpha_forms::{Alike, Putting, read_alike, read_put};
 pub use define_forms::define_relation;
 pub use generate_forms::{Checking, Generating, read_check, read_generate};
 pub use holds_forms::{read_holds, read_holds_test};

@@ -1,9 +1,10 @@
 // The parts of data and of forms.
 ghost use Rattle.std.specs.Prelude.{◌≡◌, [], option_map};
 ghost use Rattle.rdx_patterns.specs.Parts.{parts};
+ghost use Rattle.rdx_forms.specs.AlphaForms.{alike_parts, put_parts};
 ghost use Rattle.rdx_forms.specs.GenerateForms.{generate_among};
 ghost use Rattle.rdx_forms.specs.HoldsForms.{holds_parts, lone_parts};
-ghost use Rattle.rdx_forms.specs.Inside.PartViews.{closure_of, define_kind_of, defining_by, defining_of, defining_with, generate_of, holds_of, judgement_head, parts_of, second_item, language_item, equals_of, leading_of, steps_of};
+ghost use Rattle.rdx_forms.specs.Inside.PartViews.{alike_of, closure_of, define_kind_of, defining_by, defining_of, defining_with, generate_of, holds_of, judgement_head, parts_of, second_item, language_item, equals_of, leading_of, put_of, steps_of};
 ghost use Rattle.rdx_forms.specs.LanguageForms.{base_name};
 ghost use Rattle.rdx_forms.specs.MatchForms.{query_parts};
 ghost use Rattle.rdx_forms.specs.DefineParts.{closure_among, closure_parts, define_named, define_parts, kind_among, kind_by_word};
@@ -42,6 +43,24 @@ pub(crate) struct StepParts<'a> {
 pub(crate) struct EqualParts<'a> {
     pub(crate) found: &'a Datum,
     pub(crate) wanted: &'a Datum,
+}
+
+/// The name of a language, and the host expressions that are to make alpha equivalent terms.
+#[derive(Clone, Copy)]
+pub(crate) struct AlikeParts<'a> {
+    pub(crate) language: &'a Datum,
+    pub(crate) one: &'a Datum,
+    pub(crate) other: &'a Datum,
+}
+
+/// The name of a language, and the host expressions that make a term, the symbol for which something
+/// is put in it, and what is put.
+#[derive(Clone, Copy)]
+pub(crate) struct PutParts<'a> {
+    pub(crate) language: &'a Datum,
+    pub(crate) whole: &'a Datum,
+    pub(crate) symbol: &'a Datum,
+    pub(crate) value: &'a Datum,
 }
 
 /// The name of a relation, the host expression from whose term it is to lead, and those to whose
@@ -164,6 +183,35 @@ pub(crate) fn equal_parts(d: &Datum) -> Option<EqualParts<'_>>
 {
     match items(d)? {
         [_, found, wanted] => Some(EqualParts { found, wanted }),
+        _ => None,
+    }
+}
+
+/// The parts of a form that asks whether terms are alpha equivalent.
+pub(crate) fn alike_parts(d: &Datum) -> Option<AlikeParts<'_>>
+    ensures { option_map alike_of result ≡ alike_parts d.now }
+{
+    match items(d)? {
+        [_, language, one, other] if is_symbol(language) => Some(AlikeParts {
+            language,
+            one,
+            other,
+        }),
+        _ => None,
+    }
+}
+
+/// The parts of a form that puts a term for a symbol.
+pub(crate) fn put_parts(d: &Datum) -> Option<PutParts<'_>>
+    ensures { option_map put_of result ≡ put_parts d.now }
+{
+    match items(d)? {
+        [_, language, whole, symbol, value] if is_symbol(language) => Some(PutParts {
+            language,
+            whole,
+            symbol,
+            value,
+        }),
         _ => None,
     }
 }

@@ -20,27 +20,31 @@ use Rattle.rdx_grammar.specs.Inside.CheckedForms.{AreSpelledIn, AreShallowIn}
 use Rattle.rdx_grammar.specs.Languages.{empty_language, language_over}
 use Rattle.rdx_patterns.specs.Nonterminals.{names_of}
 use Rattle.rdx_patterns.specs.Parts.{text_of}
+use Rattle.rdx_patterns.specs.Readable.{IsReadable}
 use Rattle.rdx_patterns.specs.Refusal.{or_else}
 use Rattle.rdx_grammar.specs.Refused.{shape_at, refusal_over}
 use Rattle.rdx_grammar.specs.Stands.{form_stands}
 use Rattle.rdx_patterns.specs.Unbuilt.{unbuilt_at}
 use Rattle.rdx_eval.specs.Laws.{AreFree}
 use Rattle.rdx_answer.specs.Queries.{Query}
+use Rattle.rdx_forms.specs.BindingParts.{binding_refusal, grammar_part}
 use Rattle.rdx_forms.specs.DefineForms.{defined_relation}
 use Rattle.rdx_forms.specs.Definitions.{Defined, language, metafunction, judgement, relation}
 use Rattle.rdx_forms.specs.OneForm.{Defines}
 use Rattle.rdx_query.specs.File.{Accepts, accepts_none, accepts_definition, accepts_query, accepts_passed, IsFile}
 use Rattle.rdx_forms.specs.Before.{known_before}
 use Rattle.rdx_forms.specs.FormKinds as kind
-use Rattle.rdx_forms.specs.FormKinds.{FormKind, defines, asks, passes, to_come, form_kind}
+use Rattle.rdx_forms.specs.FormKinds.{FormKind, defines, asks, passes, form_kind}
 use Rattle.rdx_forms.specs.Forms.{definition_by_kind, refusal_by_kind}
 use Rattle.rdx_forms.specs.JudgementForms.{defined_judgement}
 use Rattle.rdx_forms.specs.Known.{Known, with_definition, or_empty}
-use Rattle.rdx_forms.specs.LanguageForms.{base_name, named_base, unknown_at, taken_at, language_refusal, plain_language, extended_language}
+use Rattle.rdx_forms.specs.LanguageForms.{base_name, named_base, unknown_at, taken_at, language_refusal, plain_refusal, plain_language, extension_refusal, extended_language}
 use Rattle.rdx_forms.specs.MetafunctionForms.{defined_function}
 use Rattle.rdx_query.proofs.AskedNames.{fit-before, can_answer}
 use Rattle.rdx_query.proofs.DefinedJudgements.{mapped-some}
 use Rattle.rdx_forms.proofs.FoundByName.{language-among}
+use Rattle.rdx_forms.proofs.GrammarParts.{part-readable}
+use Rattle.rdx_query.proofs.Reported.{none-reported}
 
 -- each of these languages is well formed
 abbrev AreWellFormed : List Language → Type 0
@@ -85,21 +89,28 @@ IsFormed (judgement J) = Unit {0}
 IsFormed (relation R) = Unit {0}
 
 module _ (K : Known) (w : AreWellFormed K.program.languages) (d : Sexp) (shallow : sexp_depth d < 4294967296) (spelled : IsSpelledSexp d) where
+  -- its part without binding forms can be read
+  readable : IsReadable (grammar_part d)
+  readable = part-readable d (record { nested = shallow; spelled = spelled })
+
   -- by what the form does
   by_kind : (k : FormKind) (x : Defined) → refusal_by_kind K d k ≡ None → definition_by_kind K d k ≡ Some x → IsFormed x
   by_kind (asks k) x p m = absurd cc
   by_kind (passes k) x p m = absurd cc
-  by_kind to_come x p m = absurd cc
   by_kind (defines kind.language) x p m =
-      mapped-some language (plain_language d) x m IsFormed
+      let c = grammar_part d in
+      let q = (none-reported (plain_refusal K c) (binding_refusal d) p).0 in
+      mapped-some language (plain_language c) x m IsFormed
       (λ L e.
-      form-formed K empty_language None d (language_form d) L (record { distinct = refl; well_formed = refl }) (AreSpelledIn-language d spelled)
-      (AreShallowIn-language d shallow) p e)
+      form-formed K empty_language None c (language_form c) L (record { distinct = refl; well_formed = refl }) (AreSpelledIn-language c readable.spelled)
+      (AreShallowIn-language c readable.nested) q e)
   by_kind (defines kind.extension) x p m =
-      mapped-some language (extended_language K d) x m IsFormed
+      let c = grammar_part d in
+      let q = (none-reported (extension_refusal K c) (binding_refusal d) p).0 in
+      mapped-some language (extended_language K c) x m IsFormed
       (λ L e.
-      form-formed K (named_base K (base_name d)) (base_name d) d (extension_form d) L (base-formed K (base_name d) w) (AreSpelledIn-extension d spelled)
-      (AreShallowIn-extension d shallow) p e)
+      form-formed K (named_base K (base_name c)) (base_name c) c (extension_form c) L (base-formed K (base_name c) w)
+      (AreSpelledIn-extension c readable.spelled) (AreShallowIn-extension c readable.nested) q e)
   by_kind (defines kind.metafunction) x p m = mapped-some metafunction (defined_function K d) x m IsFormed (λ F e. tt)
   by_kind (defines kind.judgement) x p m = mapped-some judgement (defined_judgement K d) x m IsFormed (λ J e. tt)
   by_kind (defines kind.relation) x p m = mapped-some relation (defined_relation K d) x m IsFormed (λ R e. tt)

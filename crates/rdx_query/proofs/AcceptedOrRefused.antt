@@ -29,6 +29,8 @@ use Rattle.rdx_relations.specs.RelationReading.{relation_reading}
 use Rattle.rdx_relations.specs.RelationStands.{relation_stands}
 use Rattle.rdx_parts.specs.StandChecks.{shape_faults, shape_at, bad_name_at, bad_place_at, depth_fault_at, unknown_name_at, undriven_at, escape_at as stands_escape_at, mode_fault_at}
 use Rattle.rdx_parts.specs.Stands.{misshaped, held_stands, bound_by_premise}
+use Rattle.rdx_forms.specs.AlphaForms.{AlikeParts, PutParts, alike_parts, put_parts, alike_refusal, put_refusal}
+use Rattle.rdx_forms.specs.BindingParts.{binding_refusal, grammar_part}
 use Rattle.rdx_forms.specs.ClosureForms.{closed_relation, closure_names, closure_language_at, unknown_closed_at, closure_shape_at, no_nonterminal_at, misshaped_refusal, context_refusal_by, context_relation_by, compatible_refusal_by, compatible_relation_by}
 use Rattle.rdx_forms.specs.DefineForms.{define_refusal_by, defined_relation, kind_refusal, kind_relation, relation_by}
 use Rattle.rdx_forms.specs.DefineParts.{DefineKind, by_cases, by_contexts, by_crosses, DefineParts, ClosureParts, define_parts, closure_parts, with_symbol}
@@ -36,7 +38,7 @@ use Rattle.rdx_forms.specs.Definitions.{Defined, language, metafunction, judgeme
 use Rattle.rdx_forms.specs.OneForm.{Defines, Asks, IsPassedOver, IsRefusedForm, by_check, by_recursion, by_late_check}
 use Rattle.rdx_query.specs.File.{Accepts, accepts_none, accepts_definition, accepts_query, accepts_passed, Refuses, refuses_here, refuses_behind_definition, refuses_behind_query, refuses_behind_passed, IsFile}
 use Rattle.rdx_forms.specs.Before.{known_before}
-use Rattle.rdx_forms.specs.FormKinds.{DefinitionKind, QueryKind, FormKind, defines, asks, passes, to_come, form_kind}
+use Rattle.rdx_forms.specs.FormKinds.{DefinitionKind, QueryKind, FormKind, defines, asks, passes, form_kind}
 use Rattle.rdx_forms.specs.FormKinds as kind
 use Rattle.rdx_forms.specs.Forms.{form_refusal, late_refusal, form_definition, refusal_by_kind, definition_by_kind, query_by_kind, is_passed_kind, definition_refusal, definition_of, question_refusal, asked_query}
 use Rattle.rdx_forms.specs.HoldsForms.{HoldsParts, holds_parts, lone_parts, asked_names, asked_premise, holds_refusal, holds_refusal_over, holds_by, holds_over, holds_test_by}
@@ -44,11 +46,12 @@ use Rattle.rdx_forms.specs.HostForms.{host_of_datum, value_query}
 use Rattle.rdx_forms.specs.JudgementForms.{form_names, judgement_refusal_by, defined_judgement}
 use Rattle.rdx_forms.specs.GenerateForms.{GenerateParts, generate_parts, check_parts, generate_refusal, check_refusal, generate_over, check_over}
 use Rattle.rdx_forms.specs.Known.{Known, with_definition}
-use Rattle.rdx_forms.specs.LanguageForms.{base_name, named_base, name_taken_at, language_refusal, plain_language, extended_language}
+use Rattle.rdx_forms.specs.LanguageForms.{base_name, named_base, name_taken_at, language_refusal, plain_refusal, plain_language, extension_refusal, extended_language}
 use Rattle.rdx_query.specs.Laws.{AreAccepted, AreRefused}
 use Rattle.rdx_forms.specs.MatchForms.{QueryParts, query_parts, query_refusal, query_over}
 use Rattle.rdx_forms.specs.MetafunctionForms.{function_names, function_refusal_by, defined_function}
-use Rattle.rdx_answer.specs.Queries.{Query, matches, whether, splits, reducts, tagged, stepper, test_equal, test_step, test_run, test_match, test_holds, test_results}
+use Rattle.rdx_answer.specs.Bound.{forms_named}
+use Rattle.rdx_answer.specs.Queries.{Query, matches, whether, splits, reducts, tagged, stepper, alike, substituted, test_equal, test_step, test_run, test_match, test_holds, test_results}
 use Rattle.rdx_forms.specs.RelationForms.{relation_names, cases_refusal_over, bad_relation_at}
 use Rattle.rdx_forms.specs.StepForms.{StepParts, step_parts, steps_refusal}
 use Rattle.rdx_forms.specs.TestForms.{EqualParts, LeadingParts, equal_parts, leading_parts, equal_refusal, leading_refusal}
@@ -56,7 +59,8 @@ use Rattle.rdx_patterns.proofs.Firsts.{none_or}
 use Rattle.rdx_templates.proofs.EarliestPlaces.{earliest-none}
 use Rattle.rdx_forms.proofs.CheckNumbers.{none-at}
 use Rattle.rdx_forms.proofs.FoundByName.{HasValue, mapped, relation-found}
-use Rattle.rdx_query.proofs.OneReading.{accepts-scope, accepts-languages, accepts-ends}
+use Rattle.rdx_query.proofs.Reported.{none-reported}
+use Rattle.rdx_query.proofs.OneReading.{accepts-scope, accepts-languages, accepts-ends, accepts-forms}
 
 -- ---- what passes has its parts
 
@@ -134,10 +138,14 @@ judgement-parts K d (Some f) e = record { value = f; is = refl }
 -- so it defines something
 definition-means : (K : Known) (d : Sexp) (k : DefinitionKind) → definition_refusal K d k ≡ None → HasValue Defined (definition_of K d k)
 definition-means K d kind.language e =
-    mapped language (plain_language d) (mapped (language_over empty_language) (language_form d) (language-parts K empty_language None d (language_form d) e))
+    let c = grammar_part d in
+    let q = (none-reported (plain_refusal K c) (binding_refusal d) e).0 in
+    mapped language (plain_language c) (mapped (language_over empty_language) (language_form c) (language-parts K empty_language None c (language_form c) q))
 definition-means K d kind.extension e =
-    let base = named_base K (base_name d) in
-    mapped language (extended_language K d) (mapped (language_over base) (extension_form d) (language-parts K base (base_name d) d (extension_form d) e))
+    let c = grammar_part d in
+    let base = named_base K (base_name c) in
+    let q = (none-reported (extension_refusal K c) (binding_refusal d) e).0 in
+    mapped language (extended_language K c) (mapped (language_over base) (extension_form c) (language-parts K base (base_name c) c (extension_form c) q))
 definition-means K d kind.metafunction e =
     mapped metafunction (defined_function K d)
     (mapped (metafunction_reading K.scope (function_names K (metafunction_form d))) (metafunction_form d) (function-parts K d (metafunction_form d) e))
@@ -170,6 +178,14 @@ check-parts K d (Some q) e = record { value = q; is = refl }
 equal-parts : (K : Known) (d : Sexp) (q : Option EqualParts) → equal_refusal K d q ≡ None → HasValue EqualParts q
 equal-parts K d None e = absurd (not_passed (unbuilt_at d) (unnamed Shape d) e)
 equal-parts K d (Some q) e = record { value = q; is = refl }
+
+alike-parts : (K : Known) (d : Sexp) (q : Option AlikeParts) → alike_refusal K d q ≡ None → HasValue AlikeParts q
+alike-parts K d None e = absurd (not_passed (unbuilt_at d) (unnamed Shape d) e)
+alike-parts K d (Some q) e = record { value = q; is = refl }
+
+put-parts : (K : Known) (d : Sexp) (q : Option PutParts) → put_refusal K d q ≡ None → HasValue PutParts q
+put-parts K d None e = absurd (not_passed (unbuilt_at d) (unnamed Shape d) e)
+put-parts K d (Some q) e = record { value = q; is = refl }
 
 leading-parts : (K : Known) (d : Sexp) (q : Option LeadingParts) → leading_refusal K d q ≡ None → HasValue LeadingParts q
 leading-parts K d None e = absurd (not_passed (unbuilt_at d) (unnamed Shape d) e)
@@ -214,6 +230,13 @@ question-means K d kind.stepper e =
     mapped (λ (q : StepParts). stepper (text_of q.relation) (host_of_datum K q.host)) (step_parts d) (step-parts K d (step_parts d) e)
 question-means K d kind.generate e = mapped (generate_over K) (generate_parts d) (generate-parts K d (generate_parts d) e)
 question-means K d kind.check e = mapped (check_over K) (check_parts d) (check-parts K d (check_parts d) e)
+question-means K d kind.alike e =
+    mapped (λ (q : AlikeParts). alike (forms_named K.forms (text_of q.language)) (host_of_datum K q.one) (host_of_datum K q.other)) (alike_parts d)
+    (alike-parts K d (alike_parts d) e)
+question-means K d kind.put e =
+    mapped
+    (λ (q : PutParts). substituted (forms_named K.forms (text_of q.language)) (host_of_datum K q.whole) (host_of_datum K q.symbol) (host_of_datum K q.value))
+    (put_parts d) (put-parts K d (put_parts d) e)
 question-means K d kind.test_equal e =
     mapped (λ (q : EqualParts). test_equal (host_of_datum K q.found) (host_of_datum K q.wanted)) (equal_parts d) (equal-parts K d (equal_parts d) e)
 question-means K d kind.test_step e =
@@ -244,7 +267,7 @@ by_late K d x p m s (Some r) e = refused r (by_late_check x p m s e)
 -- a language that the form defines is free of left recursion, or the form is refused
 by_freedom : (K : Known) (d : Sexp) (L : Language) → form_refusal K d ≡ None → form_definition K d ≡ Some (language L) → IsFree L ⊎ HasFirstRecursive L → Outcome K d
 by_freedom K d L p m (inl f) = by_late K d (language L) p m f (late_refusal d) refl
-by_freedom K d L p m (inr h) = refused (recursion_at d h.nonterminal) (by_recursion L h.nonterminal p m h.is_first refl)
+by_freedom K d L p m (inr h) = refused (recursion_at (grammar_part d) h.nonterminal) (by_recursion L h.nonterminal p m h.is_first refl)
 
 -- ---- files
 
@@ -287,7 +310,14 @@ is_file : (ds : List Sexp) (J : Known) (qs : List Query) → Accepts (known_befo
 is_file ds J qs a =
     let K : Known = known_before ds in
     subst (λ (I : Known). Accepts K ds I qs)
-    (λ i. record { scope = accepts-scope K ds J qs a i; languages = accepts-languages K ds J qs a i; ends = accepts-ends K ds J qs a i; program = J.program }) a
+    (λ i. record {
+      scope = accepts-scope K ds J qs a i;
+      languages = accepts-languages K ds J qs a i;
+      ends = accepts-ends K ds J qs a i;
+      forms = accepts-forms K ds J qs a i;
+      program = J.program;
+    })
+    a
 
 -- ---- what becomes of a form and of a file, where each language is free of left recursion or has a first recursive nonterminal
 
@@ -308,7 +338,6 @@ module _ (decided : FreeOrRecursive) where
       let m = question-means K d k e in
       asked m.value (record { passes = ap (refusal_by_kind K d) f ∙ e; means = ap (query_by_kind K d) f ∙ m.is })
   by_kind K d (passes k) f e = passed (record { passes = ap (refusal_by_kind K d) f ∙ e; means = ap is_passed_kind f })
-  by_kind K d to_come f e = absurd cc
 
   -- a form
   by_checks : (K : Known) (d : Sexp) (o : Option Refusal) → form_refusal K d ≡ o → Outcome K d

@@ -31,12 +31,13 @@ use Rattle.rdx_relations.proofs.PartsOfForms.{Each}
 use Rattle.rdx_defs.proofs.PassedForms.{has-function, metafunction-valid}
 use Rattle.rdx_relations.proofs.PassedStands.{passed-both, pattern-first, template-first}
 use Rattle.rdx_defs.proofs.ScopeForms.{not_misshaped, conditions-shaped, in-scope}
+use Rattle.rdx_forms.specs.BindingParts.{grammar_part}
 use Rattle.rdx_forms.specs.DefineForms.{defined_relation}
 use Rattle.rdx_forms.specs.Definitions.{Defined, language, metafunction, judgement, relation}
 use Rattle.rdx_query.specs.File.{Accepts, accepts_none, accepts_definition, accepts_query, accepts_passed, IsFile}
 use Rattle.rdx_forms.specs.Before.{known_before}
 use Rattle.rdx_forms.specs.FormKinds as kind
-use Rattle.rdx_forms.specs.FormKinds.{FormKind, defines, asks, passes, to_come, heads, kind_in, kind_by_head, kind_among, form_kind}
+use Rattle.rdx_forms.specs.FormKinds.{FormKind, defines, asks, passes, heads, kind_in, kind_by_head, kind_among, form_kind}
 use Rattle.rdx_forms.specs.Forms.{refusal_by_kind, definition_by_kind, query_by_kind, is_passed_kind}
 use Rattle.rdx_forms.specs.JudgementForms.{defined_judgement}
 use Rattle.rdx_forms.specs.Known.{Known, with_definition, paired_with}
@@ -81,7 +82,6 @@ of_functions (defines kind.judgement) = false
 of_functions (defines kind.relation) = false
 of_functions (asks k) = false
 of_functions (passes k) = false
-of_functions to_come = false
 
 -- forms of judgements
 abbrev of_judgements : FormKind → Bool
@@ -92,7 +92,6 @@ of_judgements (defines kind.judgement) = true
 of_judgements (defines kind.relation) = false
 of_judgements (asks k) = false
 of_judgements (passes k) = false
-of_judgements to_come = false
 
 -- the head of each
 functions-own : of_functions (kind_in heads (codes "define-metafunction")) ≡ true
@@ -243,12 +242,11 @@ by_kind : (K : Known) (d : Sexp) (k : FormKind) (x : Defined) → IsReadable d �
     → definition_by_kind K d k ≡ Some x → IsScopeOf d x
 by_kind K d (asks k) x z e r m = absurd cc
 by_kind K d (passes k) x z e r m = absurd cc
-by_kind K d to_come x z e r m = absurd cc
 by_kind K d (defines kind.language) x z e r m =
-    mapped-some language (plain_language d) x m (IsScopeOf d)
+    mapped-some language (plain_language (grammar_part d)) x m (IsScopeOf d)
     (λ L f. other-scope d (language L) (ap of_functions e) (ap of_judgements e) refl refl refl)
 by_kind K d (defines kind.extension) x z e r m =
-    mapped-some language (extended_language K d) x m (IsScopeOf d)
+    mapped-some language (extended_language K (grammar_part d)) x m (IsScopeOf d)
     (λ L f. other-scope d (language L) (ap of_functions e) (ap of_judgements e) refl refl refl)
 by_kind K d (defines kind.metafunction) x z e r m =
     mapped-some metafunction (defined_function K d) x m (IsScopeOf d)
@@ -281,14 +279,12 @@ by_asking : (K : Known) (d : Sexp) (k : FormKind) (q : Query) → form_kind d �
 by_asking K d (defines k) q e m = absurd cc
 by_asking K d (asks k) q e m = none-in-scope d (ap of_functions e) (ap of_judgements e)
 by_asking K d (passes k) q e m = absurd cc
-by_asking K d to_come q e m = absurd cc
 
 -- and one that is passed over
 by_passing : (d : Sexp) (k : FormKind) → form_kind d ≡ k → is_passed_kind k ≡ true → IsNoScope d
 by_passing d (defines k) e m = absurd cc
 by_passing d (asks k) e m = absurd cc
 by_passing d (passes k) e m = none-in-scope d (ap of_functions e) (ap of_judgements e)
-by_passing d to_come e m = absurd cc
 
 -- ---- all forms
 

@@ -14,11 +14,12 @@ use Rattle.rdx_defs.specs.JudgementReading.{judgement_reading}
 use Rattle.rdx_defs.specs.MetafunctionReading.{text_in}
 use Rattle.rdx_templates.specs.Scope.{mode_among}
 use Rattle.rdx_defs.specs.Scopes.{is_rule_of, with_mode, judgement_by as judgement_in_scope, judgement_moded, defined_judgements}
+use Rattle.rdx_forms.specs.BindingParts.{grammar_part}
 use Rattle.rdx_forms.specs.DefineForms.{defined_relation}
 use Rattle.rdx_forms.specs.Definitions.{Defined, language, metafunction, judgement, relation}
 use Rattle.rdx_forms.specs.OneForm.{Defines, Asks, IsPassedOver}
 use Rattle.rdx_forms.specs.FormKinds as kind
-use Rattle.rdx_forms.specs.FormKinds.{DefinitionKind, FormKind, defines, asks, passes, to_come, heads, kind_in, kind_by_head, kind_among, form_kind}
+use Rattle.rdx_forms.specs.FormKinds.{DefinitionKind, FormKind, defines, asks, passes, heads, kind_in, kind_by_head, kind_among, form_kind}
 use Rattle.rdx_forms.specs.Forms.{definition_by_kind, query_by_kind, is_passed_kind}
 use Rattle.rdx_forms.specs.JudgementForms.{form_names, judgement_by, defined_judgement}
 use Rattle.rdx_forms.specs.Known.{Known}
@@ -41,7 +42,6 @@ abbrev is_one : FormKind → Bool
 is_one (defines k) = defines_one k
 is_one (asks k) = false
 is_one (passes k) = false
-is_one to_come = false
 
 -- one with this head does
 head-defines : is_one (kind_in heads (codes "define-judgment-form")) ≡ true
@@ -162,11 +162,10 @@ of_judgement K d J m y e = by_form K (judgement_form d) J y m e
 by_kind : (K : Known) (d : Sexp) (k : FormKind) (x : Defined) → form_kind d ≡ k → definition_by_kind K d k ≡ Some x → IsOf d x
 by_kind K d (asks k) x e m = absurd cc
 by_kind K d (passes k) x e m = absurd cc
-by_kind K d to_come x e m = absurd cc
 by_kind K d (defines kind.language) x e m =
-    mapped-some language (plain_language d) x m (IsOf d) (λ L f. of_none d (language L) (defines kind.language) e refl)
+    mapped-some language (plain_language (grammar_part d)) x m (IsOf d) (λ L f. of_none d (language L) (defines kind.language) e refl)
 by_kind K d (defines kind.extension) x e m =
-    mapped-some language (extended_language K d) x m (IsOf d) (λ L f. of_none d (language L) (defines kind.extension) e refl)
+    mapped-some language (extended_language K (grammar_part d)) x m (IsOf d) (λ L f. of_none d (language L) (defines kind.extension) e refl)
 by_kind K d (defines kind.metafunction) x e m =
     mapped-some metafunction (defined_function K d) x m (IsOf d) (λ F f. of_none d (metafunction F) (defines kind.metafunction) e refl)
 by_kind K d (defines kind.judgement) x e m = mapped-some judgement (defined_judgement K d) x m (IsOf d) (λ J f. of_judgement K d J f)
@@ -182,7 +181,6 @@ by_asking : (K : Known) (d : Sexp) (k : FormKind) (q : Query) → form_kind d �
 by_asking K d (defines k) q e m = absurd cc
 by_asking K d (asks k) q e m = none-defined d (asks k) e refl
 by_asking K d (passes k) q e m = absurd cc
-by_asking K d to_come q e m = absurd cc
 
 pub asks-moded : (K : Known) (d : Sexp) (q : Query) → Asks K d q → defined_judgements d ≡ []
 asks-moded K d q a = by_asking K d (form_kind d) q refl a.means
@@ -192,7 +190,6 @@ by_passing : (d : Sexp) (k : FormKind) → form_kind d ≡ k → is_passed_kind 
 by_passing d (defines k) e m = absurd cc
 by_passing d (asks k) e m = absurd cc
 by_passing d (passes k) e m = none-defined d (passes k) e refl
-by_passing d to_come e m = absurd cc
 
 pub passed-moded : (K : Known) (d : Sexp) → IsPassedOver K d → defined_judgements d ≡ []
 passed-moded K d a = by_passing d (form_kind d) refl a.means

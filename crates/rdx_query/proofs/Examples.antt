@@ -39,6 +39,7 @@ use Rattle.rdx_reduce.specs.Steps.{Step, RuleSteps}
 use Rattle.rdx_answer.proofs.PrintedExamples.{digit_0, digit_1, digit_2, digit_3}
 use Rattle.rdx_answer.specs.AnswerText.{answers_text, matches_text, splits_text, value_line, reducts_text, steps_text, fault_line}
 use Rattle.rdx_answer.specs.Answering.{HostValue, over_value, over_fault, no_answers, more_answers}
+use Rattle.rdx_answer.specs.Bound.{Bound}
 use Rattle.rdx_answer.specs.Examples.{marked_pair}
 use Rattle.rdx_forms.specs.Definitions.{language}
 use Rattle.rdx_query.specs.Examples.{defines_L, AnswersInOrder, WholeAnswer, Inherited, OneSplit, FilledTerm, FaultAnswered, OneReductTwoSteps, PremiseMet, OutputsListed, FirstRefusedForm, EarlierLanguagesOnly, TakenName, HostExpression, OtherForm, Sum, Wanted, OtherModule, KnownBefore, FewItems, LeftRecursion}
@@ -100,8 +101,9 @@ free x ns y (at_once (edge_nt a)) = not_literal ns y (among_literals x ns y (nt 
 free x ns y (further (edge_nt {p = p} a) r) = none_from x ns ns p (nt y) (among_literals x ns y p a) r
 
 -- the first form defines L, whatever the file defines and asks for
-defines : (S : Scope) (ls : List (List ℕ × List ℕ)) (ys : List (List ℕ)) (s : Span) → Defines (nothing_in S ls ys) (defines_L s) (language L)
-defines S ls ys s = record { passes = refl; means = refl; sound = free (codes "L") (1 ∷ []); passes_late = refl }
+defines : (S : Scope) (ls : List (List ℕ × List ℕ)) (ys : List (List ℕ)) (bs : List Bound) (s : Span)
+    → Defines (nothing_in S ls ys bs) (defines_L s) (language L)
+defines S ls ys bs s = record { passes = refl; means = refl; sound = free (codes "L") (1 ∷ []); passes_late = refl }
 
 -- ---- listings
 
@@ -373,7 +375,7 @@ answers_in_order s = record {
   program = program_L;
   queries = matches (codes "L") pattern pair_template ∷ matches (codes "L") (lit (tree.integer (pos 1))) (literal 1) ∷ [];
   accepted =
-      accepts_definition (defines _ _ _ s) (accepts_query (record { passes = refl; means = refl }) (accepts_query (record { passes = refl; means = refl }) accepts_none));
+      accepts_definition (defines _ _ _ _ s) (accepts_query (record { passes = refl; means = refl }) (accepts_query (record { passes = refl; means = refl }) accepts_none));
   answers =
       more_answers (codes "match 1\n  any_x = 2, any_y = 1\n") (codes "match 1\n  -\n") true true
       (over_value pair (pair_made program_L)
@@ -384,7 +386,7 @@ answers_in_order s = record {
 }
 
 pub first_refused_form : FirstRefusedForm
-first_refused_form s m = refuses_behind_definition (defines _ _ _ s) (refuses_here (by_check refl))
+first_refused_form s m = refuses_behind_definition (defines _ _ _ _ s) (refuses_here (by_check refl))
 
 pub earlier_languages_only : EarlierLanguagesOnly
 earlier_languages_only s l = refuses_here (by_check refl)
@@ -395,7 +397,7 @@ whole_answer s = record {
   program = program_L;
   queries = whether (codes "L") named_e (literal 1) ∷ whether (codes "L") named_e (literal 2) ∷ [];
   accepted =
-      accepts_definition (defines _ _ _ s) (accepts_query (record { passes = refl; means = refl }) (accepts_query (record { passes = refl; means = refl }) accepts_none));
+      accepts_definition (defines _ _ _ _ s) (accepts_query (record { passes = refl; means = refl }) (accepts_query (record { passes = refl; means = refl }) accepts_none));
   answers =
       more_answers (codes "matches #t\n") (codes "matches #f\n") true true
       (over_value (tree.integer (pos 1)) refl
@@ -411,7 +413,7 @@ inherited s = record {
   program = record { languages = L ∷ M ∷ []; metafunctions = []; judgements = []; relations = [] };
   queries = whether (codes "M") named_e (literal 1) ∷ [];
   accepted =
-      accepts_definition (defines _ _ _ s)
+      accepts_definition (defines _ _ _ _ s)
       (accepts_definition (record { passes = refl; means = refl; sound = free (codes "M") (1 ∷ []); passes_late = refl }) (accepts_query (record { passes = refl; means = refl }) accepts_none));
   answers =
       more_answers (codes "matches #t\n") [] true true
@@ -424,7 +426,7 @@ unfolding chars
 one_split s = record {
   program = program_L;
   queries = splits (codes "L") split_pattern (term split_template) ∷ [];
-  accepted = accepts_definition (defines _ _ _ s) (accepts_query (record { passes = refl; means = refl }) accepts_none);
+  accepted = accepts_definition (defines _ _ _ _ s) (accepts_query (record { passes = refl; means = refl }) accepts_none);
   answers =
       more_answers (codes "splits 1\n  (hole hole) at [0] is 1 with any = hole\n") [] true true
       (over_value split_term (split_made program_L)
@@ -466,7 +468,7 @@ one_reduct_two_steps s = record {
   program = program_R;
   queries = reducts (codes "R") (literal 1) ∷ tagged (codes "R") (literal 1) ∷ [];
   accepted =
-      accepts_definition (defines _ _ _ s)
+      accepts_definition (defines _ _ _ _ s)
       (accepts_definition (record { passes = refl; means = refl; sound = tt; passes_late = refl })
       (accepts_query (record { passes = refl; means = refl }) (accepts_query (record { passes = refl; means = refl }) accepts_none)));
   answers =
@@ -479,10 +481,10 @@ one_reduct_two_steps s = record {
 }
 
 pub taken_name : TakenName
-taken_name s l = refuses_behind_definition (defines _ _ _ s) (refuses_here (by_check refl))
+taken_name s l = refuses_behind_definition (defines _ _ _ _ s) (refuses_here (by_check refl))
 
 pub host_expression : HostExpression
-host_expression s h = refuses_behind_definition (defines _ _ _ s) (refuses_here (by_check refl))
+host_expression s h = refuses_behind_definition (defines _ _ _ _ s) (refuses_here (by_check refl))
 
 pub other_form : OtherForm
 other_form s = refuses_here (by_check refl)
@@ -567,7 +569,7 @@ known_before s = record {
   queries = itself call_of_f ∷ [];
   accepted =
       accepts_query (record { passes = refl; means = refl })
-      (accepts_definition (defines _ _ _ s) (accepts_definition (record { passes = refl; means = refl; sound = tt; passes_late = refl }) accepts_none));
+      (accepts_definition (defines _ _ _ _ s) (accepts_definition (record { passes = refl; means = refl; sound = tt; passes_late = refl }) accepts_none));
   answers =
       more_answers (codes "value 2\n") [] true true
       (over_value (tree.integer (pos 2)) value_of_f (record { printed = two_printed; is_met = refl })) no_answers;
@@ -643,7 +645,7 @@ premise_met s = record {
   program = program_met;
   queries = holds premise_met_by None ∷ [];
   accepted =
-      accepts_definition (defines _ _ _ s)
+      accepts_definition (defines _ _ _ _ s)
       (accepts_definition (record { passes = refl; means = refl; sound = tt; passes_late = refl }) (accepts_query (record { passes = refl; means = refl }) accepts_none));
   answers =
       more_answers (codes "holds #t\n") [] true true (record { found = value (no_names ∷ []); finds = met_once; written = whether_found refl refl }) no_answers;
@@ -733,7 +735,7 @@ outputs_listed s = record {
   program = program_listed;
   queries = holds premise_listed (Some (template.var (codes "any") 0)) ∷ [];
   accepted =
-      accepts_definition (defines _ _ _ s)
+      accepts_definition (defines _ _ _ _ s)
       (accepts_definition (record { passes = refl; means = refl; sound = tt; passes_late = refl }) (accepts_query (record { passes = refl; means = refl }) accepts_none));
   answers =
       more_answers (codes "answers 2\n  2\n  3\n") [] true true

@@ -11,7 +11,7 @@ use Rattle.rdx_lang.specs.Programs.{Program, language_named}
 use Rattle.rdx_lang.specs.WellFormed.{defined, is_well_formed_in}
 use Rattle.rdx_deriv.specs.Holds.{Spoken}
 use Rattle.rdx_answer.specs.Explained.{CanBeExplained, AllCanBeExplained, IsExplainable}
-use Rattle.rdx_answer.specs.Queries.{Query, matches, whether, splits, value, holds, reducts, tagged, stepper, generate, check, test_equal, test_step, test_run, test_match, test_holds, test_results}
+use Rattle.rdx_answer.specs.Queries.{Query, matches, whether, splits, value, holds, reducts, tagged, stepper, generate, check, alike, substituted, test_equal, test_step, test_run, test_match, test_holds, test_results}
 use Rattle.rdx_forms.proofs.FoundByName.{language-among}
 use Rattle.rdx_query.proofs.AcceptedLanguages.{accepted_languages-formed}
 use Rattle.rdx_query.proofs.ValidFiles.{accepted-valid, accepted_queries-valid}
@@ -40,6 +40,8 @@ valid-explainable P (tagged name h) v = tt
 valid-explainable P (stepper name h) v = tt
 valid-explainable P (generate name p size seed) v = tt
 valid-explainable P (check name p h attempts seed) v = tt
+valid-explainable P (alike fs h k) v = tt
+valid-explainable P (substituted fs h k l) v = tt
 valid-explainable P (test_equal h k) v = tt
 valid-explainable P (test_step name h ks) v = tt
 valid-explainable P (test_run name h ks) v = tt

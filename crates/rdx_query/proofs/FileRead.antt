@@ -11,8 +11,11 @@ use Rattle.rdx_patterns.specs.declared.shape.fault.DefFault.{DefFault}
 use Rattle.rdx_patterns.specs.declared.shape.fault.DefFault.TheVariants.{Refused, NoMemory}
 use Rattle.rdx_templates.specs.Scope.{Scope}
 use Rattle.rdx_defs.specs.Scopes.{languages_in, scope_in}
+use Rattle.rdx_answer.specs.Bound.{Bound}
+use Rattle.rdx_forms.specs.BindingParts.{file_forms}
 use Rattle.rdx_forms.specs.Definitions.{Defined}
 use Rattle.rdx_forms.specs.Ends.{form_ends, file_ends}
+use Rattle.rdx_forms.specs.Fitting.{AreReadable}
 use Rattle.rdx_forms.specs.OneForm.{Defines, Asks, IsPassedOver}
 use Rattle.rdx_query.specs.File.{Accepts, accepts_none, accepts_definition, accepts_query, accepts_passed, Refuses, refuses_here, refuses_behind_definition, refuses_behind_query, refuses_behind_passed, IsFile, IsFileRefusal}
 use Rattle.rdx_forms.specs.Before.{known_before}
@@ -33,6 +36,7 @@ pub record SoFar (all rest : List Sexp) (K : Known) (qs : List Query) : Type 0 w
   pub scope : K.scope ≡ scope_in all
   pub languages : K.languages ≡ languages_in all
   pub ends : K.ends ≡ file_ends all
+  pub forms : K.forms ≡ file_forms all
   pub accepted : (J : Known) (rs : List Query) → Accepts K rest J rs → Accepts (known_before all) all J (qs ++ rs)
   pub refused : (r : Refusal) → Refuses K rest r → IsFileRefusal all r
 
@@ -42,6 +46,7 @@ behind_definition all more d K qs x f s = record {
   scope = s.scope;
   languages = s.languages;
   ends = s.ends;
+  forms = s.forms;
   accepted = λ J rs a. s.accepted J rs (accepts_definition f a);
   refused = λ r a. s.refused r (refuses_behind_definition f a);
 }
@@ -52,6 +57,7 @@ behind_query all more d K qs q f s = record {
   scope = s.scope;
   languages = s.languages;
   ends = s.ends;
+  forms = s.forms;
   accepted = λ J rs a. subst (λ (ps : List Query). Accepts (known_before all) all J ps) (sym (append_assoc qs (q ∷ []) rs)) (s.accepted J (q ∷ rs) (accepts_query f a));
   refused = λ r a. s.refused r (refuses_behind_query f a);
 }
@@ -62,6 +68,7 @@ behind_passed all more d K qs f s = record {
   scope = s.scope;
   languages = s.languages;
   ends = s.ends;
+  forms = s.forms;
   accepted = λ J rs a. s.accepted J rs (accepts_passed f a);
   refused = λ r a. s.refused r (refuses_behind_passed f a);
 }
@@ -78,11 +85,11 @@ stepped all more d K J qs rs (step_asks q f e g) s = so_far-same all more K J (q
 stepped all more d K J qs rs (step_passes f e g) s = so_far-same all more K J qs rs e g (behind_passed all more d K qs f s)
 
 -- before the first form
-pub so_far-start : (all : List Sexp) (S : Scope) (ls : List (List ℕ × List ℕ)) (ys : List (List ℕ)) → S ≡ scope_in all → ls ≡ languages_in all → ys ≡ file_ends all
-    → SoFar all all (nothing_in S ls ys) []
-so_far-start all S ls ys e f g =
-    subst (λ (K : Known). SoFar all all K []) (λ i. nothing_in (sym e i) (sym f i) (sym g i))
-    (record { scope = refl; languages = refl; ends = refl; accepted = λ J rs a. a; refused = λ r a. a })
+pub so_far-start : (all : List Sexp) (S : Scope) (ls : List (List ℕ × List ℕ)) (ys : List (List ℕ)) (bs : List Bound) → S ≡ scope_in all
+    → ls ≡ languages_in all → ys ≡ file_ends all → bs ≡ file_forms all → SoFar all all (nothing_in S ls ys bs) []
+so_far-start all S ls ys bs e f g h =
+    subst (λ (K : Known). SoFar all all K []) (λ i. nothing_in (sym e i) (sym f i) (sym g i) (sym h i))
+    (record { scope = refl; languages = refl; ends = refl; forms = refl; accepted = λ J rs a. a; refused = λ r a. a })
 
 -- one form more
 pub so_far-next : (all : List Sexp) (i : ℕ) (d : Sexp) (K J : Known) (qs rs : List Query) → i < length all → d ≡ get_or all i d → Step K qs d J rs → SoFar all (drop i all) K qs → SoFar all (drop (i + 1) all) J rs
@@ -106,7 +113,7 @@ pub so_far-end : (all : List Sexp) (i : ℕ) (K : Known) (qs : List Query) → l
 so_far-end all i K qs h s =
     subst (λ (ps : List Query). Accepts (known_before all) all (record (known_before all) { program = K.program }) ps) (append-nil qs)
     (subst (λ (J : Known). Accepts (known_before all) all J (qs ++ []))
-    (λ j. record { scope = s.scope j; languages = s.languages j; ends = s.ends j; program = K.program })
+    (λ j. record { scope = s.scope j; languages = s.languages j; ends = s.ends j; forms = s.forms j; program = K.program })
     (s.accepted K [] (subst (λ (ds : List Sexp). Accepts K ds K []) (sym (drop-none all i h)) accepts_none)))
 
 -- and what they name is known
@@ -120,6 +127,14 @@ pub form-readable : (ds : List Sexp) (i : ℕ) (d : Sexp) → AreFileData ds →
 form-readable [] i d z h e = absurd (omega arith)
 form-readable (c ∷ ds) zero d z h e = subst IsReadable (sym e) (record { nested = omega (arith, z.depth); spelled = z.spelled.0 })
 form-readable (c ∷ ds) (suc i) d z h e = form-readable ds i d (record { depth = omega (arith, z.depth); nodes = omega (arith, z.nodes); spelled = z.spelled.1 }) (omega arith) e
+
+-- so all can be
+pub all-readable : (ds : List Sexp) → AreFileData ds → AreReadable ds
+all-readable [] z = tt
+all-readable (d ∷ ds) z = (
+  record { nested = omega (arith, z.depth); spelled = z.spelled.0 },
+  all-readable ds (record { depth = omega (arith, z.depth); nodes = omega (arith, z.nodes); spelled = z.spelled.1 }),
+)
 
 -- ---- what can be asked for
 

@@ -18,6 +18,7 @@ use Rattle.rdx_patterns.specs.Nonterminals.{names_of}
 use Rattle.rdx_patterns.proofs.Among.{is_among-names}
 use Rattle.rdx_patterns.proofs.KnownReadings.{in-known_ends, cross-there}
 use Rattle.rdx_patterns.specs.Ends.{known_ends, crossed_for}
+use Rattle.rdx_answer.specs.Bound.{Bound}
 use Rattle.rdx_forms.specs.Definitions.{language, metafunction, judgement, relation}
 use Rattle.rdx_forms.specs.Fitting.{IsCrossedTo, AreCrossed, IsRelationOf, IsFitting}
 use Rattle.rdx_forms.specs.Known.{Known, nothing_in, with_definition}
@@ -40,8 +41,8 @@ is_crossed ys L y i h x k =
 -- ---- all that is known
 
 -- before the first form
-pub fitting-nothing : (S : Scope) (ls : List (List ℕ × List ℕ)) (ys : List (List ℕ)) → IsFitting (nothing_in S ls ys)
-fitting-nothing S ls ys = record { crossed = λ L i. elim i [ ]; relations = λ R i. elim i [ ] }
+pub fitting-nothing : (S : Scope) (ls : List (List ℕ × List ℕ)) (ys : List (List ℕ)) (bs : List Bound) → IsFitting (nothing_in S ls ys bs)
+fitting-nothing S ls ys bs = record { crossed = λ L i. elim i [ ]; relations = λ R i. elim i [ ] }
 
 -- with one language more
 pub fitting-language : (K : Known) (L : Language) → IsFitting K → IsFitting (with_definition K (language L))

@@ -1,6 +1,7 @@
 -- Steps of a file, as the code takes them.
 use Rattle.std.proofs.Common.{◌≡◌, ◌++◌, List, [], ◌∷◌, Result, Ok, Err, map, refl, ◌∙◌, ap}
 use Rattle.std.proofs.lemmas.List.{map-append}
+use Rattle.std.specs.Prelude.{OnOk}
 use Rattle.rdx_sexp.specs.Sexp.{Sexp}
 use Rattle.rdx_patterns.specs.declared.shape.fault.DefFault.{DefFault}
 use Rattle.rdx_forms.specs.OneForm.{Asks}
@@ -27,5 +28,21 @@ passes_step K qs d (Ok y) a = step_passes (a K) refl refl
 passes_step K qs d (Err e) a = a K
 
 -- a query is added
-pub query_step : (p r : code_known.Known) (us vs : List Query) (q : Query) (d : Sexp) → known_of r ≡ known_of p → vs ≡ us ++ q ∷ [] → Asks (known_of p) d (query_of q) → Step (known_of p) (map query_of us) d (known_of r) (map query_of vs)
-query_step p r us vs q d s e a = step_asks (query_of q) a s (ap (map query_of) e ∙ map-append query_of us (q ∷ []))
+pub query_step : (p r : code_known.Known) (us vs : List Query) (q : Query) (d : Sexp) → known_of r ≡ known_of p → vs ≡ us ++ q ∷ []
+    → Asks (known_of p) d (query_of (known_of p).forms q)
+    → Step (known_of p) (map (query_of (known_of p).forms) us) d (known_of r) (map (query_of (known_of p).forms) vs)
+query_step p r us vs q d s e a =
+    let ask = query_of (known_of p).forms in
+    step_asks (ask q) a s (ap (map ask) e ∙ map-append ask us (q ∷ []))
+
+-- ---- the binding forms of languages stay
+
+-- behind a form that defines something
+pub adds_forms : {A : Type 0} (K J : Known) (d : Sexp) (x : Result A DefFault) → AddsBy K d x J → OnOk x (J.forms ≡ K.forms)
+adds_forms K J d (Ok y) a = ap (λ (I : Known). I.forms) a.known
+adds_forms K J d (Err e) a = tt
+
+-- and behind one that is passed over
+pub passes_forms : {A : Type 0} (K : Known) (x : Result A DefFault) → OnOk x (K.forms ≡ K.forms)
+passes_forms K (Ok y) = refl
+passes_forms K (Err e) = tt

@@ -18,17 +18,19 @@ use Rattle.rdx_grammar.specs.Refused.{shape_at, duplicate_at, bad_name_at, bad_p
 use Rattle.rdx_grammar.specs.Stands.{definitions_stand, form_stands}
 use Rattle.rdx_patterns.specs.Unbuilt.{unbuilt_at}
 use Rattle.rdx_patterns.specs.declared.shape.fault.DefKind.TheVariants.{BadPattern}
+use Rattle.rdx_forms.specs.BindingParts.{binding_refusal, grammar_part}
 use Rattle.rdx_forms.specs.DefineForms.{defined_relation}
 use Rattle.rdx_forms.specs.Definitions.{Defined, language, metafunction, judgement, relation}
 use Rattle.rdx_forms.specs.OneForm.{Defines}
 use Rattle.rdx_forms.specs.FormKinds as kind
-use Rattle.rdx_forms.specs.FormKinds.{FormKind, defines, asks, passes, to_come, form_kind}
+use Rattle.rdx_forms.specs.FormKinds.{FormKind, defines, asks, passes, form_kind}
 use Rattle.rdx_forms.specs.Forms.{definition_by_kind, refusal_by_kind}
 use Rattle.rdx_forms.specs.JudgementForms.{defined_judgement}
 use Rattle.rdx_forms.specs.Known.{Known, or_empty}
-use Rattle.rdx_forms.specs.LanguageForms.{base_name, named_base, unknown_at, taken_at, language_refusal, plain_language, extended_language}
+use Rattle.rdx_forms.specs.LanguageForms.{base_name, named_base, unknown_at, taken_at, language_refusal, plain_refusal, plain_language, extension_refusal, extended_language}
 use Rattle.rdx_forms.specs.MetafunctionForms.{defined_function}
 use Rattle.rdx_forms.proofs.FoundByName.{language-among}
+use Rattle.rdx_query.proofs.Reported.{none-reported}
 
 -- each language speaks of its own nonterminals alone
 abbrev pub KnowAll : List Language → Type 0
@@ -81,12 +83,15 @@ by_kind : (K : Known) (d : Sexp) (k : FormKind) (x : Defined) → KnowAll K.prog
     → definition_by_kind K d k ≡ Some x → Knows x
 by_kind K d (asks k) x a p m = absurd cc
 by_kind K d (passes k) x a p m = absurd cc
-by_kind K d to_come x a p m = absurd cc
 by_kind K d (defines kind.language) x a p m =
-    mapped-has language Knows (plain_language d) x (λ L e. form-knows K empty_language None d (language_form d) L refl p e) m
+    let c = grammar_part d in
+    let q = (none-reported (plain_refusal K c) (binding_refusal d) p).0 in
+    mapped-has language Knows (plain_language c) x (λ L e. form-knows K empty_language None c (language_form c) L refl q e) m
 by_kind K d (defines kind.extension) x a p m =
-    mapped-has language Knows (extended_language K d) x
-    (λ L e. form-knows K (named_base K (base_name d)) (base_name d) d (extension_form d) L (base-knows K (base_name d) a) p e) m
+    let c = grammar_part d in
+    let q = (none-reported (extension_refusal K c) (binding_refusal d) p).0 in
+    mapped-has language Knows (extended_language K c) x
+    (λ L e. form-knows K (named_base K (base_name c)) (base_name c) c (extension_form c) L (base-knows K (base_name c) a) q e) m
 by_kind K d (defines kind.metafunction) x a p m = mapped-has metafunction Knows (defined_function K d) x (λ F e. tt) m
 by_kind K d (defines kind.judgement) x a p m = mapped-has judgement Knows (defined_judgement K d) x (λ J e. tt) m
 by_kind K d (defines kind.relation) x a p m = mapped-has relation Knows (defined_relation K d) x (λ R e. tt) m

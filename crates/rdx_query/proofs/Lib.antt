@@ -17,7 +17,8 @@ pub mod BoundTexts
 pub mod DistinctDefinitions
 pub mod NamedNonterminals
 pub mod ValidDefinitions
-pub mod OptionNumbers
+pub mod Reported
+mod OptionNumbers
 pub mod ValidAsked
 pub mod AcceptedLanguages
 pub mod ValidFiles

@@ -33,13 +33,15 @@ use Rattle.rdx_relations.specs.RelationStands.{relation_stands}
 use Rattle.rdx_templates.specs.Scope.{Scope, mode_of}
 use Rattle.rdx_parts.specs.StandChecks.{shape_at, repeated_name_at, bad_name_at, bad_place_at, depth_fault_at, unknown_names, unknown_name_at, undriven_at, escape_at, mode_fault_at}
 use Rattle.rdx_parts.specs.Stands.{Stand, asked, misfits, arguments_stand, names_bound, premise_arguments, held_stands, bound_by_premise}
+use Rattle.rdx_forms.specs.AlphaForms.{AlikeParts, PutParts, alike_parts, put_parts}
+use Rattle.rdx_forms.specs.BindingParts.{grammar_part}
 use Rattle.rdx_forms.specs.ClosureForms.{closed_relation, closure_names, closure_language_at, unknown_closed_at, closure_shape_at, no_nonterminal_at, context_refusal_by, context_relation_by, compatible_refusal_by, compatible_relation_by}
 use Rattle.rdx_forms.specs.DefineForms.{define_refusal_by, defined_relation, kind_refusal, kind_relation, relation_by}
 use Rattle.rdx_forms.specs.DefineParts.{DefineKind, by_cases, by_contexts, by_crosses, DefineParts, ClosureParts, define_parts, closure_parts, with_symbol}
 use Rattle.rdx_forms.specs.Definitions.{Defined, language, metafunction, judgement, relation}
 use Rattle.rdx_forms.specs.OneForm.{Defines, Asks}
 use Rattle.rdx_forms.specs.FormKinds as kind
-use Rattle.rdx_forms.specs.FormKinds.{FormKind, defines, asks, passes, to_come, form_kind}
+use Rattle.rdx_forms.specs.FormKinds.{FormKind, defines, asks, passes, form_kind}
 use Rattle.rdx_forms.specs.Forms.{refusal_by_kind, definition_by_kind, query_by_kind}
 use Rattle.rdx_forms.specs.GenerateForms.{GenerateParts, generate_parts, check_parts, language_in, names_over, pattern_stands, bound_over, host_stands, generate_shape_at, check_shape_at, check_depth_at, check_undriven_at, generate_refusal, check_refusal, generate_over, check_over}
 use Rattle.rdx_forms.specs.HoldsForms.{HoldsParts, holds_parts, asked_names, asked_unknown_at, lone_parts, asked_premise, holds_refusal, holds_refusal_over, holds_by, holds_over, holds_test_by}
@@ -49,7 +51,8 @@ use Rattle.rdx_forms.specs.Known.{Known, empty_program, extended_by, known_as, w
 use Rattle.rdx_forms.specs.LanguageForms.{named_base, name_taken_at, unknown_at, unknown_by, plain_language, extended_language}
 use Rattle.rdx_forms.specs.MatchForms.{QueryParts, query_parts, query_shape_at, checked_parts, query_host, bad_query_at, query_escape_at, query_refusal, query_over}
 use Rattle.rdx_forms.specs.MetafunctionForms.{function_taken_at, defined_function}
-use Rattle.rdx_answer.specs.Queries.{Query, matches, whether, splits, value, holds, reducts, tagged, stepper, generate, check, test_equal, test_step, test_run, test_match, test_holds, test_results, KnowsRelation, KnowsJudgement, NamesKnown}
+use Rattle.rdx_answer.specs.Bound.{forms_named}
+use Rattle.rdx_answer.specs.Queries.{Query, matches, whether, splits, value, holds, reducts, tagged, stepper, generate, check, alike, substituted, test_equal, test_step, test_run, test_match, test_holds, test_results, KnowsRelation, KnowsJudgement, NamesKnown}
 use Rattle.rdx_forms.specs.RelationForms.{define_shape_at, bad_relation_at, cases_refusal, relation_names, relation_language}
 use Rattle.rdx_forms.specs.StepForms.{StepParts, step_parts, steps_shape_at, checked_steps, steps_host, unknown_relation_at, unknown_relation_by, steps_refusal}
 use Rattle.rdx_forms.specs.TestForms.{EqualParts, LeadingParts, equal_parts, leading_parts, hosts_shape_at, bad_hosts_at, undriven_hosts_at, hosts_escape_at, unknown_tested_at, leading_refusal}
@@ -107,6 +110,8 @@ IsAwaited K (tagged name h) = KnowsRelation K.program name
 IsAwaited K (stepper name h) = KnowsRelation K.program name
 IsAwaited K (generate name p size seed) = IsSome (language_named K.program name)
 IsAwaited K (check name p h attempts seed) = IsSome (language_named K.program name)
+IsAwaited K (alike fs h k) = Unit {0}
+IsAwaited K (substituted fs h k l) = Unit {0}
 IsAwaited K (test_equal h k) = Unit {0}
 IsAwaited K (test_step name h ks) = KnowsRelation K.program name
 IsAwaited K (test_run name h ks) = KnowsRelation K.program name
@@ -126,6 +131,8 @@ awaited-more K x (tagged name h) e = relation-more K.program (known_as K.ends x)
 awaited-more K x (stepper name h) e = relation-more K.program (known_as K.ends x) name e
 awaited-more K x (generate name p size seed) e = language-more K.program (known_as K.ends x) name e
 awaited-more K x (check name p h attempts seed) e = language-more K.program (known_as K.ends x) name e
+awaited-more K x (alike fs h k) e = tt
+awaited-more K x (substituted fs h k l) e = tt
 awaited-more K x (test_equal h k) e = tt
 awaited-more K x (test_step name h ks) e = relation-more K.program (known_as K.ends x) name e
 awaited-more K x (test_run name h ks) e = relation-more K.program (known_as K.ends x) name e
@@ -246,6 +253,8 @@ awaited-known K (tagged name h) l f a = a
 awaited-known K (stepper name h) l f a = a
 awaited-known K (generate name p size seed) l f a = a
 awaited-known K (check name p h attempts seed) l f a = a
+awaited-known K (alike fs h k) l f a = tt
+awaited-known K (substituted fs h k m) l f a = tt
 awaited-known K (test_equal h k) l f a = tt
 awaited-known K (test_step name h ks) l f a = a
 awaited-known K (test_run name h ks) l f a = a
@@ -367,6 +376,25 @@ by_equal : (K : Known) (o : Option EqualParts) (r : Query)
 by_equal K None r m = absurd cc
 by_equal K (Some q) r m = let g : test_equal (host_of_datum K q.found) (host_of_datum K q.wanted) ≡ r = cc in subst (IsAwaited K) g tt
 
+-- a question whether two terms are alpha equivalent
+by_alike : (K : Known) (o : Option AlikeParts) (r : Query)
+    → option_map (λ (q : AlikeParts). alike (forms_named K.forms (text_of q.language)) (host_of_datum K q.one) (host_of_datum K q.other)) o ≡ Some r
+    → IsAwaited K r
+by_alike K None r m = absurd cc
+by_alike K (Some q) r m =
+    let g : alike (forms_named K.forms (text_of q.language)) (host_of_datum K q.one) (host_of_datum K q.other) ≡ r = cc in
+    subst (IsAwaited K) g tt
+
+-- one for a term with another put for a symbol in it
+by_put : (K : Known) (o : Option PutParts) (r : Query)
+    → option_map
+    (λ (q : PutParts). substituted (forms_named K.forms (text_of q.language)) (host_of_datum K q.whole) (host_of_datum K q.symbol) (host_of_datum K q.value))
+    o ≡ Some r → IsAwaited K r
+by_put K None r m = absurd cc
+by_put K (Some q) r m =
+    let g : substituted (forms_named K.forms (text_of q.language)) (host_of_datum K q.whole) (host_of_datum K q.symbol) (host_of_datum K q.value) ≡ r = cc in
+    subst (IsAwaited K) g tt
+
 -- a form that counts tests
 by_results : (K : Known) (r : Query) → (let o : Option Query = Some test_results in o) ≡ Some r → IsAwaited K r
 by_results K r m = let g : test_results ≡ r = cc in subst (IsAwaited K) g tt
@@ -428,6 +456,8 @@ by_question K d (asks kind.tagged) q l e m = by_steps K d (λ r. tagged (text_of
 by_question K d (asks kind.stepper) q l e m = by_steps K d (λ r. stepper (text_of r.relation) (host_of_datum K r.host)) (step_parts d) q l (λ r s. s) e m
 by_question K d (asks kind.generate) q l e m = by_generate K d (generate_parts d) q e m
 by_question K d (asks kind.check) q l e m = by_check K d (check_parts d) q e m
+by_question K d (asks kind.alike) q l e m = by_alike K (alike_parts d) q m
+by_question K d (asks kind.put) q l e m = by_put K (put_parts d) q m
 by_question K d (asks kind.test_equal) q l e m = by_equal K (equal_parts d) q m
 by_question K d (asks kind.test_step) q l e m =
     by_leading K d (λ r. test_step (text_of r.relation) (host_of_datum K r.from) (map (host_of_datum K) r.wanted)) (leading_parts d) q l (λ r s. s) e m
@@ -438,7 +468,6 @@ by_question K d (asks kind.test_no_match) q l e m = by_query K d (λ name p h. t
 by_question K d (asks kind.test_holds) q l e m = by_holds-test K d (lone_parts d) q e m
 by_question K d (asks kind.test_results) q l e m = by_results K q m
 by_question K d (passes k) q l e m = absurd cc
-by_question K d to_come q l e m = absurd cc
 
 pub asks-awaited : (K : Known) (d : Sexp) (q : Query) → LanguagesKnown K.program → Asks K d q → IsAwaited K q
 asks-awaited K d q l a = by_question K d (form_kind d) q l a.passes a.means
@@ -525,9 +554,8 @@ by_judgement K d (Some f) J e m =
 by_definition : (K : Known) (d : Sexp) (k : FormKind) (x : Defined) → refusal_by_kind K d k ≡ None → definition_by_kind K d k ≡ Some x → IsGrounded K.program x
 by_definition K d (asks k) x e m = absurd cc
 by_definition K d (passes k) x e m = absurd cc
-by_definition K d to_come x e m = absurd cc
-by_definition K d (defines kind.language) x e m = mapped-some language (plain_language d) x m (IsGrounded K.program) (λ L f. tt)
-by_definition K d (defines kind.extension) x e m = mapped-some language (extended_language K d) x m (IsGrounded K.program) (λ L f. tt)
+by_definition K d (defines kind.language) x e m = mapped-some language (plain_language (grammar_part d)) x m (IsGrounded K.program) (λ L f. tt)
+by_definition K d (defines kind.extension) x e m = mapped-some language (extended_language K (grammar_part d)) x m (IsGrounded K.program) (λ L f. tt)
 by_definition K d (defines kind.metafunction) x e m = mapped-some metafunction (defined_function K d) x m (IsGrounded K.program) (λ F f. tt)
 by_definition K d (defines kind.judgement) x e m =
     mapped-some judgement (defined_judgement K d) x m (IsGrounded K.program) (λ J f. by_judgement K d (judgement_form d) J e f)

@@ -7,10 +7,11 @@ use Rattle.rdx_lang.specs.Patterns.{Language}
 use Rattle.rdx_lang.specs.declared.pattern.Ref.{Ref}
 use Rattle.rdx_patterns.specs.Refusal.{Refusal}
 use Rattle.rdx_grammar.specs.Refused.{recursion_at}
+use Rattle.rdx_forms.specs.BindingParts.{grammar_part}
 use Rattle.rdx_forms.specs.Definitions.{Defined, language, IsSound}
 use Rattle.rdx_forms.specs.OneForm.{Defines, Asks, IsPassedOver, IsRefusedForm, by_check, by_recursion, by_late_check}
 use Rattle.rdx_query.specs.File.{Accepts, accepts_none, accepts_definition, accepts_query, accepts_passed, Refuses, refuses_here, refuses_behind_definition, refuses_behind_query, refuses_behind_passed}
-use Rattle.rdx_forms.specs.FormKinds.{FormKind, defines, asks, passes, to_come, form_kind}
+use Rattle.rdx_forms.specs.FormKinds.{FormKind, defines, asks, passes, form_kind}
 use Rattle.rdx_forms.specs.Forms.{form_refusal, late_refusal, form_definition, form_query, definition_by_kind, query_by_kind, is_passed_kind}
 use Rattle.rdx_forms.specs.Known.{Known, with_definition}
 use Rattle.rdx_answer.specs.Queries.{Query}
@@ -23,7 +24,6 @@ by_kind : (K : Known) (d : Sexp) (k : FormKind) (x : Defined) (q : Query) → de
 by_kind K d (defines k) x q e f = absurd cc
 by_kind K d (asks k) x q e f = absurd cc
 by_kind K d (passes k) x q e f = absurd cc
-by_kind K d to_come x q e f = absurd cc
 
 -- no form does both
 not_both : (K : Known) (d : Sexp) (x : Defined) (q : Query) → form_definition K d ≡ Some x → form_query K d ≡ Some q → ⊥
@@ -34,7 +34,6 @@ passed_defines : (K : Known) (d : Sexp) (k : FormKind) (x : Defined) → IsTrue 
 passed_defines K d (defines k) x t e = absurd cc
 passed_defines K d (asks k) x t e = absurd cc
 passed_defines K d (passes k) x t e = absurd cc
-passed_defines K d to_come x t e = absurd cc
 
 not_passed_defined : (K : Known) (d : Sexp) (x : Defined) → IsPassedOver K d → form_definition K d ≡ Some x → ⊥
 not_passed_defined K d x a e = passed_defines K d (form_kind d) x a.means e
@@ -44,7 +43,6 @@ passed_asks : (K : Known) (d : Sexp) (k : FormKind) (q : Query) → IsTrue (is_p
 passed_asks K d (defines k) q t e = absurd cc
 passed_asks K d (asks k) q t e = absurd cc
 passed_asks K d (passes k) q t e = absurd cc
-passed_asks K d to_come q t e = absurd cc
 
 not_passed_asked : (K : Known) (d : Sexp) (q : Query) → IsPassedOver K d → form_query K d ≡ Some q → ⊥
 not_passed_asked K d q a e = passed_asks K d (form_kind d) q a.means e
@@ -83,7 +81,7 @@ one_form_refusal K d r q (by_check e) (by_late_check y f m s g) = absurd (not_so
 one_form_refusal K d r q (by_recursion L x e l a g) (by_check f) = absurd (not_some (form_refusal K d) q e f)
 one_form_refusal K d r q (by_recursion L x e l a g) (by_recursion M y f m b h) =
     let k : L ≡ M = same_language L M (same_some (form_definition K d) (language L) (language M) l m) in
-    g ∙ ap (recursion_at d) (first_recursive-same M x y (subst (λ (N : Language). IsFirstRecursive N x) k a) b) ∙ sym h
+    g ∙ ap (recursion_at (grammar_part d)) (first_recursive-same M x y (subst (λ (N : Language). IsFirstRecursive N x) k a) b) ∙ sym h
 one_form_refusal K d r q (by_recursion L x e l a g) (by_late_check y f m s h) = absurd (sound_not_recursive K d y L x m s l a)
 one_form_refusal K d r q (by_late_check x e l s g) (by_check f) = absurd (not_some (form_refusal K d) q e f)
 one_form_refusal K d r q (by_late_check x e l s g) (by_recursion M y f m b h) = absurd (sound_not_recursive K d x M y l s m b)
@@ -185,9 +183,16 @@ accepts-languages K (d ∷ ds) J qs (accepts_definition {x} a more) = accepts-la
 accepts-languages K (d ∷ ds) J qs (accepts_query {qs = more_qs} a more) = accepts-languages K ds J more_qs more
 accepts-languages K (d ∷ ds) J qs (accepts_passed a more) = accepts-languages K ds J qs more
 
--- and the nonterminals to which cross nonterminals are asked for
+-- the nonterminals to which cross nonterminals are asked for
 pub accepts-ends : (K : Known) (ds : List Sexp) (J : Known) (qs : List Query) → Accepts K ds J qs → J.ends ≡ K.ends
 accepts-ends K [] J qs accepts_none = refl
 accepts-ends K (d ∷ ds) J qs (accepts_definition {x} a more) = accepts-ends (with_definition K x) ds J qs more
 accepts-ends K (d ∷ ds) J qs (accepts_query {qs = more_qs} a more) = accepts-ends K ds J more_qs more
 accepts-ends K (d ∷ ds) J qs (accepts_passed a more) = accepts-ends K ds J qs more
+
+-- and the binding forms of languages
+pub accepts-forms : (K : Known) (ds : List Sexp) (J : Known) (qs : List Query) → Accepts K ds J qs → J.forms ≡ K.forms
+accepts-forms K [] J qs accepts_none = refl
+accepts-forms K (d ∷ ds) J qs (accepts_definition {x} a more) = accepts-forms (with_definition K x) ds J qs more
+accepts-forms K (d ∷ ds) J qs (accepts_query {qs = more_qs} a more) = accepts-forms K ds J more_qs more
+accepts-forms K (d ∷ ds) J qs (accepts_passed a more) = accepts-forms K ds J qs more

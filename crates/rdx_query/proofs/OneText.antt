@@ -1,6 +1,6 @@
 -- Queries have one text of answers at most, and all that they state is met or not.
 use Rattle.std.proofs.Common.{◌≡◌, ◌++◌, ◌+◌, ◌%◌, ℕ, suc, Bool, true, false, IsFalse, List, [], ◌∷◌, Option, Some, None, refl, ap, sym, ◌∙◌, subst}
-use Rattle.std.specs.Prelude.{◌&&◌}
+use Rattle.std.specs.Prelude.{◌&&◌, ◌↔◌, IsTrue}
 use Rattle.rand_pcg.specs.Lcg.{Lcg}
 use Rattle.rdx_lang.specs.Bindings.{Binding, no_names}
 use Rattle.rdx_lang.specs.Decompositions.{Decomposition}
@@ -31,6 +31,9 @@ use Rattle.rdx_eval.proofs.OneAnswer.{once-then, once-gather, once-single, once-
 use Rattle.rdx_reduce.specs.Laws.{OneStepping}
 use Rattle.rdx_reduce.specs.Relations.{StepsOver, AreSteps}
 use Rattle.rdx_reduce.specs.Steps.{Step}
+use Rattle.rdx_alpha.specs.Answers.{first_wrong_of}
+use Rattle.rdx_alpha.specs.Forms.{Form}
+use Rattle.rdx_answer.specs.AlphaAnswers.{alpha_line, not_binding_line, IsAlikeAnswer, tells_alike, no_instance, IsSubstitutedAnswer}
 use Rattle.rdx_answer.specs.AnswerText.{matches_text, whether_text, splits_text, reducts_text, fault_line}
 use Rattle.rdx_eval.specs.Judgements.{are_some}
 use Rattle.rdx_run.specs.Laws.{OneRun, OneWalk}
@@ -44,7 +47,7 @@ use Rattle.rdx_forms.specs.Before.{known_before}
 use Rattle.rdx_answer.specs.GenerateAnswers.{generated_text, is_term, IsGenerateAnswer, IsThisOr, FirstFalseOf, Verdict, failed, hindered, Attempts, all_pass, none_made, one_fails, one_faults, one_passes, check_text, is_passed, IsCheckAnswer}
 use Rattle.rdx_answer.specs.HoldsAnswers.{FindsMet, WritesWhether, whether_found, question_faulted, IsHoldsAnswer, ValuesOf, values_of, bindings_faulted, WritesValues, values_found, values_faulted, IsValuesAnswer, IsPremiseAnswer}
 use Rattle.rdx_answer.specs.MatchAnswers.{Finds, FindsSplits, IsMatchesAnswer, IsWhetherAnswer, IsSplitsAnswer}
-use Rattle.rdx_answer.specs.Queries.{Query, matches, whether, splits, value, holds, reducts, tagged, stepper, generate, check, test_equal, test_step, test_run, test_match, test_holds, test_results}
+use Rattle.rdx_answer.specs.Queries.{Query, matches, whether, splits, value, holds, reducts, tagged, stepper, generate, check, alike, substituted, test_equal, test_step, test_run, test_match, test_holds, test_results}
 use Rattle.rdx_answer.specs.StepAnswers.{reducts_in, WritesReducts, reducts_found, reducts_faulted, WritesSteps, steps_found, steps_faulted, IsReductsAnswer, IsTaggedAnswer}
 use Rattle.rdx_answer.specs.StepperAnswers.{walk_text, is_done, IsStepperAnswer}
 use Rattle.rdx_answer.specs.TestAnswers.{ComparesSteps, steps_compared, steps_faulted as no_steps_compared, ComparesEnd, rest_compared, run_fails, run_branches, run_is_bound, IsStepTestAnswer, IsRunTestAnswer, IsMatchTestAnswer, WritesVerdict, verdict_found, question_faulted as no_verdict, IsHoldsTestAnswer, IsResultsAnswer}
@@ -126,6 +129,37 @@ once-verdict (fault p) t u m n (no_verdict e f) (no_verdict g h) = record { text
 
 once-results : (c : Counts) → OnceWritten (IsResultsAnswer c)
 once-results c t u m n a b = record { text = a.printed ∙ sym b.printed; met = a.is_met ∙ sym b.is_met }
+
+-- ---- what is written under binding forms
+
+-- what tells the same is the same
+same-answer : {X : Type 0} (b c : Bool) → IsTrue b ↔ X → IsTrue c ↔ X → b ≡ c
+same-answer true true f g = refl
+same-answer true false f g = let h : IsTrue false = g.1 (f.0 refl) in absurd cc
+same-answer false true f g = let h : IsTrue false = f.1 (g.0 refl) in absurd cc
+same-answer false false f g = refl
+
+-- a list that is no instance is one, and where there is one nothing is compared
+same-wrong : (o : Option Tree) (w v : Tree) → o ≡ Some w → o ≡ Some v → w ≡ v
+same-wrong o w v e f = cc
+
+none-wrong : {A : Type 0} (o : Option Tree) (w : Tree) → o ≡ None → o ≡ Some w → A
+none-wrong o w e f = absurd cc
+
+once-alike : (fs : List Form) (t u : Tree) → OnceWritten (IsAlikeAnswer fs t u)
+once-alike fs t u text other m n (tells_alike b a e f) (tells_alike c d g h) = record {
+  text = e ∙ ap alpha_line (same-answer b c a.value d.value) ∙ sym g;
+  met = f ∙ sym h;
+}
+once-alike fs t u text other m n (tells_alike b a e f) (no_instance w d g h) = none-wrong (first_wrong_of fs t u) w a.bound d
+once-alike fs t u text other m n (no_instance w d e f) (tells_alike b a g h) = none-wrong (first_wrong_of fs t u) w a.bound d
+once-alike fs t u text other m n (no_instance w a e f) (no_instance v d g h) = record {
+  text = e ∙ ap not_binding_line (same-wrong (first_wrong_of fs t u) w v a d) ∙ sym g;
+  met = f ∙ sym h;
+}
+
+once-substituted : (fs : List Form) (t x v : Tree) → OnceWritten (IsSubstitutedAnswer fs t x v)
+once-substituted fs t x v text other m n a b = record { text = a.printed ∙ sym b.printed; met = a.is_met ∙ sym b.is_met }
 
 module _ (one_listing : OneListing) (one_splits : OneSplitsListing) (one_term : OneTerm) (one_meeting : OneMeeting) (one_stepping : OneStepping)
     (one_walk : OneWalk) (one_run : OneRun) (one_generated : generation.OneAnswer) where
@@ -424,6 +458,11 @@ module _ (one_listing : OneListing) (one_splits : OneSplitsListing) (one_term : 
   one_answer P cs c (stepper name h) = over-once P h (IsStepperAnswer P name cs) (once-by-walk P name cs)
   one_answer P cs c (generate name p size seed) = once-generate P name p size seed
   one_answer P cs c (check name p h attempts seed) = once-check P name p h attempts seed
+  one_answer P cs c (alike fs h k) =
+      over-once P h (λ t. Over P k (IsAlikeAnswer fs t)) (λ t. over-once P k (IsAlikeAnswer fs t) (once-alike fs t))
+  one_answer P cs c (substituted fs h k l) =
+      over-once P h (λ t. Over P k (λ x. Over P l (IsSubstitutedAnswer fs t x)))
+      (λ t. over-once P k (λ x. Over P l (IsSubstitutedAnswer fs t x)) (λ x. over-once P l (IsSubstitutedAnswer fs t x) (once-substituted fs t x)))
   one_answer P cs c (test_equal h k) =
       over-once P h (λ t. Over P k (λ u. Compares (t ∷ []) (u ∷ [])))
       (λ t. over-once P k (λ u. Compares (t ∷ []) (u ∷ [])) (λ u. once-compares (t ∷ []) (u ∷ [])))

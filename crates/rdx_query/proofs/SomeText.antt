@@ -32,6 +32,12 @@ use Rattle.rdx_eval.proofs.SomeAnswer.{some-then, some-gather, some-single, some
 use Rattle.rdx_reduce.specs.Laws.{SomeStepping}
 use Rattle.rdx_reduce.specs.Relations.{StepsOver, AreSteps}
 use Rattle.rdx_reduce.specs.Steps.{Step}
+use Rattle.rdx_alpha.proofs.Sameness.{same-decides}
+use Rattle.rdx_alpha.specs.Answers.{first_wrong_of}
+use Rattle.rdx_alpha.specs.Forms.{Form}
+use Rattle.rdx_alpha.specs.Inside.Same.{same}
+use Rattle.rdx_alpha.specs.Nameless.{nameless}
+use Rattle.rdx_answer.specs.AlphaAnswers.{alpha_line, not_binding_line, IsAlikeAnswer, tells_alike, no_instance, outcome, outcome_line, is_made, IsSubstitutedAnswer}
 use Rattle.rdx_answer.specs.AnswerText.{answers_text, holds_text, value_line, matches_text, whether_text, splits_text, reducts_text, steps_text, fault_line, branches_line, bound_line}
 use Rattle.rdx_run.specs.Laws.{SomeRun, SomeWalk}
 use Rattle.rdx_run.specs.Runs as run
@@ -42,7 +48,7 @@ use Rattle.rdx_answer.specs.GenerateAnswers.{generated_text, is_term, IsGenerate
 use Rattle.rdx_answer.specs.HoldsAnswers.{FindsMet, WritesWhether, whether_found, question_faulted, ValuesOf, values_of, bindings_faulted, WritesValues, values_found, values_faulted, IsPremiseAnswer}
 use Rattle.rdx_query.specs.Laws.{AreAccepted, AreRefused, DoWrite}
 use Rattle.rdx_answer.specs.MatchAnswers.{Finds, FindsSplits, IsMatchesAnswer, IsWhetherAnswer, IsSplitsAnswer}
-use Rattle.rdx_answer.specs.Queries.{Query, matches, whether, splits, value, holds, reducts, tagged, stepper, generate, check, test_equal, test_step, test_run, test_match, test_holds, test_results, NamesKnown, KnowsJudgement, KnowsRelation}
+use Rattle.rdx_answer.specs.Queries.{Query, matches, whether, splits, value, holds, reducts, tagged, stepper, generate, check, alike, substituted, test_equal, test_step, test_run, test_match, test_holds, test_results, NamesKnown, KnowsJudgement, KnowsRelation}
 use Rattle.rdx_answer.specs.StepAnswers.{reducts_in, named_steps, AreReducts, WritesReducts, reducts_found, reducts_faulted, WritesSteps, steps_found, steps_faulted, IsReductsAnswer, IsTaggedAnswer}
 use Rattle.rdx_answer.specs.StepperAnswers.{walk_text, is_done, IsStepperAnswer}
 use Rattle.rdx_answer.specs.TestAnswers.{ComparesSteps, steps_compared, steps_faulted as no_steps_compared, ComparesEnd, rest_compared, run_fails, run_branches, run_is_bound, IsStepTestAnswer, IsRunTestAnswer, IsMatchTestAnswer, WritesVerdict, verdict_found, question_faulted as no_verdict, IsHoldsTestAnswer}
@@ -118,6 +124,28 @@ write-compared_end wanted run.is_bound = record { text = bound_line; met = false
 write-verdict : (a : Answer (List Binding)) → DoesWrite (WritesVerdict a)
 write-verdict (evaluation.value bs) = record { text = verdict_line (judging.are_some bs); met = judging.are_some bs; written = verdict_found refl refl }
 write-verdict (fault f) = record { text = fault_line f; met = false; written = no_verdict refl refl }
+
+-- ---- what is written under binding forms
+
+-- two terms are compared, or a list in them is no instance
+write-alike : (fs : List Form) (t u : Tree) → DoesWrite (IsAlikeAnswer fs t u)
+write-alike fs t u = by_wrong (first_wrong_of fs t u) refl
+  where
+    is_same : Bool
+    is_same = same (nameless fs t) (nameless fs u)
+
+    by_wrong : (o : Option Tree) → first_wrong_of fs t u ≡ o → DoesWrite (IsAlikeAnswer fs t u)
+    by_wrong None e = record {
+      text = alpha_line is_same;
+      met = true;
+      written = tells_alike is_same (record { bound = e; value = same-decides (nameless fs t) (nameless fs u) is_same refl }) refl refl;
+    }
+    by_wrong (Some w) e = record { text = not_binding_line w; met = false; written = no_instance w e refl refl }
+
+write-substituted : (fs : List Form) (t x v : Tree) → DoesWrite (IsSubstitutedAnswer fs t x v)
+write-substituted fs t x v =
+    let o = outcome fs t x v in
+    record { text = outcome_line o; met = is_made o; written = record { printed = refl; is_met = refl } }
 
 -- ---- where each language is free of left recursion or has a first recursive nonterminal, patterns have their listings where it is free, and
 -- rules the listings of their steps; and templates make something
@@ -352,6 +380,11 @@ module _ (decided : FreeOrRecursive) (some : SomeListing) (some_splits : SomeSpl
   has_answer P cs c (stepper name h) f n = write-over P h (IsStepperAnswer P name cs) f (write-by-walk P name cs f n)
   has_answer P cs c (generate name p size seed) f n = write-generate P name p size seed (language_named P name) refl n
   has_answer P cs c (check name p h attempts seed) f n = write-check P name p h attempts seed f (language_named P name) refl n
+  has_answer P cs c (alike fs h k) f n =
+      write-over P h (λ t. Over P k (IsAlikeAnswer fs t)) f (λ t. write-over P k (IsAlikeAnswer fs t) f (write-alike fs t))
+  has_answer P cs c (substituted fs h k l) f n =
+      write-over P h (λ t. Over P k (λ x. Over P l (IsSubstitutedAnswer fs t x))) f
+      (λ t. write-over P k (λ x. Over P l (IsSubstitutedAnswer fs t x)) f (λ x. write-over P l (IsSubstitutedAnswer fs t x) f (write-substituted fs t x)))
   has_answer P cs c (test_equal h k) f n =
       write-over P h (λ t. Over P k (λ u. Compares (t ∷ []) (u ∷ []))) f
       (λ t. write-over P k (λ u. Compares (t ∷ []) (u ∷ [])) f (λ u. write-compared (t ∷ []) (u ∷ [])))

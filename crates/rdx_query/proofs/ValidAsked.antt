@@ -45,9 +45,10 @@ use Rattle.rdx_parts.specs.StandRefusal.{stands_refusal}
 use Rattle.rdx_parts.specs.Stands.{names_bound, bound_by_premise, bound_in}
 use Rattle.rdx_defs.proofs.PassedForms.{question-valid}
 use Rattle.rdx_relations.proofs.PassedStands.{host-uses}
+use Rattle.rdx_forms.specs.AlphaForms.{AlikeParts, PutParts, alike_parts, put_parts, bound_refusal_over, alike_refusal, put_refusal}
 use Rattle.rdx_forms.specs.OneForm.{Asks}
 use Rattle.rdx_forms.specs.FormKinds as kind
-use Rattle.rdx_forms.specs.FormKinds.{FormKind, defines, asks, passes, to_come, form_kind}
+use Rattle.rdx_forms.specs.FormKinds.{FormKind, defines, asks, passes, form_kind}
 use Rattle.rdx_forms.specs.Forms.{refusal_by_kind, query_by_kind}
 use Rattle.rdx_forms.specs.GenerateForms.{GenerateParts, generate_parts, check_parts, names_over, pattern_stands, bound_over, host_stands, size_faults, numbers_at, generate_options, check_options, generate_shape_at, check_shape_at, check_depth_at, check_undriven_at, generate_refusal, check_refusal, usual_attempts, usual_seed, generate_over, check_over}
 use Rattle.rdx_forms.specs.HoldsForms.{HoldsParts, holds_among, holds_parts, lone_among, lone_parts, asked_language, language_or_empty, asked_names, unfound, unfound_for, asked_unknown_at, holds_refusal, asked_premise, holds_over, holds_by, holds_test_by}
@@ -56,7 +57,8 @@ use Rattle.rdx_forms.specs.Fitting.{AreCrossed}
 use Rattle.rdx_forms.specs.Known.{Known, judgement_language}
 use Rattle.rdx_forms.specs.LanguageForms.{named_base, unknown_at}
 use Rattle.rdx_forms.specs.MatchForms.{QueryParts, query_parts, checked_parts, query_shape_at, bad_query_at, query_refusal, query_over}
-use Rattle.rdx_answer.specs.Queries.{Query, matches, whether, splits, value, reducts, tagged, stepper, test_equal, test_step, test_run, test_match, test_holds, test_results}
+use Rattle.rdx_answer.specs.Bound.{forms_named}
+use Rattle.rdx_answer.specs.Queries.{Query, matches, whether, splits, value, reducts, tagged, stepper, alike, substituted, test_equal, test_step, test_run, test_match, test_holds, test_results}
 use Rattle.rdx_forms.specs.Options.{attempts_option, seed_option, number, number_or, option_faults, option_number}
 use Rattle.rdx_forms.specs.StepForms.{StepParts, step_parts, checked_steps, steps_shape_at, unknown_relation_at, unknown_relation_by, steps_refusal}
 use Rattle.rdx_forms.specs.TestForms.{EqualParts, equal_parts, LeadingParts, leading_parts, hosts_shape_at, bad_hosts_at, undriven_hosts_at, unknown_tested_at, test_refusal_over, equal_refusal, leading_refusal}
@@ -523,13 +525,56 @@ module _ (K : Known) (crossed : AreCrossed K.program.languages K.ends) (paired :
       (same (text_of p.relation) h ks
       ∙ and_both (A.relations (text_of p.relation)) (is_valid_host C h && list_all (is_valid_host C) ks) (relation-there K p.relation t.known) t.hosts)
 
+  -- ---- under binding forms
+
+  -- no check refuses these host expressions
+  hosts-pass : (l : Sexp) (hs : List Sexp) → bound_refusal_over K d l hs ≡ None → list_all (is_valid_host C) (map (host_of_datum K) hs) ≡ true
+  hosts-pass l hs e =
+      let a = none_or (unbuilt_at d) _ e in
+      let b = none_or (hosts_shape_at hs) _ a.1 in
+      let c = none_or (unknown_at K (Some l)) _ b.1 in
+      let f = none_or (bad_hosts_at K hs) _ c.1 in
+      let g = none_or (undriven_hosts_at K hs) _ f.1 in
+      hosts-valid K hs f.0 g.0
+
+  -- whether two terms are alpha equivalent
+  alike-valid : (o : Option AlikeParts) (q : Query) → alike_refusal K d o ≡ None
+      → option_map (λ (p : AlikeParts). alike (forms_named K.forms (text_of p.language)) (host_of_datum K p.one) (host_of_datum K p.other)) o ≡ Some q
+      → is_valid_query A q ≡ true
+  alike-valid None q r m = absurd cc
+  alike-valid (Some p) q r m =
+      let h = host_of_datum K p.one in
+      let k = host_of_datum K p.other in
+      let f : alike (forms_named K.forms (text_of p.language)) h k ≡ q = cc in
+      let a = and_true (is_valid_host C h) (is_valid_host C k && true) (hosts-pass p.language (p.one ∷ p.other ∷ []) r) in
+      subst (λ (x : Query). is_valid_query A x ≡ true) f
+      (and_both (is_valid_host C h) (is_valid_host C k) a.0 (and_true (is_valid_host C k) true a.1).0)
+
+  -- a term with another put for a symbol in it
+  put-valid : (o : Option PutParts) (q : Query) → put_refusal K d o ≡ None
+      → option_map
+      (λ (p : PutParts). substituted (forms_named K.forms (text_of p.language)) (host_of_datum K p.whole) (host_of_datum K p.symbol) (host_of_datum K p.value))
+      o ≡ Some q
+      → is_valid_query A q ≡ true
+  put-valid None q r m = absurd cc
+  put-valid (Some p) q r m =
+      let h = host_of_datum K p.whole in
+      let k = host_of_datum K p.symbol in
+      let l = host_of_datum K p.value in
+      let f : substituted (forms_named K.forms (text_of p.language)) h k l ≡ q = cc in
+      let hs = hosts-pass p.language (p.whole ∷ p.symbol ∷ p.value ∷ []) r in
+      let a = and_true (is_valid_host C h) (is_valid_host C k && (is_valid_host C l && true)) hs in
+      let b = and_true (is_valid_host C k) (is_valid_host C l && true) a.1 in
+      let c = and_true (is_valid_host C l) true b.1 in
+      subst (λ (x : Query). is_valid_query A x ≡ true) f
+      (and_both (is_valid_host C h) (is_valid_host C k && is_valid_host C l) a.0 (and_both (is_valid_host C k) (is_valid_host C l) b.0 c.0))
+
   -- ---- all forms
 
   -- by what the form does
   by_kind : (k : FormKind) (q : Query) → refusal_by_kind K d k ≡ None → query_by_kind K d k ≡ Some q → is_valid_query A q ≡ true
   by_kind (defines k) q r m = absurd cc
   by_kind (passes k) q r m = absurd cc
-  by_kind to_come q r m = absurd cc
   by_kind (asks kind.matches) q r m = match-valid matches (λ x p h. refl) (query_parts d) q refl r m
   by_kind (asks kind.whether) q r m = match-valid whether (λ x p h. refl) (query_parts d) q refl r m
   by_kind (asks kind.splits) q r m = match-valid splits (λ x p h. refl) (query_parts d) q refl r m
@@ -549,6 +594,8 @@ module _ (K : Known) (crossed : AreCrossed K.program.languages K.ends) (paired :
   by_kind (asks kind.stepper) q r m = steps-valid stepper (λ x h. refl) (step_parts d) q r m
   by_kind (asks kind.generate) q r m = generate-valid (generate_parts d) q refl r m
   by_kind (asks kind.check) q r m = check-valid (check_parts d) q refl r m
+  by_kind (asks kind.alike) q r m = alike-valid (alike_parts d) q r m
+  by_kind (asks kind.put) q r m = put-valid (put_parts d) q r m
   by_kind (asks kind.test_equal) q r m = equal-valid (equal_parts d) q r m
   by_kind (asks kind.test_step) q r m = leading-valid test_step (λ x h ks. refl) (leading_parts d) q r m
   by_kind (asks kind.test_run) q r m = leading-valid test_run (λ x h ks. refl) (leading_parts d) q r m

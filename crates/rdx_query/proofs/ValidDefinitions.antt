@@ -65,6 +65,7 @@ use Rattle.rdx_parts.specs.StandChecks.{bad_names}
 use Rattle.rdx_reduce.proofs.ClosedValid.{closure_is_valid}
 use Rattle.rdx_reduce.proofs.FreeContexts.{few_leave_names, closures_bind_one_more}
 use Rattle.rdx_reduce.specs.ValidClosures.{BindsFew, BindFew}
+use Rattle.rdx_forms.specs.BindingParts.{binding_refusal, grammar_part}
 use Rattle.rdx_forms.specs.ClosureForms.{closed_relation, closure_names, closure_language_at, unknown_closed_at, closure_shape_at, no_nonterminal_at, context_refusal_by, context_relation_by, compatible_refusal_by, compatible_relation_by}
 use Rattle.rdx_forms.specs.DefineForms.{define_refusal_by, defined_relation, kind_refusal, kind_relation, relation_by}
 use Rattle.rdx_forms.specs.DefineParts.{DefineKind, by_cases, by_contexts, by_crosses, DefineParts, ClosureParts, define_parts, closure_parts, with_symbol}
@@ -72,12 +73,12 @@ use Rattle.rdx_forms.specs.Definitions.{Defined, language, metafunction, judgeme
 use Rattle.rdx_forms.specs.Ends.{closure_ends, kind_ends, define_ends, form_ends}
 use Rattle.rdx_forms.specs.OneForm.{Defines}
 use Rattle.rdx_forms.specs.FormKinds as kind
-use Rattle.rdx_forms.specs.FormKinds.{FormKind, defines, asks, passes, to_come, form_kind}
+use Rattle.rdx_forms.specs.FormKinds.{FormKind, defines, asks, passes, form_kind}
 use Rattle.rdx_forms.specs.Forms.{refusal_by_kind, definition_by_kind}
 use Rattle.rdx_forms.specs.Fitting.{AreCrossed}
 use Rattle.rdx_forms.specs.JudgementForms.{defined_judgement}
 use Rattle.rdx_forms.specs.Known.{Known, is_taken, or_empty}
-use Rattle.rdx_forms.specs.LanguageForms.{base_name, named_base, unknown_at, name_taken_at, plain_language, extended_language}
+use Rattle.rdx_forms.specs.LanguageForms.{base_name, named_base, unknown_at, name_taken_at, plain_refusal, plain_language, extension_refusal, extended_language}
 use Rattle.rdx_forms.specs.MetafunctionForms.{function_names, function_taken_at, defined_function}
 use Rattle.rdx_forms.specs.RelationForms.{bad_relation_at, relation_language}
 use Rattle.rdx_query.proofs.AcceptedForms.{image-of, IsLanguageOf, language-parts, IsFunctionOf, function-parts, IsJudgementOf, judgement-parts, cases-parts}
@@ -88,7 +89,9 @@ use Rattle.rdx_query.proofs.DistinctDefinitions.{over-name, defined_name, free-n
 use Rattle.rdx_forms.proofs.FormParts.{unbuilt_at-built, parts-built, define-items, closure-items}
 use Rattle.rdx_forms.proofs.FoundByName.{language-found, language-among, relation-among}
 use Rattle.rdx_forms.proofs.GainingNothing.{crossed-same, data-asked, define-asked, body-asks}
+use Rattle.rdx_forms.proofs.GrammarParts.{part-readable}
 use Rattle.rdx_query.proofs.NamedNonterminals.{HasNames, HaveNames, over-names, base-names}
+use Rattle.rdx_query.proofs.Reported.{none-reported}
 use Rattle.rdx_query.proofs.SmallData.{SymbolsHave, AllSymbolsHave, IsSmall, SmallIn, small-parts, small-readable, limit, relation-small}
 
 -- ---- what is known
@@ -273,6 +276,10 @@ module _ (n : ℕ) (K : Known) (V : AreValidSoFar n K) (d : Sexp) (depth : sexp_
   readable : IsReadable d
   readable = small-readable (IsOwn d) 500 d (omega arith) small
 
+  -- and so can its part without binding forms
+  part : IsReadable (grammar_part d)
+  part = part-readable d readable
+
   -- ---- metafunctions
 
   -- one that is accepted
@@ -334,12 +341,12 @@ module _ (n : ℕ) (K : Known) (V : AreValidSoFar n K) (d : Sexp) (depth : sexp_
 
   -- ---- languages
 
-  -- one that is accepted
-  language-made : (base : Language) (o : Option GrammarForm) (L : Language) → HasNames base → AreSpelledIn o → IsLanguageOf K base d o L
+  -- one that is accepted, where its form has this part without binding forms
+  language-made : (c : Sexp) (base : Language) (o : Option GrammarForm) (L : Language) → HasNames base → AreSpelledIn o → IsLanguageOf K base c o L
       → IsValidDefinition more K (language L)
-  language-made base o L b s p =
+  language-made c base o L b s p =
       let g = p.parts in
-      let w = AreNamedIn-passed d (Some g) (subst AreSpelledIn p.is_form s) p.names in
+      let w = AreNamedIn-passed c (Some g) (subst AreSpelledIn p.is_form s) p.names in
       record {
         free = ap (is_taken K) (ap (λ (M : Language). M.name) (sym p.means) ∙ over-name base g) ∙ free-name K g.name p.free;
         valid = subst HasNames p.means (over-names base g b w.nonterminals);
@@ -514,17 +521,20 @@ module _ (n : ℕ) (K : Known) (V : AreValidSoFar n K) (d : Sexp) (depth : sexp_
   by_kind : (k : FormKind) (x : Defined) → n < 10 ^ 64 → refusal_by_kind K d k ≡ None → definition_by_kind K d k ≡ Some x → IsValidDefinition more K x
   by_kind (asks k) x room r m = absurd cc
   by_kind (passes k) x room r m = absurd cc
-  by_kind to_come x room r m = absurd cc
   by_kind (defines kind.language) x room r m =
-      mapped-some language (plain_language d) x m (IsValidDefinition more K)
+      let c = grammar_part d in
+      let q = (none-reported (plain_refusal K c) (binding_refusal d) r).0 in
+      mapped-some language (plain_language c) x m (IsValidDefinition more K)
       (λ L e.
-      language-made empty_language (language_form d) L (λ y h. absurd cc) (AreSpelledIn-language d spelled)
-      (language-parts K empty_language None d (language_form d) L r e))
+      language-made c empty_language (language_form c) L (λ y h. absurd cc) (AreSpelledIn-language c part.spelled)
+      (language-parts K empty_language None c (language_form c) L q e))
   by_kind (defines kind.extension) x room r m =
-      mapped-some language (extended_language K d) x m (IsValidDefinition more K)
+      let c = grammar_part d in
+      let q = (none-reported (extension_refusal K c) (binding_refusal d) r).0 in
+      mapped-some language (extended_language K c) x m (IsValidDefinition more K)
       (λ L e.
-      language-made (named_base K (base_name d)) (extension_form d) L (base-names K (base_name d) V.named) (AreSpelledIn-extension d spelled)
-      (language-parts K (named_base K (base_name d)) (base_name d) d (extension_form d) L r e))
+      language-made c (named_base K (base_name c)) (extension_form c) L (base-names K (base_name c) V.named) (AreSpelledIn-extension c part.spelled)
+      (language-parts K (named_base K (base_name c)) (base_name c) c (extension_form c) L q e))
   by_kind (defines kind.metafunction) x room r m =
       mapped-some metafunction (defined_function K d) x m (IsValidDefinition more K) (λ F e. function-valid F r e)
   by_kind (defines kind.judgement) x room r m =

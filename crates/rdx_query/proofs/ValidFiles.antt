@@ -26,7 +26,7 @@ use Rattle.rdx_query.specs.File.{Accepts, accepts_none, accepts_definition, acce
 use Rattle.rdx_forms.specs.Before.{known_before}
 use Rattle.rdx_forms.specs.Fitting.{IsCrossedTo}
 use Rattle.rdx_forms.specs.Known.{Known, with_definition, judgement_language}
-use Rattle.rdx_answer.specs.Queries.{Query, matches, whether, splits, value, holds, reducts, tagged, stepper, generate, check, test_equal, test_step, test_run, test_match, test_holds, test_results}
+use Rattle.rdx_answer.specs.Queries.{Query, matches, whether, splits, value, holds, reducts, tagged, stepper, generate, check, alike, substituted, test_equal, test_step, test_run, test_match, test_holds, test_results}
 use Rattle.rdx_query.specs.ValidQueries.{Askable, is_valid_host, is_valid_pattern, is_valid_premise, fits_behind, fits_where, is_valid_query, judged_language, askable_in, are_valid_queries}
 use Rattle.rdx_query.proofs.AcceptedScopes.{IsScopeIn, accepted-scope, scope-callable}
 use Rattle.rdx_query.proofs.DistinctDefinitions.{distinct-more}
@@ -176,6 +176,8 @@ module _ (C : Callable) (f g : List ℕ → Option Language) (r : List ℕ → B
   query-stays (check x p h attempts seed) v =
       pattern-stays x p
       (fits_where C p h && (nat_lt 0 attempts && (nat_lt attempts 100_001 && nat_lt seed 18_446_744_073_709_551_616))) v
+  query-stays (alike fs h k) v = v
+  query-stays (substituted fs h k l) v = v
   query-stays (test_equal h k) v = v
   query-stays (test_step x h ks) v = named-stays x (is_valid_host C h && list_all (is_valid_host C) ks) v
   query-stays (test_run x h ks) v = named-stays x (is_valid_host C h && list_all (is_valid_host C) ks) v

@@ -11,7 +11,7 @@ use Rattle.rdx_lang.specs.Scopes.{bound_by}
 use Rattle.rdx_lang.specs.Templates.{Host, Template}
 use Rattle.rdx_lang.specs.Valid.{is_valid_extra, callable_in}
 use Rattle.rdx_lang.specs.WellFormed.{is_well_formed_in}
-use Rattle.rdx_answer.specs.Queries.{Query, matches, whether, splits, value, holds, reducts, tagged, stepper, generate, check, test_equal, test_step, test_run, test_match, test_holds, test_results}
+use Rattle.rdx_answer.specs.Queries.{Query, matches, whether, splits, value, holds, reducts, tagged, stepper, generate, check, alike, substituted, test_equal, test_step, test_run, test_match, test_holds, test_results}
 
 -- what may be asked: what may be called, the language of each name, that of the judgement of each name, and which names are those of relations
 pub record Askable : Type 0 where
@@ -56,6 +56,8 @@ is_valid_query A (stepper x h) = A.relations x && is_valid_host A.callable h
 is_valid_query A (generate x p size seed) = is_valid_pattern (A.languages x) p && (nat_lt size 31 && nat_lt seed 18_446_744_073_709_551_616)
 is_valid_query A (check x p h attempts seed) =
     is_valid_pattern (A.languages x) p && (fits_where A.callable p h && (nat_lt 0 attempts && (nat_lt attempts 100_001 && nat_lt seed 18_446_744_073_709_551_616)))
+is_valid_query A (alike fs h k) = is_valid_host A.callable h && is_valid_host A.callable k
+is_valid_query A (substituted fs h k l) = is_valid_host A.callable h && (is_valid_host A.callable k && is_valid_host A.callable l)
 is_valid_query A (test_equal h k) = is_valid_host A.callable h && is_valid_host A.callable k
 is_valid_query A (test_step x h ks) = A.relations x && (is_valid_host A.callable h && list_all (is_valid_host A.callable) ks)
 is_valid_query A (test_run x h ks) = A.relations x && (is_valid_host A.callable h && list_all (is_valid_host A.callable) ks)

@@ -1,8 +1,9 @@
 // The forms of a file.
 ghost use Rattle.rdx_sexp.specs.Size.{AreFileData};
-ghost use Rattle.std.specs.Prelude.{IfOk, IfErr};
+ghost use Rattle.std.specs.Prelude.{◌≡◌, IfOk, IfErr};
 ghost use Rattle.rdx_query.specs.File.{IsFile};
-ghost use Rattle.rdx_answer.specs.Views.{AllNamesKnown, program_in, queries_of};
+ghost use Rattle.rdx_forms.specs.BindingParts.{file_forms};
+ghost use Rattle.rdx_answer.specs.Views.{AllNamesKnown, bound_in, program_in, queries_of};
 ghost use Rattle.rdx_query.specs.Views.{IsFileFault};
 
 use crate::forms::read_form;
@@ -17,6 +18,7 @@ use std::alloc::Global;
 pub fn check_file(alloc: Global, forms: &[Datum]) -> Result<CheckedFile, DefFault>
     requires { AreFileData forms.now }
     ensures accepted { IfOk result (λ f. IsFile forms.now (program_in f) (queries_of f)) }
+    ensures forms { IfOk result (λ f. bound_in f ≡ file_forms forms.now) }
     ensures refused { IfErr result (IsFileFault forms.now) }
     ensures named { IfOk result (λ f. AllNamesKnown (program_in f) (queries_of f)) }
 {
@@ -26,5 +28,9 @@ pub fn check_file(alloc: Global, forms: &[Datum]) -> Result<CheckedFile, DefFaul
         read_form(alloc, &mut known, &mut queries, form)?;
     }
     let program = with_facts(alloc, known.program)?;
-    Ok(CheckedFile { program, queries })
+    Ok(CheckedFile {
+        program,
+        queries,
+        forms: known.forms,
+    })
 }

@@ -14,14 +14,13 @@ use crate::Query;
 use crate::kind::{DefinitionKind, FormKind, PassedKind, QueryKind, TestKind, form_kind};
 use rdx_defs::ReadPremise;
 use rdx_forms::{
-    Asked, Checking, Generating, Known, Leading, Same, Stepping, add_judgement, add_language,
-    add_metafunction, add_relation, check_offers, check_results, check_wants, define_extension,
-    define_judgement, define_language, define_metafunction, define_relation, read_check,
-    read_equal, read_generate, read_holds, read_holds_test, read_leading, read_query, read_steps,
-    read_unbound,
+    Alike, Asked, Checking, Generating, Known, Leading, Putting, Same, Stepping, add_judgement,
+    add_language, add_metafunction, add_relation, check_offers, check_results, check_wants,
+    define_extension, define_judgement, define_language, define_metafunction, define_relation,
+    read_alike, read_check, read_equal, read_generate, read_holds, read_holds_test, read_leading,
+    read_put, read_query, read_steps, read_unbound,
 };
-use rdx_patterns::refusal::unnamed;
-use rdx_patterns::{DefFault, DefKind};
+use rdx_patterns::DefFault;
 use rdx_sexp::Datum;
 use std::alloc::Global;
 
@@ -174,6 +173,19 @@ fn question(
             } = read_check(alloc, known, form)?;
             Ok(Query::Check(name, pat, host, attempts, seed))
         }
+        QueryKind::Alike => {
+            let Alike { name, one, other } = read_alike(alloc, known, form)?;
+            Ok(Query::Alpha(name, one, other))
+        }
+        QueryKind::Put => {
+            let Putting {
+                name,
+                whole,
+                symbol,
+                value,
+            } = read_put(alloc, known, form)?;
+            Ok(Query::Substitute(name, whole, symbol, value))
+        }
         QueryKind::Test(kind) => test(alloc, known, kind, form),
     }
 }
@@ -199,8 +211,10 @@ pub(crate) fn read_form(
     requires readable { IsReadable form.now }
     requires fitting { IsFitting (known_of known.old) }
     requires ends { AreAmong (form_ends form.now) (known_of known.old).ends }
-    ensures steps { StepsBy (known_of known.old) (map query_of queries.old.items) form.now result
-        (known_of known.new) (map query_of queries.new.items) }
+    ensures steps { StepsBy (known_of known.old)
+        (map (query_of (known_of known.old).forms) queries.old.items) form.now result
+        (known_of known.new) (map (query_of (known_of known.old).forms) queries.new.items) }
+    ensures forms { OnOk result ((known_of known.new).forms ≡ (known_of known.old).forms) }
     ensures fitting { OnOk result (IsFitting (known_of known.new)) }
 {
     match form_kind(form) {
@@ -210,6 +224,5 @@ pub(crate) fn read_form(
             Ok(queries.push(query)?)
         }
         FormKind::Passes(kind) => pass(kind, form),
-        FormKind::ToCome => Err(DefFault::Refused(unnamed(DefKind::Unbuilt, form))),
     }
 }

@@ -45,6 +45,10 @@ pub enum QueryKind {
     Generate,
     /// Whether a host expression makes `#f` for one of many: `redex-check`.
     Check,
+    /// Whether two terms are alpha equivalent: `alpha-equivalent?`.
+    Alike,
+    /// A term with another put for a symbol in it: `substitute`.
+    Put,
     /// Whether a test passes, or how many did.
     Test(TestKind),
 }
@@ -86,8 +90,6 @@ pub enum FormKind {
     Asks(QueryKind),
     /// It is passed over.
     Passes(PassedKind),
-    /// What is not built yet.
-    ToCome,
 }
 
 // The table of heads; what has another one is a host expression.
@@ -109,6 +111,8 @@ fn kind_by_text(head: &str) -> FormKind
         "stepper" => FormKind::Asks(QueryKind::Stepper),
         "generate-term" => FormKind::Asks(QueryKind::Generate),
         "redex-check" => FormKind::Asks(QueryKind::Check),
+        "alpha-equivalent?" => FormKind::Asks(QueryKind::Alike),
+        "substitute" => FormKind::Asks(QueryKind::Put),
         "test-equal" => FormKind::Asks(QueryKind::Test(TestKind::Equal)),
         "test-->" => FormKind::Asks(QueryKind::Test(TestKind::Step)),
         "test-->>" => FormKind::Asks(QueryKind::Test(TestKind::Run)),
@@ -118,7 +122,6 @@ fn kind_by_text(head: &str) -> FormKind
         "test-results" => FormKind::Asks(QueryKind::Test(TestKind::Results)),
         "require" => FormKind::Passes(PassedKind::Wants),
         "provide" => FormKind::Passes(PassedKind::Offers),
-        "alpha-equivalent?" | "substitute" => FormKind::ToCome,
         _ => FormKind::Asks(QueryKind::Value),
     }
 }

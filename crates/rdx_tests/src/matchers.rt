@@ -106,6 +106,8 @@ fn pattern_in(query: &Query) -> Option<(&Name, &CheckedPat, &HostExpr)> {
         | Query::Stepper(_, _)
         | Query::Generate(_, _, _, _)
         | Query::Check(_, _, _, _, _)
+        | Query::Alpha(_, _, _)
+        | Query::Substitute(_, _, _, _)
         | Query::TestEqual(_, _)
         | Query::TestStep(_, _, _)
         | Query::TestRun(_, _, _)

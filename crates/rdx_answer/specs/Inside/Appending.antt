@@ -6,10 +6,11 @@ use Rattle.rdx_lang.specs.Templates.{Host}
 use Rattle.rdx_eval.specs.Views.{fault_of}
 use Rattle.rdx_eval.specs.declared.fault.EvalFault.{EvalFault}
 use Rattle.rdx_eval.specs.declared.fault.EvalFault.TheVariants.{Named, NoMemory}
+use Rattle.rdx_answer.specs.AlphaAnswers.{IsAlikeAnswer, IsSubstitutedAnswer}
 use Rattle.rdx_answer.specs.AnswerText.{fault_line}
 use Rattle.rdx_answer.specs.Answering.{IsAnswer, IsValueAnswer, Over, OverEach}
 use Rattle.rdx_answer.specs.MatchAnswers.{IsMatchesAnswer, IsWhetherAnswer, IsSplitsAnswer}
-use Rattle.rdx_answer.specs.Queries.{Query, matches, whether, splits, value, holds, reducts, tagged, stepper, generate, check, test_equal, test_step, test_run, test_match, test_holds, test_results}
+use Rattle.rdx_answer.specs.Queries.{Query, matches, whether, splits, value, holds, reducts, tagged, stepper, generate, check, alike, substituted, test_equal, test_step, test_run, test_match, test_holds, test_results}
 use Rattle.rdx_answer.specs.StepAnswers.{IsReductsAnswer, IsTaggedAnswer}
 use Rattle.rdx_answer.specs.StepperAnswers.{IsStepperAnswer}
 use Rattle.rdx_answer.specs.TestAnswers.{IsStepTestAnswer, IsRunTestAnswer, IsMatchTestAnswer}
@@ -44,6 +45,8 @@ host_in (tagged name h) = Some h
 host_in (stepper name h) = Some h
 host_in (generate name p size seed) = None
 host_in (check name p h attempts seed) = None
+host_in (alike fs h k) = Some h
+host_in (substituted fs h k l) = Some h
 host_in (test_equal h k) = Some h
 host_in (test_step name h ks) = Some h
 host_in (test_run name h ks) = Some h
@@ -63,6 +66,8 @@ IsAnswerOver P cs (tagged name h) t = IsTaggedAnswer P name t
 IsAnswerOver P cs (stepper name h) t = IsStepperAnswer P name cs t
 IsAnswerOver P cs (generate name p size seed) t = λ text met. ⊥
 IsAnswerOver P cs (check name p h attempts seed) t = λ text met. ⊥
+IsAnswerOver P cs (alike fs h k) t = Over P k (IsAlikeAnswer fs t)
+IsAnswerOver P cs (substituted fs h k l) t = Over P k (λ x. Over P l (IsSubstitutedAnswer fs t x))
 IsAnswerOver P cs (test_equal h k) t = Over P k (λ u. Compares (t ∷ []) (u ∷ []))
 IsAnswerOver P cs (test_step name h ks) t = OverEach P ks (IsStepTestAnswer P name t)
 IsAnswerOver P cs (test_run name h ks) t = OverEach P ks (IsRunTestAnswer P name t)

@@ -24,7 +24,7 @@ use Rattle.rdx_why.specs.Explaining.{CanBeAsked, Explains}
 use Rattle.rdx_answer.specs.AnswerText.{fault_line}
 use Rattle.rdx_answer.specs.Explained.{CanBeExplained, IsExplained, Part, said, whole_text}
 use Rattle.rdx_answer.specs.HoldsAnswers.{FindsMet, Values}
-use Rattle.rdx_answer.specs.Queries.{Query, NamesKnown, matches, whether, splits, value as value_query, holds, reducts, tagged, stepper, generate, check, test_equal, test_step, test_run, test_match, test_holds, test_results}
+use Rattle.rdx_answer.specs.Queries.{Query, NamesKnown, matches, whether, splits, value as value_query, holds, reducts, tagged, stepper, generate, check, alike, substituted, test_equal, test_step, test_run, test_match, test_holds, test_results}
 use Rattle.rdx_answer.specs.Tests.{Counts}
 
 -- ---- what is asked for
@@ -63,6 +63,8 @@ is_shown (tagged name h) = false
 is_shown (stepper name h) = false
 is_shown (generate name p size seed) = false
 is_shown (check name p h attempts seed) = false
+is_shown (alike fs h k) = false
+is_shown (substituted fs h k l) = false
 is_shown (test_equal h k) = false
 is_shown (test_step name h ks) = false
 is_shown (test_run name h ks) = false

@@ -8,21 +8,23 @@ use Rattle.rdx_templates.specs.Scope.{Scope}
 use Rattle.rdx_templates.specs.TemplateReading.{host_reading}
 use Rattle.rdx_templates.specs.TemplateRefusal.{host_refusal}
 use Rattle.rdx_patterns.specs.Parts.{is_symbol}
-use Rattle.rdx_patterns.specs.Readable.{IsReadable}
 use Rattle.rdx_patterns.specs.Refusal.{Refusal}
 use Rattle.rdx_patterns.specs.Unbuilt.{has_word_to_come}
 use Rattle.rdx_patterns.specs.declared.shape.fault.DefFault.{DefFault}
+use Rattle.rdx_forms.specs.AlphaForms.{AlikeParts, PutParts, alike_parts, put_parts, alike_refusal, put_refusal}
 use Rattle.rdx_forms.specs.HoldsForms.{HoldsParts, holds_parts, holds_refusal}
 use Rattle.rdx_forms.specs.Known.{Known}
 use Rattle.rdx_forms.specs.MatchForms.{QueryParts, query_parts, query_refusal}
 use Rattle.rdx_forms.specs.StepForms.{StepParts, step_parts, steps_refusal}
 use Rattle.rdx_forms.specs.TestForms.{EqualParts, LeadingParts, equal_parts, leading_parts, equal_refusal, leading_refusal}
-use Rattle.rdx_forms.specs.Inside.Earlier.{earlier}
+use Rattle.rdx_forms.specs.Reported.{earlier}
 use Rattle.rdx_forms.specs.Faults.{IsFaultAt}
-use Rattle.rdx_forms.specs.Inside.PartViews.{equals_of, holds_of, leading_of, parts_of, steps_of}
+use Rattle.rdx_forms.specs.Inside.PartViews.{alike_of, equals_of, holds_of, leading_of, parts_of, put_of, steps_of}
+use Rattle.rdx_forms.specs.declared.parts.AlikeParts as code_alike
 use Rattle.rdx_forms.specs.declared.parts.EqualParts as code_equal
 use Rattle.rdx_forms.specs.declared.parts.HoldsParts as code_holds
 use Rattle.rdx_forms.specs.declared.parts.LeadingParts as code_leading
+use Rattle.rdx_forms.specs.declared.parts.PutParts as code_put
 use Rattle.rdx_forms.specs.declared.parts.QueryParts as code_query
 use Rattle.rdx_forms.specs.declared.parts.StepParts as code_steps
 
@@ -66,11 +68,6 @@ HoldsFitsBy d (Err e) = (K : Known) → IsFaultAt (holds_refusal K d (holds_part
 
 -- ---- host expressions in their order
 
--- all of these can be read
-abbrev pub AreReadable : List Sexp → Type 0
-AreReadable [] = Unit {0}
-AreReadable (d ∷ ds) = IsReadable d × AreReadable ds
-
 -- the refusal of host expressions where no name is bound: by the check with the least number, of the first that it refuses
 abbrev pub hosts_refusal : Scope → List Sexp → Option Refusal
 hosts_refusal S [] = None
@@ -92,6 +89,28 @@ pub record IsEqualFit (d : Sexp) (q : EqualParts) : Type 0 where
 abbrev pub EqualFitsBy : Sexp → Result code_equal.EqualParts DefFault → Type 0
 EqualFitsBy d (Ok q) = IsEqualFit d (equals_of q)
 EqualFitsBy d (Err e) = (K : Known) → IsFaultAt (equal_refusal K d (equal_parts d)) e
+
+-- ---- under binding forms
+
+-- the form d that asks whether terms are alpha equivalent has its shape, with these parts
+pub record IsAlikeFit (d : Sexp) (q : AlikeParts) : Type 0 where
+  pub parts : alike_parts d ≡ Some q
+  pub built : has_word_to_come d ≡ false
+
+-- the answer of the check of its shape
+abbrev pub AlikeFitsBy : Sexp → Result code_alike.AlikeParts DefFault → Type 0
+AlikeFitsBy d (Ok q) = IsAlikeFit d (alike_of q)
+AlikeFitsBy d (Err e) = (K : Known) → IsFaultAt (alike_refusal K d (alike_parts d)) e
+
+-- the form d that puts a term for a symbol has its shape, with these parts
+pub record IsPutFit (d : Sexp) (q : PutParts) : Type 0 where
+  pub parts : put_parts d ≡ Some q
+  pub built : has_word_to_come d ≡ false
+
+-- the answer of the check of its shape
+abbrev pub PutFitsBy : Sexp → Result code_put.PutParts DefFault → Type 0
+PutFitsBy d (Ok q) = IsPutFit d (put_of q)
+PutFitsBy d (Err e) = (K : Known) → IsFaultAt (put_refusal K d (put_parts d)) e
 
 -- ---- tests of a relation
 

@@ -17,7 +17,7 @@ use Rattle.rdx_forms.specs.Known.{Known}
 use Rattle.rdx_forms.specs.LanguageForms.{name_taken_at}
 use Rattle.rdx_forms.specs.RelationForms.{bad_relation_at}
 use Rattle.rdx_forms.specs.Inside.Defining.{AnswersBy}
-use Rattle.rdx_forms.specs.Inside.Earlier.{earlier}
+use Rattle.rdx_forms.specs.Reported.{earlier}
 
 -- ---- what is refused
 

@@ -23,7 +23,7 @@ use Rattle.rdx_patterns.specs.declared.shape.fault.DefFault.TheVariants.{Refused
 use Rattle.rdx_forms.specs.Known.{Known}
 use Rattle.rdx_forms.specs.LanguageForms.{language_refusal, language_escape, named_base, unknown_at, name_taken_at}
 use Rattle.rdx_forms.specs.RelationForms.{bad_relation_at}
-use Rattle.rdx_forms.specs.Inside.Earlier.{earlier}
+use Rattle.rdx_forms.specs.Reported.{earlier}
 use Rattle.rdx_forms.specs.Faults.{IsFaultAt}
 use Rattle.rdx_forms.specs.Inside.PartViews.{second_item, language_item}
 

@@ -1,36 +1,10 @@
--- Which of two refusals is reported: the one by the check with the lesser number.
-use Rattle.std.specs.Prelude.{◌≡◌, ℕ, Option, Some, None, Result, Ok, Err, nat_lt, if◌then◌else◌}
+-- The fault that is reported of a refusal and of what was read.
+use Rattle.std.specs.Prelude.{◌≡◌, Option, Some, None, Result, Ok, Err}
 use Rattle.rdx_patterns.specs.Refusal.{Refusal, refusal_of}
 use Rattle.rdx_patterns.specs.declared.shape.fault.DefFault.{DefFault}
-use Rattle.rdx_patterns.specs.declared.shape.fault.DefKind.{DefKind}
 use Rattle.rdx_patterns.specs.declared.shape.fault.DefRefusal.{DefRefusal}
-use Rattle.rdx_patterns.specs.declared.shape.fault.DefKind.TheVariants.{Unbuilt, Shape, UnknownLanguage, Duplicate, BadName, BadPattern, EllipsisDepth, LeftRecursive, UnknownName, EllipsisVariable, RacketEscape, Mode}
 use Rattle.rdx_forms.specs.Faults.{IsFaultAt, IsRefusedBy}
-
--- the number of a check
-abbrev pub number : DefKind → ℕ
-number Unbuilt = 0
-number Shape = 1
-number UnknownLanguage = 2
-number Duplicate = 3
-number BadName = 4
-number BadPattern = 5
-number EllipsisDepth = 6
-number LeftRecursive = 7
-number UnknownName = 8
-number EllipsisVariable = 9
-number RacketEscape = 10
-number Mode = 11
-
--- of two refusals the one by the check with the lesser number; the first, where both are by one
-abbrev pub earlier_of : Refusal → Refusal → Refusal
-earlier_of r q = if nat_lt (number q.kind) (number r.kind) then q else r
-
--- of two, where there are some
-abbrev pub earlier : Option Refusal → Option Refusal → Option Refusal
-earlier None o = o
-earlier (Some r) None = Some r
-earlier (Some r) (Some q) = Some (earlier_of r q)
+use Rattle.rdx_forms.specs.Reported.{earlier}
 
 -- the fault is the one that is reported of this refusal and of what was read
 abbrev pub IsFirstFault : {A : Type 0} → DefRefusal → Result A DefFault → DefFault → Type 0

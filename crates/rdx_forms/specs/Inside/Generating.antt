@@ -22,7 +22,7 @@ use Rattle.rdx_forms.specs.Faults.{IsFaultAt}
 use Rattle.rdx_forms.specs.GenerateForms.{GenerateParts, generate_refusal, check_refusal, numbers_at, size_faults, generate_options, check_options, usual_attempts, usual_seed}
 use Rattle.rdx_forms.specs.Known.{Known}
 use Rattle.rdx_forms.specs.Options.{attempts_option, number, number_or, option_faults, option_number, seed_option}
-use Rattle.rdx_forms.specs.Inside.Earlier.{earlier}
+use Rattle.rdx_forms.specs.Reported.{earlier}
 use Rattle.rdx_forms.specs.Inside.PartViews.{generate_of}
 use Rattle.rdx_forms.specs.declared.parts.GenerateParts as code
 

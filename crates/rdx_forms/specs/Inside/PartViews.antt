@@ -3,6 +3,7 @@ use Rattle.std.specs.Prelude.{Bool, true, false, List, [], ◌∷◌, Option, So
 use Rattle.rdx_patterns.specs.Parts.{parts, is_symbol}
 use Rattle.rdx_parts.specs.Headed.{headed}
 use Rattle.rdx_sexp.specs.Sexp.{Sexp}
+use Rattle.rdx_forms.specs.AlphaForms as binding
 use Rattle.rdx_forms.specs.GenerateForms as generating
 use Rattle.rdx_forms.specs.HoldsForms as holding
 use Rattle.rdx_forms.specs.MatchForms as matching
@@ -10,6 +11,8 @@ use Rattle.rdx_forms.specs.DefineParts as defining
 use Rattle.rdx_forms.specs.DefineParts.{DefineKind, by_cases, by_contexts, by_crosses}
 use Rattle.rdx_forms.specs.StepForms as stepping
 use Rattle.rdx_forms.specs.TestForms as testing
+use Rattle.rdx_forms.specs.declared.parts.AlikeParts.{AlikeParts}
+use Rattle.rdx_forms.specs.declared.parts.PutParts.{PutParts}
 use Rattle.rdx_forms.specs.declared.parts.ClosureParts.{ClosureParts}
 use Rattle.rdx_forms.specs.declared.parts.DefineKind as code_kind
 use Rattle.rdx_forms.specs.declared.parts.DefineKind.TheVariants.{Cases, Contexts, Crosses}
@@ -36,6 +39,14 @@ steps_of q = record { relation = q.relation.now; host = q.host.now }
 -- those of a test of two host expressions
 abbrev pub equals_of : EqualParts → testing.EqualParts
 equals_of q = record { found = q.found.now; wanted = q.wanted.now }
+
+-- those of a form that asks whether terms are alpha equivalent
+abbrev pub alike_of : AlikeParts → binding.AlikeParts
+alike_of q = record { language = q.language.now; one = q.one.now; other = q.other.now }
+
+-- those of a form that puts a term for a symbol
+abbrev pub put_of : PutParts → binding.PutParts
+put_of q = record { language = q.language.now; whole = q.whole.now; symbol = q.symbol.now; value = q.value.now }
 
 -- those of a test of a relation
 abbrev pub leading_of : LeadingParts → testing.LeadingParts

@@ -3,11 +3,11 @@ use Rattle.rdx_forms.specs.FormKinds as model
 use Rattle.rdx_query.specs.declared.kind.DefinitionKind.{DefinitionKind}
 use Rattle.rdx_query.specs.declared.kind.DefinitionKind.TheVariants.{Language, Extension, Metafunction, Judgement, Relation}
 use Rattle.rdx_query.specs.declared.kind.FormKind.{FormKind}
-use Rattle.rdx_query.specs.declared.kind.FormKind.TheVariants.{Defines, Asks, Passes, ToCome}
+use Rattle.rdx_query.specs.declared.kind.FormKind.TheVariants.{Defines, Asks, Passes}
 use Rattle.rdx_query.specs.declared.kind.PassedKind.{PassedKind}
 use Rattle.rdx_query.specs.declared.kind.PassedKind.TheVariants.{Wants, Offers}
 use Rattle.rdx_query.specs.declared.kind.QueryKind.{QueryKind}
-use Rattle.rdx_query.specs.declared.kind.QueryKind.TheVariants.{Match, Whether, Decompose, Value, Holds, Reducts, Tagged, Stepper, Generate, Check, Test}
+use Rattle.rdx_query.specs.declared.kind.QueryKind.TheVariants.{Match, Whether, Decompose, Value, Holds, Reducts, Tagged, Stepper, Generate, Check, Alike, Put, Test}
 use Rattle.rdx_query.specs.declared.kind.TestKind.{TestKind}
 use Rattle.rdx_query.specs.declared.kind.TestKind.TheVariants as tests
 
@@ -41,6 +41,8 @@ query_kind_of Tagged = model.tagged
 query_kind_of Stepper = model.stepper
 query_kind_of Generate = model.generate
 query_kind_of Check = model.check
+query_kind_of Alike = model.alike
+query_kind_of Put = model.put
 query_kind_of (Test k) = test_kind_of k
 
 -- what is passed over
@@ -53,4 +55,3 @@ abbrev pub kind_of : FormKind → model.FormKind
 kind_of (Defines k) = model.defines (definition_kind_of k)
 kind_of (Asks k) = model.asks (query_kind_of k)
 kind_of (Passes k) = model.passes (passed_kind_of k)
-kind_of ToCome = model.to_come

@@ -34,7 +34,7 @@ AddsBy K d (Err e) J = IsFormFault K d e
 
 -- the answer to a form that asks something
 abbrev pub AsksQuery : Known → Sexp → Result code_query.Query DefFault → Type 0
-AsksQuery K d (Ok q) = Asks K d (query_of q)
+AsksQuery K d (Ok q) = Asks K d (query_of K.forms q)
 AsksQuery K d (Err e) = IsFormFault K d e
 
 -- the answer to a form that is passed over, whatever is known

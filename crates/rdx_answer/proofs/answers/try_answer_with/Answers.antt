@@ -18,6 +18,7 @@ use Rattle.rdx_eval.specs.Views.{Says, program_in}
 use Rattle.rdx_answer.specs.AnswerText.{fault_line}
 use Rattle.rdx_answer.specs.Answering.{HostValue, over_fault, IsAnswer}
 use Rattle.rdx_answer.specs.Inside.Appending.{Tries, IsAnswerOver}
+use Rattle.rdx_answer.specs.Inside.Tabled.{forms_in}
 use Rattle.rdx_answer.specs.Queries as model
 use Rattle.rdx_answer.specs.Inside.Counting.{counts_of}
 use Rattle.rdx_answer.specs.Tests.{Counts}
@@ -28,7 +29,7 @@ use Rattle.rdx_answer.proofs.answers.try_answer_with.Goals as goal
 pub returns-in_err-t-clause-answer : goal.returns-in_err-t-clause-answer
 returns-in_err-t-clause-answer g c =
     let P : programs.Program = program_of (program_in c.args.engine.now).now in
-    let q : model.Query = query_of c.args.query.now in
+    let q : model.Query = query_of (forms_in c.args.table.now) c.args.query.now in
     let h : Host = host_of c.args.host.now in
     let empty : binding_of c.new-2.result ≡ no_names = c.new-2.ensures ∙ ap (λ ps. of_pairs (pairs_of ps)) c.new.ensures.items in
     let cs : List ℕ = c.args.choices.now in
@@ -40,7 +41,7 @@ returns-in_err-t-clause-answer g c =
 pub returns-clause-answer : goal.returns-clause-answer
 returns-clause-answer g c =
     let P : programs.Program = program_of (program_in c.args.engine.now).now in
-    let q : model.Query = query_of c.args.query.now in
+    let q : model.Query = query_of (forms_in c.args.table.now) c.args.query.now in
     let h : Host = host_of c.args.host.now in
     let t : Tree = tree_of c.in_ok-t.t in
     let empty : binding_of c.new-2.result ≡ no_names = c.new-2.ensures ∙ ap (λ ps. of_pairs (pairs_of ps)) c.new.ensures.items in

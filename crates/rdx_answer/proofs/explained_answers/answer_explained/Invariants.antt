@@ -2,7 +2,7 @@ use Rattle.std.proofs.Common.{◌≡◌, ◌+◌, ◌≤◌, drop}
 use Rattle.rdx_eval.specs.Views as engines
 use Rattle.rdx_why.specs.Finders.{known_in}
 use Rattle.rdx_answer.specs.Inside.Counting.{counts_of}
-use Rattle.rdx_answer.specs.Views.{program_in}
+use Rattle.rdx_answer.specs.Views.{bound_in, program_in}
 use Rattle.rdx_answer.proofs.ExplainedParts.{ExplainedUpto}
 use Rattle.rdx_answer.proofs.explained_answers.answer_explained.Given as goal
 
@@ -11,5 +11,5 @@ invariant-loop-query g l = record {
   program : (engines.program_in l.engine).now ≡ l.file.program;
   finder : (known_in l.finder).now ≡ l.file.program;
   few : l.counts.passed + l.counts.failed ≤ l.query-index;
-  upto : ExplainedUpto (program_in l.file) l.file.queries.items (drop l.query-index l.file.queries.items) (counts_of l.counts) l.transcript.items l.met;
+  upto : ExplainedUpto (program_in l.file) (bound_in l.file) l.file.queries.items (drop l.query-index l.file.queries.items) (counts_of l.counts) l.transcript.items l.met;
 }

@@ -1,6 +1,6 @@
 use Rattle.std.proofs.Common.{◌≡◌, Option, Some, Err, sym, subst, ◌∙◌, ap}
 use Rattle.rdx_patterns.specs.Refusal.{Refusal, refusal_of}
-use Rattle.rdx_forms.specs.Inside.Earlier.{earlier}
+use Rattle.rdx_forms.specs.Reported.{earlier}
 use Rattle.rdx_forms.specs.Faults.{IsFaultAt, IsRefusedBy}
 use Rattle.rdx_forms.proofs.earlier.both.Goals as goal
 

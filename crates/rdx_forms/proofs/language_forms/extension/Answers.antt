@@ -17,7 +17,7 @@ returns-in_ok-taken-in-Some c =
     let l = c.args.name.now in
     let L = language_in c.index.result.now in
     let k : language_named K.program (text_of l) ≡ Some L = ap (language_named K.program) (sym c.text.ensures) ∙ c.in-Some.ensures.some c.index.result.now c.index.ensures in
-    by_extension K L (Some l) d c.unless.result c.requires.extension c.requires.base (named_base-known K l L k)
+    by_extension K L (Some l) d c.unless.result c.requires.part c.requires.extension c.requires.base (named_base-known K l L k)
     (known-answer K L (Some l) d (extension_form d) c.in_ok-taken-in-Some.taken c.extend.result c.unless.result (extension_form-named d) (unknown_at-known K l L k) (c.in_ok-taken-in-Some.ensures ∙ ap (taken_at_item K) c.second_item.ensures) c.extend.ensures
     c.unless.ensures)
 
@@ -27,6 +27,6 @@ returns-in_ok-empty_language-in-None c =
     let d = c.args.form.now in
     let l = c.args.name.now in
     let n : language_named K.program (text_of l) ≡ None = ap (language_named K.program) (sym c.text.ensures) ∙ c.in-None.ensures.none in
-    by_extension K (named_base K (Some l)) (Some l) d (Err c.first_fault.result) c.requires.extension c.requires.base refl
+    by_extension K (named_base K (Some l)) (Some l) d (Err c.first_fault.result) c.requires.part c.requires.extension c.requires.base refl
     (unknown-answer K (named_base K (Some l)) (language_in c.in_ok-empty_language-in-None.field-0) l d (extension_form d) c.in_ok-unknown-in-None.unknown c.extend-read.result c.first_fault.result n
     c.in_ok-unknown-in-None.ensures c.extend-read.ensures c.first_fault.ensures)

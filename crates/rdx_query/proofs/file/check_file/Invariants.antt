@@ -6,4 +6,6 @@ use Rattle.rdx_query.proofs.FileRead.{SoFar}
 use Rattle.rdx_query.proofs.file.check_file.Given as goal
 
 abbrev pub invariant-loop-form : goal.invariant-loop-form
-invariant-loop-form l = SoFar l.forms (drop l.form-index l.forms) (known_of l.known) (map query_of l.queries.items) × IsFitting (known_of l.known)
+invariant-loop-form l =
+    SoFar l.forms (drop l.form-index l.forms) (known_of l.known) (map (query_of (known_of l.known).forms) l.queries.items)
+    × IsFitting (known_of l.known)
