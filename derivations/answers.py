@@ -20,6 +20,7 @@ FIRST_WORDS = {
     "apply-reduction-relation/tag-with-names": ["steps"],
     "stepper": ["step"],
     "generate-term": ["generated"],
+    "alpha-equivalent?": ["alpha"],
     "redex-check": ["check"],
     "test-results": ["tests"],
 }

@@ -1,5 +1,7 @@
 """Languages: nonterminals with their alternatives, and the cross nonterminals, which no form writes."""
-from data import Symbol
+from itertools import takewhile
+
+from data import Keyword, Symbol
 from patterns import HOLE, Item, Pattern, PatternReader, list_pattern, nonterminal
 
 
@@ -69,9 +71,9 @@ def is_inherited(datum):
 
 
 def language_of(base, definitions):
-    """The language with these definitions, as data, which extends a base, or None."""
+    """The language with these definitions, as data, behind which binding forms may stand; it extends a base, or None."""
     old = base.nonterminals if base else {}
-    new = [*map(definition, definitions)]
+    new = [definition(it) for it in takewhile(lambda it: not isinstance(it, Keyword), definitions)]
     reader = PatternReader({*old, *(x for names, _ in new for x in names)}, binds=False)
     nonterminals = dict(old)
     for names, data in new:
