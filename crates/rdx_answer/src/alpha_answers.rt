@@ -118,6 +118,7 @@ pub(crate) fn write_substituted(
     };
     match substitute(alloc, forms, t, name, v) {
         Ok(made) => {
+            // A term that is there keeps the limits of terms.
             let _depth = made.depth();
             write_value_line(&made, out)?;
             Ok(true)

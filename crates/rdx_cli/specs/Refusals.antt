@@ -6,7 +6,7 @@ use Rattle.rdx_sexp.specs.declared.fault.ReadKind.TheVariants.{NotUtf8, Unclosed
 use Rattle.rdx_sexp.specs.declared.fault.ReadRefusal.{ReadRefusal}
 use Rattle.rdx_patterns.specs.Refusal.{Refusal}
 use Rattle.rdx_patterns.specs.declared.shape.fault.DefKind.{DefKind}
-use Rattle.rdx_patterns.specs.declared.shape.fault.DefKind.TheVariants.{Unbuilt, Shape, UnknownLanguage, Duplicate, BadName, BadPattern, EllipsisDepth, LeftRecursive, UnknownName, EllipsisVariable, RacketEscape, Mode}
+use Rattle.rdx_patterns.specs.declared.shape.fault.DefKind.TheVariants.{Shape, UnknownLanguage, Duplicate, BadName, BadPattern, EllipsisDepth, LeftRecursive, UnknownName, EllipsisVariable, RacketEscape, Mode}
 
 -- the name of what a text is refused for
 abbrev pub read_name : ReadKind → List ℕ
@@ -21,7 +21,6 @@ read_name TooDeep = codes "F8 TooDeep"
 
 -- the name of what a form is refused for
 abbrev pub form_name : DefKind → List ℕ
-form_name Unbuilt = codes "S0 Unbuilt"
 form_name Shape = codes "S1 Shape"
 form_name UnknownLanguage = codes "S2 UnknownLanguage"
 form_name Duplicate = codes "S3 Duplicate"

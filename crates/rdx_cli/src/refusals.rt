@@ -33,7 +33,6 @@ fn form_name(kind: DefKind) -> &'static str
     ensures { result.now ≡ refusals.form_name kind }
 {
     match kind {
-        DefKind::Unbuilt => "S0 Unbuilt",
         DefKind::Shape => "S1 Shape",
         DefKind::UnknownLanguage => "S2 UnknownLanguage",
         DefKind::Duplicate => "S3 Duplicate",

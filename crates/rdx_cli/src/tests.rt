@@ -272,7 +272,7 @@ const REFUSED: [(&str, &str); 23] = [
     ),
     (
         "(define-language L (e number)) (redex-match L #:binding-forms (term 1))",
-        "refused S0 Unbuilt at 1:32\n",
+        "refused S1 Shape at 1:47\n",
     ),
     ("(define-language)", "refused S1 Shape at 1:1\n"),
     (

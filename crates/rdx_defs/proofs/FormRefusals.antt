@@ -3,10 +3,8 @@ use Rattle.std.proofs.Common.{◌≡◌, ◌++◌, ◌∙◌, ℕ, false, List, 
 use Rattle.std.specs.Prelude.{codes, option_map}
 use Rattle.rdx_sexp.specs.Sexp.{Sexp}
 use Rattle.rdx_patterns.specs.Parts.{is_word}
-use Rattle.rdx_patterns.specs.Refusal.{unnamed, or_else, first_refusal}
-use Rattle.rdx_patterns.specs.Unbuilt.{unbuilt_at}
+use Rattle.rdx_patterns.specs.Refusal.{unnamed}
 use Rattle.rdx_patterns.specs.declared.shape.fault.DefKind.TheVariants.{Shape}
-use Rattle.rdx_patterns.proofs.Firsts.{none_of}
 use Rattle.rdx_defs.specs.Inside.BareForms as bare_stands
 use Rattle.rdx_defs.specs.Inside.FormOutlines.{metafunction_outline, judgement_outline, question_outline}
 use Rattle.rdx_parts.specs.FormRefusals.{form_refusal}
@@ -24,7 +22,7 @@ use Rattle.rdx_parts.specs.Stands.{Stand}
 use Rattle.rdx_defs.proofs.BareForms.{bare-function, bare-judgement, bare-question}
 use Rattle.rdx_defs.proofs.TrackedNames.{function-again, judgement-again, question-again}
 use Rattle.rdx_defs.proofs.FormFaults.{function-faults, judgement-faults, question-faults}
-use Rattle.rdx_relations.proofs.FormRefusals.{alone, form-refused, ArePassed, stands-passed}
+use Rattle.rdx_relations.proofs.FormRefusals.{form-refused, ArePassed, stands-passed}
 use Rattle.rdx_relations.proofs.LanguageRefusals.{nameable-word, none-over}
 
 -- ---- metafunctions
@@ -37,12 +35,10 @@ no-contract m e = by_contract m.contract e
     by_contract None f = refl
     by_contract (Some c) f = absurd cc
 
--- where nothing is unbuilt, by the language and by what stands in the form
-pub metafunction-refused : (S : Scope) (ns : List (List ℕ)) (d : Sexp) (m : MetafunctionForm) → unbuilt_at d ≡ None → metafunction_form d ≡ Some m
+-- by the language and by what stands in the form
+pub metafunction-refused : (S : Scope) (ns : List (List ℕ)) (d : Sexp) (m : MetafunctionForm) → metafunction_form d ≡ Some m
     → metafunction_refusal S ns d ≡ refusal_over S ns (Some m.language) (function_stands S ns m (function_in m))
-metafunction-refused S ns d m u e =
-    (λ i. first_refusal (u i ∷ refusal_over S ns (option_map (λ (f : MetafunctionForm). f.language) (e i)) (metafunction_stands S ns d (e i)) ∷ []))
-    ∙ alone (refusal_over S ns (Some m.language) (function_stands S ns m (function_in m)))
+metafunction-refused S ns d m e = λ i. refusal_over S ns (option_map (λ (f : MetafunctionForm). f.language) (e i)) (metafunction_stands S ns d (e i))
 
 -- by what stands in it
 pub function-refused : (S : Scope) (ns : List (List ℕ)) (m : MetafunctionForm)
@@ -53,17 +49,15 @@ function-refused S ns m =
     (λ k. function-faults k S ns m f (no-contract m))
 
 -- without the parts of a metafunction
-pub no-metafunction : (S : Scope) (ns : List (List ℕ)) (d : Sexp) → metafunction_form d ≡ None → metafunction_refusal S ns d ≡ or_else (unbuilt_at d) (Some (unnamed Shape d))
+pub no-metafunction : (S : Scope) (ns : List (List ℕ)) (d : Sexp) → metafunction_form d ≡ None → metafunction_refusal S ns d ≡ Some (unnamed Shape d)
 no-metafunction S ns d e i = metafunction_refusal_by S ns d (e i)
 
 -- ---- judgements
 
--- where nothing is unbuilt, by the language and by what stands in the form
-pub judgement-refused : (S : Scope) (ns : List (List ℕ)) (d : Sexp) (f : JudgementForm) → unbuilt_at d ≡ None → judgement_form d ≡ Some f
+-- by the language and by what stands in the form
+pub judgement-refused : (S : Scope) (ns : List (List ℕ)) (d : Sexp) (f : JudgementForm) → judgement_form d ≡ Some f
     → judgement_refusal S ns d ≡ refusal_over S ns (Some f.language) (judgement_stands S ns d (Some f))
-judgement-refused S ns d f u e =
-    (λ i. first_refusal (u i ∷ refusal_over S ns (option_map (λ (g : JudgementForm). g.language) (e i)) (judgement_stands S ns d (e i)) ∷ []))
-    ∙ alone (refusal_over S ns (Some f.language) (judgement_stands S ns d (Some f)))
+judgement-refused S ns d f e = λ i. refusal_over S ns (option_map (λ (g : JudgementForm). g.language) (e i)) (judgement_stands S ns d (e i))
 
 -- by what stands in it
 pub rules-refused : (S : Scope) (ns : List (List ℕ)) (d : Sexp) (f : JudgementForm)
@@ -73,7 +67,7 @@ rules-refused S ns d f =
     (λ k. judgement-faults k S ns d f)
 
 -- without the parts of a judgement
-pub no-judgement : (S : Scope) (ns : List (List ℕ)) (d : Sexp) → judgement_form d ≡ None → judgement_refusal S ns d ≡ or_else (unbuilt_at d) (Some (unnamed Shape d))
+pub no-judgement : (S : Scope) (ns : List (List ℕ)) (d : Sexp) → judgement_form d ≡ None → judgement_refusal S ns d ≡ Some (unnamed Shape d)
 no-judgement S ns d e i = judgement_refusal_by S ns d (e i)
 
 -- a premise by itself, and a template behind it
@@ -90,8 +84,7 @@ pub metafunction-none : (S : Scope) (ns : List (List ℕ)) (d : Sexp) (m : Metaf
     → (unnamable_language_at (Some m.language) ≡ None) × (stands_refusal S ns (function_stands S ns m (function_in m)) ≡ None)
 metafunction-none S ns d m e f =
     let ss = function_stands S ns m (function_in m) in
-    let a = none_of (unbuilt_at d) (refusal_over S ns (Some m.language) ss ∷ []) (ap (metafunction_refusal_by S ns d) (sym e) ∙ f) in
-    none-over S ns (Some m.language) ss (none_of (refusal_over S ns (Some m.language) ss) [] a.1).0
+    none-over S ns (Some m.language) ss (ap (metafunction_refusal_by S ns d) (sym e) ∙ f)
 
 -- its language is another than `hole`
 pub metafunction-nameable : (S : Scope) (ns : List (List ℕ)) (d : Sexp) (m : MetafunctionForm) → metafunction_form d ≡ Some m → metafunction_refusal S ns d ≡ None
@@ -103,8 +96,7 @@ pub judgement-none : (S : Scope) (ns : List (List ℕ)) (d : Sexp) (f : Judgemen
     → (unnamable_language_at (Some f.language) ≡ None) × (stands_refusal S ns (judgement_stands S ns d (Some f)) ≡ None)
 judgement-none S ns d f e g =
     let ss = judgement_stands S ns d (Some f) in
-    let a = none_of (unbuilt_at d) (refusal_over S ns (Some f.language) ss ∷ []) (ap (judgement_refusal_by S ns d) (sym e) ∙ g) in
-    none-over S ns (Some f.language) ss (none_of (refusal_over S ns (Some f.language) ss) [] a.1).0
+    none-over S ns (Some f.language) ss (ap (judgement_refusal_by S ns d) (sym e) ∙ g)
 
 -- its language is another than `hole`
 pub judgement-nameable : (S : Scope) (ns : List (List ℕ)) (d : Sexp) (f : JudgementForm) → judgement_form d ≡ Some f → judgement_refusal S ns d ≡ None

@@ -1,7 +1,6 @@
 -- A datum is one metafunction at most, or it has one refusal as one; and so it is with judgements.
 use Rattle.std.proofs.Common.{sym, ap, ◌∙◌}
 use Rattle.rdx_patterns.specs.Refusal.{unnamed, refusal_of}
-use Rattle.rdx_patterns.specs.Unbuilt.{unbuilt_at}
 use Rattle.rdx_patterns.specs.declared.shape.fault.DefKind.TheVariants.{Shape}
 use Rattle.rdx_defs.specs.JudgementForms.{judgement_form}
 use Rattle.rdx_defs.specs.JudgementLaws.{OneJudgement, OneJudgementRefusal, NeverBothJudgement, NeverNeitherJudgement}
@@ -27,7 +26,7 @@ pub never_both_metafunction : NeverBothMetafunction
 never_both_metafunction S ns d f q a e = not_some (metafunction_refusal S ns d) (refusal_of q) a.passes e
 
 pub never_neither_metafunction : NeverNeitherMetafunction
-never_neither_metafunction S ns d = there_or_refused (metafunction_form d) (metafunction_refusal S ns d) (unbuilt_at d) (unnamed Shape d) (no-metafunction S ns d)
+never_neither_metafunction S ns d = there_or_refused (metafunction_form d) (metafunction_refusal S ns d) (unnamed Shape d) (no-metafunction S ns d)
 
 -- ---- judgements
 
@@ -41,4 +40,4 @@ pub never_both_judgement : NeverBothJudgement
 never_both_judgement S ns d j q a e = not_some (judgement_refusal S ns d) (refusal_of q) a.passes e
 
 pub never_neither_judgement : NeverNeitherJudgement
-never_neither_judgement S ns d = there_or_refused (judgement_form d) (judgement_refusal S ns d) (unbuilt_at d) (unnamed Shape d) (no-judgement S ns d)
+never_neither_judgement S ns d = there_or_refused (judgement_form d) (judgement_refusal S ns d) (unnamed Shape d) (no-judgement S ns d)

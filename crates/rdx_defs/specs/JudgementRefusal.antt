@@ -2,8 +2,7 @@
 use Rattle.std.specs.Prelude.{ℕ, List, [], ◌∷◌, ◌++◌, Option, Some, None, option_map}
 use Rattle.rdx_sexp.specs.Sexp.{Sexp}
 use Rattle.rdx_patterns.specs.PatternChecks as patterns
-use Rattle.rdx_patterns.specs.Refusal.{Refusal, first_refusal}
-use Rattle.rdx_patterns.specs.Unbuilt.{unbuilt_at}
+use Rattle.rdx_patterns.specs.Refusal.{Refusal}
 use Rattle.rdx_parts.specs.Headed.{headed}
 use Rattle.rdx_defs.specs.JudgementForms.{JudgementForm, judgement_form}
 use Rattle.rdx_defs.specs.JudgementStands.{judgement_stands}
@@ -12,10 +11,9 @@ use Rattle.rdx_templates.specs.Scope.{Scope}
 use Rattle.rdx_parts.specs.StandRefusal.{stands_refusal}
 use Rattle.rdx_parts.specs.Stands.{Stand, template, names_bound, bound_by_premise, held_stands}
 
--- the refusal of a datum with these parts as a judgement in this scope, over the nonterminals ns; S0 comes first
+-- the refusal of a datum with these parts as a judgement in this scope, over the nonterminals ns
 abbrev pub judgement_refusal_by : Scope → List (List ℕ) → Sexp → Option JudgementForm → Option Refusal
-judgement_refusal_by S ns d o =
-    first_refusal (unbuilt_at d ∷ refusal_over S ns (option_map (λ f. f.language) o) (judgement_stands S ns d o) ∷ [])
+judgement_refusal_by S ns d o = refusal_over S ns (option_map (λ f. f.language) o) (judgement_stands S ns d o)
 
 -- the refusal of a datum so
 abbrev pub judgement_refusal : Scope → List (List ℕ) → Sexp → Option Refusal

@@ -1,5 +1,5 @@
 -- Which check refuses a form that asks under the binding forms of a language.
-use Rattle.std.proofs.Common.{◌≡◌, ℕ, false, List, [], ◌∷◌, Option, Some, None, Result, Ok, Err, refl, sym, ◌∙◌, ap, subst, arith}
+use Rattle.std.proofs.Common.{◌≡◌, ℕ, List, [], ◌∷◌, Option, Some, None, Result, Ok, sym, ◌∙◌, ap, subst, arith}
 use Rattle.std.specs.Prelude.{option_map}
 use Rattle.rdx_sexp.specs.Sexp.{Sexp}
 use Rattle.rdx_answer.specs.Bound.{forms_named}
@@ -8,8 +8,7 @@ use Rattle.rdx_lang.specs.TemplateView.{host_of}
 use Rattle.rdx_lang.specs.declared.template.HostExpr.{HostExpr}
 use Rattle.rdx_patterns.specs.Parts.{text_of}
 use Rattle.rdx_patterns.specs.Readable.{IsReadable}
-use Rattle.rdx_patterns.specs.Refusal.{Refusal, or_else}
-use Rattle.rdx_patterns.specs.Unbuilt.{has_word_to_come}
+use Rattle.rdx_patterns.specs.Refusal.{Refusal}
 use Rattle.rdx_patterns.specs.declared.shape.fault.DefFault.{DefFault}
 use Rattle.rdx_templates.specs.Answers.{ReadsHost}
 use Rattle.rdx_templates.specs.TemplateRefusal.{host_refusal}
@@ -21,8 +20,8 @@ use Rattle.rdx_forms.specs.Inside.Asking.{IsAlikeFit, IsPutFit, hosts_refusal}
 use Rattle.rdx_forms.specs.Known.{Known}
 use Rattle.rdx_forms.specs.LanguageForms.{unknown_at}
 use Rattle.rdx_forms.specs.Reported.{earlier}
-use Rattle.rdx_forms.proofs.CheckNumbers.{or_none, Checks, AreChecks, refused, merge, merged, earlier_none}
-use Rattle.rdx_forms.proofs.FormParts.{unbuilt_at-built, AllBuilt, alike-items, put-items, parts-readable, parts-built}
+use Rattle.rdx_forms.proofs.CheckNumbers.{or_none, Checks, AreChecks, merged, earlier_none}
+use Rattle.rdx_forms.proofs.FormParts.{alike-items, put-items, parts-readable}
 use Rattle.rdx_forms.proofs.HostChecks.{host-refused}
 use Rattle.rdx_forms.proofs.LanguageChecks.{unknown-number}
 use Rattle.rdx_forms.proofs.TestChecks.{hosts_checks, hosts-checks, hosts-refusal}
@@ -30,14 +29,13 @@ use Rattle.rdx_forms.proofs.TestChecks.{hosts_checks, hosts-checks, hosts-refusa
 -- ---- a language's name, and host expressions
 
 -- the refusal over both that is reported
-bound-refusal : (K : Known) (d l : Sexp) (hs : List Sexp) → has_word_to_come d ≡ false → AllBuilt hs
+bound-refusal : (K : Known) (d l : Sexp) (hs : List Sexp)
     → bound_refusal_over K d l hs ≡ earlier (unknown_at K (Some l)) (hosts_refusal K.scope hs)
-bound-refusal K d l hs b bs =
+bound-refusal K d l hs =
     let language_check : Checks = (2, unknown_at K (Some l)) ∷ [] in
     let ls : AreChecks 0 language_check = (omega arith, (unknown-number K (Some l), tt)) in
-    (λ i. or_else (unbuilt_at-built d b i) (refused (merge language_check (hosts_checks K hs))))
-    ∙ merged 0 language_check (hosts_checks K hs) ls (hosts-checks K hs)
-    ∙ (λ i. earlier (or_none (unknown_at K (Some l)) i) (sym (hosts-refusal K hs bs) i))
+    merged 0 language_check (hosts_checks K hs) ls (hosts-checks K hs)
+    ∙ (λ i. earlier (or_none (unknown_at K (Some l)) i) (sym (hosts-refusal K hs) i))
 
 -- ---- whether terms are alpha equivalent
 
@@ -53,10 +51,8 @@ module _ (K : Known) (d : Sexp) (q : AlikeParts) (f : IsAlikeFit d q) where
   pub alike-reported : alike_refusal K d (alike_parts d)
       ≡ earlier (unknown_at K (Some q.language)) (earlier (host_refusal K.scope [] q.one) (host_refusal K.scope [] q.other))
   alike-reported =
-      let k = alike-items d q f.parts in
-      let b = parts-built d (k.head ∷ q.language ∷ q.one ∷ q.other ∷ []) k.are f.built in
       ap (alike_refusal K d) f.parts
-      ∙ bound-refusal K d q.language (q.one ∷ q.other ∷ []) f.built b.1.1
+      ∙ bound-refusal K d q.language (q.one ∷ q.other ∷ [])
       ∙ ap (λ o. earlier (unknown_at K (Some q.language)) (earlier (host_refusal K.scope [] q.one) o)) (earlier_none (host_refusal K.scope [] q.other))
 
   -- what the name and the host expressions are refused by is the fault
@@ -94,10 +90,8 @@ module _ (K : Known) (d : Sexp) (q : PutParts) (f : IsPutFit d q) where
       ≡ earlier (unknown_at K (Some q.language))
       (earlier (host_refusal K.scope [] q.whole) (earlier (host_refusal K.scope [] q.symbol) (host_refusal K.scope [] q.value)))
   put-reported =
-      let k = put-items d q f.parts in
-      let b = parts-built d (k.head ∷ q.language ∷ q.whole ∷ q.symbol ∷ q.value ∷ []) k.are f.built in
       ap (put_refusal K d) f.parts
-      ∙ bound-refusal K d q.language (q.whole ∷ q.symbol ∷ q.value ∷ []) f.built b.1.1
+      ∙ bound-refusal K d q.language (q.whole ∷ q.symbol ∷ q.value ∷ [])
       ∙ ap (λ o. earlier (unknown_at K (Some q.language)) (earlier (host_refusal K.scope [] q.whole) (earlier (host_refusal K.scope [] q.symbol) o)))
       (earlier_none (host_refusal K.scope [] q.value))
 

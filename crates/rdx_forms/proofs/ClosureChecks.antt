@@ -9,7 +9,7 @@ use Rattle.rdx_lang.specs.Closures.{context_closure, compatible_closure, has_wel
 use Rattle.rdx_lang.specs.Members.{In, here}
 use Rattle.rdx_lang.specs.Patterns.{Language}
 use Rattle.rdx_lang.specs.Programs as model
-use Rattle.rdx_lang.specs.Programs.{language_named, relation_named}
+use Rattle.rdx_lang.specs.Programs.{language_named}
 use Rattle.rdx_lang.specs.ProgramView.{relation_of}
 use Rattle.rdx_lang.specs.References as references
 use Rattle.rdx_lang.specs.WellFormed.{defined}
@@ -25,9 +25,8 @@ use Rattle.rdx_patterns.specs.PatternRefusal.{pattern_refusal}
 use Rattle.rdx_patterns.specs.Reading.{reading}
 use Rattle.rdx_patterns.specs.Readable.{IsReadable}
 use Rattle.rdx_patterns.specs.Refusal.{Refusal, refusal_of, unnamed, named, or_else, first_refusal}
-use Rattle.rdx_patterns.specs.Unbuilt.{has_word_to_come}
 use Rattle.rdx_patterns.specs.declared.shape.fault.DefFault.{DefFault}
-use Rattle.rdx_patterns.specs.declared.shape.fault.DefKind.TheVariants.{Shape, UnknownLanguage, BadPattern}
+use Rattle.rdx_patterns.specs.declared.shape.fault.DefKind.TheVariants.{UnknownLanguage, BadPattern}
 use Rattle.rdx_patterns.specs.declared.shape.fault.DefRefusal.{DefRefusal}
 use Rattle.rdx_patterns.specs.declared.patterns.position.Position.TheVariants as position
 use Rattle.rdx_forms.specs.ClosureForms.{closed_relation, closure_names, other_language_by, closure_language_at, unknown_closed_at, no_nonterminal_at, context_refusal_by, context_relation_by, compatible_refusal_by, compatible_relation_by}
@@ -52,9 +51,9 @@ use Rattle.rdx_term.specs.Spelling.{is_name}
 use Rattle.rdx_patterns.proofs.Among.{is_among-names}
 use Rattle.rdx_patterns.proofs.Firsts.{none_or}
 use Rattle.rdx_forms.proofs.GainingNothing.{parts-ask}
-use Rattle.rdx_forms.proofs.CheckNumbers.{HasNumber, Checks, AreChecks, refused, merge, merged, named-number, none-at}
-use Rattle.rdx_forms.proofs.DefineChecks.{bad-number, good_name, sole_parts, body-built, relates-by}
-use Rattle.rdx_forms.proofs.FormParts.{unbuilt_at-built, closure-items, parts-readable, parts-built}
+use Rattle.rdx_forms.proofs.CheckNumbers.{HasNumber, Checks, AreChecks, refused, merged, named-number, none-at}
+use Rattle.rdx_forms.proofs.DefineChecks.{bad-number, good_name, sole_parts, relates-by}
+use Rattle.rdx_forms.proofs.FormParts.{closure-items, parts-readable}
 use Rattle.rdx_forms.proofs.FoundByName.{HasValue, language-found, relation-found, language-among, relation-among}
 use Rattle.rdx_forms.proofs.LanguageChecks.{unknown-number, taken-number}
 use Rattle.rdx_forms.proofs.QueryChecks.{pattern_checks, pattern-checks, pattern-refusal, pattern-refused}
@@ -108,24 +107,17 @@ behind-three (Some r) b c p = refl
 
 -- ---- a form with these parts, behind which nothing stands, by contexts
 
-module _ (K : Known) (d x body : Sexp) (e : define_parts d ≡ Some (sole_parts by_contexts x body)) (b : has_word_to_come d ≡ false) where
-  -- no word to come stands in the pattern
-  pattern-built : (c : ClosureParts) → closure_parts body ≡ Some c → has_word_to_come c.by ≡ false
-  pattern-built c f =
-      let i = closure-items body c f in
-      (parts-built body (i.head ∷ c.relation ∷ c.language ∷ c.by ∷ []) i.are (body-built d by_contexts x body e b)).1.1.1.0
-
+module _ (K : Known) (d x body : Sexp) (e : define_parts d ≡ Some (sole_parts by_contexts x body)) where
   -- its refusal by the parts of the list
-  contexts_by-parts : (o : Option ClosureParts) → closure_parts body ≡ o → context_refusal_by K d (sole_parts by_contexts x body) o ≡ contexts_refusal K x body o
-  contexts_by-parts None f = λ i. or_else (unbuilt_at-built d b i) (or_else (Some (unnamed Shape body)) None)
-  contexts_by-parts (Some c) f =
+  contexts_by-parts : (o : Option ClosureParts) → context_refusal_by K d (sole_parts by_contexts x body) o ≡ contexts_refusal K x body o
+  contexts_by-parts None = refl
+  contexts_by-parts (Some c) =
       let ns = closure_names K c in
-      (λ i. or_else (unbuilt_at-built d b i) (refused (merge (part_checks K x c) (pattern_checks ns c.by))))
-      ∙ merged 0 (part_checks K x c) (pattern_checks ns c.by) (part-checks K x c) (pattern-checks ns c.by)
-      ∙ ap (earlier (refused (part_checks K x c))) (sym (pattern-refusal ns c.by (pattern-built c f)))
+      merged 0 (part_checks K x c) (pattern_checks ns c.by) (part-checks K x c) (pattern-checks ns c.by)
+      ∙ ap (earlier (refused (part_checks K x c))) (sym (pattern-refusal ns c.by))
 
   contexts-refusal : define_refusal K d ≡ contexts_refusal K x body (closure_parts body)
-  contexts-refusal = ap (define_refusal_by K d) e ∙ contexts_by-parts (closure_parts body) refl
+  contexts-refusal = ap (define_refusal_by K d) e ∙ contexts_by-parts (closure_parts body)
 
   -- the relation that it defines
   contexts_by-closed : (o : Option ClosureParts) → context_relation_by K (sole_parts by_contexts x body) o ≡ contexts_relation K x o
@@ -142,11 +134,11 @@ module _ (K : Known) (d x body : Sexp) (e : define_parts d ≡ Some (sole_parts 
 
 -- ---- by those of a nonterminal in itself
 
-module _ (K : Known) (d x body : Sexp) (e : define_parts d ≡ Some (sole_parts by_crosses x body)) (b : has_word_to_come d ≡ false) where
+module _ (K : Known) (d x body : Sexp) (e : define_parts d ≡ Some (sole_parts by_crosses x body)) where
   -- its refusal by the parts of the list
   crosses_by-parts : (o : Option ClosureParts) → compatible_refusal_by K d (sole_parts by_crosses x body) o ≡ crosses_refusal K x body o
-  crosses_by-parts None = λ i. or_else (unbuilt_at-built d b i) (or_else (Some (unnamed Shape body)) None)
-  crosses_by-parts (Some c) = λ i. or_else (unbuilt_at-built d b i) (compatible_parts_refusal K x c)
+  crosses_by-parts None = refl
+  crosses_by-parts (Some c) = refl
 
   crosses-refusal : define_refusal K d ≡ crosses_refusal K x body (with_symbol (closure_parts body))
   crosses-refusal = ap (define_refusal_by K d) e ∙ crosses_by-parts (with_symbol (closure_parts body))

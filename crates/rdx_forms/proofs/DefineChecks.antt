@@ -10,7 +10,6 @@ use Rattle.rdx_patterns.specs.Names.{begins_with_dots, is_bad_name}
 use Rattle.rdx_patterns.specs.Parts.{is_symbol, text_of}
 use Rattle.rdx_patterns.specs.Readable.{IsReadable}
 use Rattle.rdx_patterns.specs.Refusal.{Refusal, named}
-use Rattle.rdx_patterns.specs.Unbuilt.{has_word_to_come}
 use Rattle.rdx_patterns.specs.declared.shape.fault.DefFault.{DefFault}
 use Rattle.rdx_patterns.specs.declared.shape.fault.DefFault.TheVariants.{Refused, NoMemory}
 use Rattle.rdx_patterns.specs.declared.shape.fault.DefKind.TheVariants.{BadName}
@@ -26,7 +25,7 @@ use Rattle.rdx_forms.specs.Inside.Defining.{AnswersBy}
 use Rattle.rdx_forms.specs.Answers.{RelatesBy}
 use Rattle.rdx_forms.specs.Inside.PartViews.{Defining, defining_by, is_more}
 use Rattle.rdx_forms.proofs.CheckNumbers.{HasNumber, named-number}
-use Rattle.rdx_forms.proofs.FormParts.{define-items, parts-readable, parts-built}
+use Rattle.rdx_forms.proofs.FormParts.{define-items, parts-readable}
 
 -- ---- names
 
@@ -103,7 +102,3 @@ module _ (d : Sexp) (k : DefineKind) (x body : Sexp) (e : define_parts d ≡ Som
   -- the name is spelled as a symbol is
   pub name-spelled : IsReadable d → IsSpelledSexp x
   name-spelled z = let i = define-items d (sole_parts k x body) e in (parts-readable d (i.head ∷ x ∷ body ∷ []) i.are z).1.0.spelled
-
-  -- no word to come stands in the list
-  pub body-built : has_word_to_come d ≡ false → has_word_to_come body ≡ false
-  body-built b = let i = define-items d (sole_parts k x body) e in (parts-built d (i.head ∷ x ∷ body ∷ []) i.are b).1.1.0

@@ -25,8 +25,7 @@ use Rattle.rdx_forms.specs.Reported.{earlier}
 use Rattle.rdx_forms.proofs.CheckNumbers.{earlier_none}
 use Rattle.rdx_forms.proofs.GrammarParts.{part-unrefused}
 use Rattle.rdx_grammar.specs.Refused.{recursion_at}
-use Rattle.rdx_patterns.specs.Refusal.{Refusal, unnamed, or_else}
-use Rattle.rdx_patterns.specs.Unbuilt.{unbuilt_at}
+use Rattle.rdx_patterns.specs.Refusal.{Refusal, unnamed}
 use Rattle.rdx_patterns.specs.declared.shape.fault.DefKind.TheVariants.{Shape}
 
 -- ---- the name of the language that is defined
@@ -133,8 +132,8 @@ no_extension head (Some (h ∷ l ∷ l0 ∷ ds)) e = absurd cc
 
 -- and is refused as one that has not its shape
 pub without_base : (K : Known) (d : Sexp) (r : Refusal) → form_kind d ≡ defines kind.extension → grammar_part d ≡ d → base_name d ≡ None
-    → Some r ≡ or_else (unbuilt_at d) (Some (unnamed Shape d)) → IsRefusedForm K d r
+    → r ≡ unnamed Shape d → IsRefusedForm K d r
 without_base K d r e p n m =
     by_check
     (ap (refusal_by_kind K d) e ∙ unbound (extension_refusal K) d p
-    ∙ ap (λ g. language_refusal K (named_base K (base_name d)) (base_name d) d g) (no_extension (codes "define-extended-language") (parts d) n) ∙ sym m)
+    ∙ ap (λ g. language_refusal K (named_base K (base_name d)) (base_name d) d g) (no_extension (codes "define-extended-language") (parts d) n) ∙ ap Some (sym m))

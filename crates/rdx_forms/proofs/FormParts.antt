@@ -1,13 +1,10 @@
--- The parts of a form can be read where the form can, and are built where it is.
+-- The parts of a form, which can be read where the form can.
 use Rattle.std.proofs.Common.{◌≡◌, ◌<◌, Bool, true, false, List, [], ◌∷◌, Option, Some, None, refl, subst, arith}
-use Rattle.std.specs.Prelude.{◌||◌, ◌&&◌, if◌then◌else◌}
+use Rattle.std.specs.Prelude.{◌&&◌, if◌then◌else◌}
 use Rattle.rdx_sexp.specs.Sexp.{Sexp, Sexps, leaf, list, nil, cons}
 use Rattle.rdx_sexp.specs.Size.{sexps_depth, AreSpelled}
 use Rattle.rdx_patterns.specs.Parts.{listed, parts, is_symbol}
 use Rattle.rdx_patterns.specs.Readable.{IsReadable}
-use Rattle.rdx_patterns.specs.Refusal.{unnamed}
-use Rattle.rdx_patterns.specs.Unbuilt.{has_word_to_come, have_word_to_come, unbuilt_at}
-use Rattle.rdx_patterns.specs.declared.shape.fault.DefKind.TheVariants.{Unbuilt}
 use Rattle.rdx_forms.specs.GenerateForms.{GenerateParts, check_parts, generate_among, generate_parts, in_pairs, is_integer, with_size}
 use Rattle.rdx_forms.specs.Options.{are_pairs}
 use Rattle.rdx_forms.specs.MatchForms.{QueryParts, query_among, query_parts}
@@ -28,32 +25,6 @@ data-readable (cons d ds) h s = (record { nested = omega (arith, h); spelled = s
 pub parts-readable : (d : Sexp) (ds : List Sexp) → parts d ≡ Some ds → IsReadable d → AreReadable ds
 parts-readable (leaf a s) ds e z = absurd cc
 parts-readable (list es s) ds e z = let f : listed es ≡ ds = cc in subst AreReadable f (data-readable es (omega (arith, z.nested)) z.spelled)
-
--- ---- what is built
-
--- in all of these stands no word to come
-abbrev pub AllBuilt : List Sexp → Type 0
-AllBuilt [] = Unit {0}
-AllBuilt (d ∷ ds) = (has_word_to_come d ≡ false) × AllBuilt ds
-
--- both are false
-neither : (a b : Bool) → (a || b) ≡ false → (a ≡ false) × (b ≡ false)
-neither true b e = absurd cc
-neither false b e = (refl, e)
-
--- data in which none stands
-data-built : (ds : Sexps) → have_word_to_come ds ≡ false → AllBuilt (listed ds)
-data-built nil e = tt
-data-built (cons d ds) e = let b = neither (has_word_to_come d) (have_word_to_come ds) e in (b.0, data-built ds b.1)
-
--- none stands in the parts of what is built
-pub parts-built : (d : Sexp) (ds : List Sexp) → parts d ≡ Some ds → has_word_to_come d ≡ false → AllBuilt ds
-parts-built (leaf a s) ds e b = absurd cc
-parts-built (list es s) ds e b = let f : listed es ≡ ds = cc in subst AllBuilt f (data-built es b)
-
--- what is built is not refused as unbuilt
-pub unbuilt_at-built : (d : Sexp) → has_word_to_come d ≡ false → unbuilt_at d ≡ None
-unbuilt_at-built d e = λ i. if e i then Some (unnamed Unbuilt d) else None
 
 -- ---- the parts of forms are their items
 

@@ -1,5 +1,5 @@
 -- Which check refuses a form that generates a term or checks a property.
-use Rattle.std.proofs.Common.{◌≡◌, ◌≤◌, ℕ, Bool, true, false, List, [], ◌∷◌, Option, Some, None, Result, Ok, Err, refl, sym, ◌∙◌, ap, subst, arith, if◌then◌else◌}
+use Rattle.std.proofs.Common.{◌≡◌, ◌≤◌, ℕ, false, List, [], ◌∷◌, Option, Some, None, Result, Ok, Err, refl, sym, ◌∙◌, ap, subst, arith}
 use Rattle.std.specs.Prelude.{is_some, option_map, IfOk}
 use Rattle.rdx_sexp.specs.Sexp.{Sexp}
 use Rattle.rdx_lang.specs.Checked.{pattern_in}
@@ -22,10 +22,9 @@ use Rattle.rdx_patterns.specs.PatternRefusal.{keyword_at, bad_binder_at, bad_occ
 use Rattle.rdx_patterns.specs.Reading.{reading}
 use Rattle.rdx_patterns.specs.Readable.{IsReadable}
 use Rattle.rdx_patterns.specs.Refusal.{Refusal, refusal_of, unnamed, named, or_else, first}
-use Rattle.rdx_patterns.specs.Unbuilt.{has_word_to_come, unbuilt_at}
 use Rattle.rdx_patterns.specs.declared.shape.fault.DefFault.{DefFault}
 use Rattle.rdx_patterns.specs.declared.shape.fault.DefFault.TheVariants.{Refused, NoMemory}
-use Rattle.rdx_patterns.specs.declared.shape.fault.DefKind.TheVariants.{Unbuilt, Shape, UnknownLanguage, BadName, BadPattern, EllipsisDepth, EllipsisVariable, RacketEscape}
+use Rattle.rdx_patterns.specs.declared.shape.fault.DefKind.TheVariants.{Shape, UnknownLanguage, BadName, BadPattern, EllipsisDepth, EllipsisVariable, RacketEscape}
 use Rattle.rdx_patterns.specs.declared.shape.fault.DefRefusal.{DefRefusal}
 use Rattle.rdx_patterns.specs.declared.patterns.position.Position.TheVariants as position
 use Rattle.rdx_patterns.proofs.Firsts.{nothing, none-empty}
@@ -51,7 +50,7 @@ use Rattle.rdx_forms.specs.Inside.Generating.{ReadsNumbers, GenerateNumbers, Che
 use Rattle.rdx_forms.proofs.CheckNumbers.{or_none, one-behind, none-at, IsFrom, Checks, AreChecks, refused, merge, merged, merge-checks, unnamed-number, named-number, earlier_of-first, refused-number}
 use Rattle.rdx_forms.proofs.GainingNothing.{parts-ask}
 use Rattle.rdx_forms.proofs.LanguageChecks.{unknown-number}
-use Rattle.rdx_forms.proofs.FormParts.{GenerateItems, check-items, generate-items, unbuilt_at-built, parts-readable, parts-built}
+use Rattle.rdx_forms.proofs.FormParts.{GenerateItems, parts-readable}
 use Rattle.rdx_forms.proofs.QueryChecks.{pattern_checks, pattern-checks, pattern-refusal, pattern-refused}
 
 -- ---- the checks of a host expression in which names are bound
@@ -82,12 +81,9 @@ late-host-checks n S bs d h = (
 bound-host-checks : (S : Scope) (bs : Bound) (d : Sexp) → AreChecks 0 (bound_host_checks S bs d)
 bound-host-checks S bs d = (omega arith, (unnamed-number Shape _, late-host-checks 1 S bs d (omega arith)))
 
--- they refuse it, where it is built
-bound-host-refusal : (S : Scope) (bs : Bound) (d : Sexp) → has_word_to_come d ≡ false → host_refusal S bs d ≡ refused (bound_host_checks S bs d)
-bound-host-refusal S bs d b =
-    let last = refused (late_host_checks S bs d) in
-    (λ i. or_else (unbuilt_at-built d b i) (or_else (or_else (host_shape_at d) last) None))
-    ∙ or_none (refused (bound_host_checks S bs d))
+-- they refuse it
+bound-host-refusal : (S : Scope) (bs : Bound) (d : Sexp) → host_refusal S bs d ≡ refused (bound_host_checks S bs d)
+bound-host-refusal S bs d = refl
 
 -- what is read of it is refused so
 bound-host-refused : (S : Scope) (bs : Bound) (d : Sexp) (x : Result HostExpr DefFault) → ReadsHost S bs d x → IsRefusedBy (host_refusal S bs d) x
@@ -108,28 +104,14 @@ early-alone r None None h f = refl
 early-alone r None (Some q) h f = let g : 5 ≤ number q.kind = f q refl in ap Some (earlier_of-first r q (omega (arith, h, g)))
 
 -- nor behind the refusal of a pattern that binds a name that may not be bound
-bad-alone : (d : Sexp) (u k rest o p : Option Refusal) → IsEarly u → IsEarly k → IsFrom 5 p
-    → earlier (or_else u (or_else k (or_else (Some (named BadName d)) rest))) (or_else o p) ≡ earlier (or_else u (or_else k (or_else (Some (named BadName d)) rest))) o
-bad-alone d (Some r) k rest o p g h f = early-alone r o p (g r refl) f
-bad-alone d None (Some r) rest o p g h f = early-alone r o p (h r refl) f
-bad-alone d None None rest o p g h f = early-alone (named BadName d) o p (omega arith) f
+bad-alone : (d : Sexp) (k rest o p : Option Refusal) → IsEarly k → IsFrom 5 p
+    → earlier (or_else k (or_else (Some (named BadName d)) rest)) (or_else o p) ≡ earlier (or_else k (or_else (Some (named BadName d)) rest)) o
+bad-alone d (Some r) rest o p h f = early-alone r o p (h r refl) f
+bad-alone d None rest o p h f = early-alone (named BadName d) o p (omega arith) f
 
--- where a word is not built yet
-early-unbuilt : (d : Sexp) → IsEarly (unbuilt_at d)
-early-unbuilt d = by_test (has_word_to_come d)
-  where
-    by_test : (b : Bool) → IsEarly (if b then Some (unnamed Unbuilt d) else None)
-    by_test true r e = let f : unnamed Unbuilt d ≡ r = cc in subst (λ (q : Refusal). number q.kind ≤ 4) f (omega arith)
-    by_test false r e = absurd cc
-
+-- that of a keyword does
 early-keyword : (d : Sexp) → IsEarly (keyword_at (occurrences 0 d))
 early-keyword d r e = let f : number r.kind ≡ 1 = unnamed-number Shape _ r e in omega (arith, f)
-
--- a host expression is refused by the early checks, and then by the late ones
-host-early : (S : Scope) (bs : Bound) (d : Sexp) → host_refusal S bs d ≡ or_else (or_else (unbuilt_at d) (host_shape_at d)) (refused (late_host_checks S bs d))
-host-early S bs d =
-    ap (or_else (unbuilt_at d)) (or_none (refused (bound_host_checks S bs d)))
-    ∙ sym (one-behind (unbuilt_at d) (host_shape_at d) (refused (late_host_checks S bs d)))
 
 -- any names do behind a pattern that binds one that may not be bound
 any-names : (S : Scope) (bs cs : Bound) (ns : List (List ℕ)) (p h d : Sexp) (ds : List Sexp) → bad_binders (occurrences 0 p) ≡ d ∷ ds
@@ -137,14 +119,14 @@ any-names : (S : Scope) (bs cs : Bound) (ns : List (List ℕ)) (p h d : Sexp) (d
 any-names S bs cs ns p h d ds e =
     let os = occurrences 0 p in
     let rest = or_else (bad_occurrence_at ns os) (or_else (depth_clash_at ns os) (or_else (escape_at os) None)) in
-    let early : Option Refusal = or_else (unbuilt_at p) (or_else (keyword_at os) (or_else (Some (named BadName d)) rest)) in
+    let early : Option Refusal = or_else (keyword_at os) (or_else (Some (named BadName d)) rest) in
     let first_path : pattern_refusal ns p ≡ early =
-    λ i. or_else (unbuilt_at p) (or_else (keyword_at os) (or_else (option_map (named BadName) (first (e i))) rest))
+    λ i. or_else (keyword_at os) (or_else (option_map (named BadName) (first (e i))) rest)
     in
-    let alone : (xs : Bound) → earlier (pattern_refusal ns p) (host_refusal S xs h) ≡ earlier early (or_else (unbuilt_at h) (host_shape_at h)) =
+    let alone : (xs : Bound) → earlier (pattern_refusal ns p) (host_refusal S xs h) ≡ earlier early (host_shape_at h) =
     λ xs.
-    (λ i. earlier (first_path i) (host-early S xs h i))
-    ∙ bad-alone d (unbuilt_at p) (keyword_at os) rest (or_else (unbuilt_at h) (host_shape_at h)) (refused (late_host_checks S xs h)) (early-unbuilt p) (early-keyword p)
+    (λ i. earlier (first_path i) (host_refusal S xs h))
+    ∙ bad-alone d (keyword_at os) rest (host_shape_at h) (refused (late_host_checks S xs h)) (early-keyword p)
     (refused-number 5 (late_host_checks S xs h) (late-host-checks 5 S xs h (omega arith)))
     in
     alone bs ∙ sym (alone cs)
@@ -162,8 +144,8 @@ names-do S ns p h = by_list (bad_binders (occurrences 0 p)) refl
 names-read : (ns : List (List ℕ)) (p : Sexp) → pattern_refusal ns p ≡ None → names_to_read ns p ≡ names_bound (bound_in ns p)
 names-read ns p e =
     let os = occurrences 0 p in
-    let checks = unbuilt_at p ∷ keyword_at os ∷ bad_binder_at os ∷ bad_occurrence_at ns os ∷ depth_clash_at ns os ∷ escape_at os ∷ [] in
-    let none : bad_binders os ≡ [] = nothing (named BadName) (bad_binders os) (none-at 2 checks e) in
+    let checks = keyword_at os ∷ bad_binder_at os ∷ bad_occurrence_at ns os ∷ depth_clash_at ns os ∷ escape_at os ∷ [] in
+    let none : bad_binders os ≡ [] = nothing (named BadName) (bad_binders os) (none-at 1 checks e) in
     λ i. names_unless (none i) (names_bound (bound_in ns p))
 
 -- ---- a pattern and a host expression
@@ -250,7 +232,7 @@ check_flat kw hs num unk bb bo bh dc sh und esc hesc =
     (one-behind bo bh (or_else (or_else dc sh) last)
     ∙ ap (λ o. or_else bo (or_else bh o)) (one-behind dc sh last ∙ ap (λ o. or_else dc (or_else sh (or_else und o))) (one-behind esc hesc None)))
 
-module _ (K : Known) (d : Sexp) (q : GenerateParts) (i : GenerateItems (parts d) q) (built : has_word_to_come d ≡ false) where
+module _ (K : Known) (d : Sexp) (q : GenerateParts) where
   -- the nonterminals of its language
   abbrev names : List (List ℕ)
   names = names_of (named_base K (Some q.language))
@@ -261,14 +243,6 @@ module _ (K : Known) (d : Sexp) (q : GenerateParts) (i : GenerateItems (parts d)
 
   language-check : AreChecks 0 language_check
   language-check = (omega arith, (unknown-number K (Some q.language), tt))
-
-  -- no word to come stands in the pattern
-  pattern-built : has_word_to_come q.pattern ≡ false
-  pattern-built = (parts-built d (i.head ∷ q.language ∷ q.pattern ∷ q.third ∷ q.options) i.are built).1.1.0
-
-  -- nor in the host expression
-  third-built : has_word_to_come q.third ≡ false
-  third-built = (parts-built d (i.head ∷ q.language ∷ q.pattern ∷ q.third ∷ q.options) i.are built).1.1.1.0
 
   -- the refusal that is reported of one that generates a term
   generate-refusal : generate_refusal K d (Some q)
@@ -282,12 +256,10 @@ module _ (K : Known) (d : Sexp) (q : GenerateParts) (i : GenerateItems (parts d)
       let pc = pattern_checks names q.pattern in
       let ps = pattern-checks names q.pattern in
       let all = merge pc (number_check ds) in
-      ap (λ (u : Option Refusal). or_else u (or_else (or_else kw num) (or_else unknown (or_else (bad_binder_at os) (or_else (bad_occurrence_at names os) (or_else (depth_clash_at names os) (or_else (escape_at os) None)))))))
-      (unbuilt_at-built d built)
-      ∙ generate_flat kw num unknown (bad_binder_at os) (bad_occurrence_at names os) (depth_clash_at names os) (escape_at os)
+      generate_flat kw num unknown (bad_binder_at os) (bad_occurrence_at names os) (depth_clash_at names os) (escape_at os)
       ∙ merged 0 language_check all language-check (merge-checks 0 pc (number_check ds) ps (number-check ds))
       ∙ (λ j. earlier (or_none unknown j) (merged 0 pc (number_check ds) ps (number-check ds) j))
-      ∙ (λ j. earlier unknown (earlier (sym (pattern-refusal names q.pattern pattern-built) j) (or_none num j)))
+      ∙ (λ j. earlier unknown (earlier (sym (pattern-refusal names q.pattern) j) (or_none num j)))
 
   -- and of one that checks a property
   check-refusal : check_refusal K d (Some q)
@@ -310,14 +282,11 @@ module _ (K : Known) (d : Sexp) (q : GenerateParts) (i : GenerateItems (parts d)
       let two = merge pc hc in
       let two-checks = merge-checks 0 pc hc ps hk in
       let all = merge two (number_check ds) in
-      ap (λ (u : Option Refusal). or_else u (or_else (or_else (or_else kw shape) num) (or_else unknown (or_else (bad_binder_at os)
-      (or_else (or_else (bad_occurrence_at names os) (bad_host_at hs)) (or_else (or_else (depth_clash_at names os) shallow) (or_else undriven (or_else (or_else (escape_at os) (host_escape_at hs)) None))))))))
-      (unbuilt_at-built d built)
-      ∙ check_flat kw shape num unknown (bad_binder_at os) (bad_occurrence_at names os) (bad_host_at hs) (depth_clash_at names os) shallow undriven (escape_at os) (host_escape_at hs)
+      check_flat kw shape num unknown (bad_binder_at os) (bad_occurrence_at names os) (bad_host_at hs) (depth_clash_at names os) shallow undriven (escape_at os) (host_escape_at hs)
       ∙ merged 0 language_check all language-check (merge-checks 0 two (number_check ds) two-checks (number-check ds))
       ∙ (λ j. earlier (or_none unknown j) (merged 0 two (number_check ds) two-checks (number-check ds) j))
       ∙ (λ j. earlier unknown (earlier (merged 0 pc hc ps hk j) (or_none num j)))
-      ∙ (λ j. earlier unknown (earlier (earlier (sym (pattern-refusal names q.pattern pattern-built) j) (sym (bound-host-refusal K.scope bs q.third third-built) j)) num))
+      ∙ (λ j. earlier unknown (earlier (earlier (sym (pattern-refusal names q.pattern) j) (sym (bound-host-refusal K.scope bs q.third) j)) num))
 
 -- ---- what is answered
 
@@ -343,11 +312,11 @@ pub items-ask : (zs : List (List ℕ)) (d : Sexp) (q : GenerateParts) → Genera
 items-ask zs d q i a = (parts-ask zs d (i.head ∷ q.language ∷ q.pattern ∷ q.third ∷ q.options) i.are a).1.1.0
 
 -- a form that generates a term
-module _ (K : Known) (d : Sexp) (q : GenerateParts) (e : generate_parts d ≡ Some q) (built : has_word_to_come d ≡ false) where
+module _ (K : Known) (d : Sexp) (q : GenerateParts) (e : generate_parts d ≡ Some q) where
   -- the refusal that is reported of it
   generate-whole : generate_refusal K d (generate_parts d)
       ≡ earlier (unknown_at K (Some q.language)) (earlier (pattern_refusal (names_of (named_base K (Some q.language))) q.pattern) (numbers_at (generate_faults q)))
-  generate-whole = ap (generate_refusal K d) e ∙ generate-refusal K d q (generate-items d q e) built
+  generate-whole = ap (generate_refusal K d) e ∙ generate-refusal K d q
 
   -- where its language is unknown
   pub generate-unknown : {A : Type 0} (ns : List (List ℕ)) (r : DefRefusal) (x : Result CheckedPat DefFault) (y : Result (ℕ × ℕ) DefFault) (z : Result A DefFault) (f : DefFault)
@@ -379,11 +348,11 @@ module _ (K : Known) (d : Sexp) (q : GenerateParts) (e : generate_parts d ≡ So
       pattern_path = ap (λ (o : Option Language). reading (names_of (or_empty o)) position.Query q.pattern) k ∙ sym a.1
 
 -- a form that checks a property
-module _ (K : Known) (d : Sexp) (q : GenerateParts) (e : check_parts d ≡ Some q) (built : has_word_to_come d ≡ false) where
+module _ (K : Known) (d : Sexp) (q : GenerateParts) (e : check_parts d ≡ Some q) where
   -- the refusal that is reported of it
   check-whole : check_refusal K d (check_parts d)
       ≡ earlier (unknown_at K (Some q.language)) (earlier (both_refusal K.scope (names_of (named_base K (Some q.language))) q.pattern q.third) (numbers_at (check_faults q)))
-  check-whole = ap (check_refusal K d) e ∙ check-refusal K d q (check-items d q e) built
+  check-whole = ap (check_refusal K d) e ∙ check-refusal K d q
 
   -- where its language is unknown
   pub check-unknown : {A : Type 0} (ns : List (List ℕ)) (r : DefRefusal) (x : Result (CheckedPat × HostExpr) DefFault) (y : Result (ℕ × ℕ) DefFault) (z : Result A DefFault) (f : DefFault)

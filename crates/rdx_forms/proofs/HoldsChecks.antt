@@ -9,7 +9,7 @@ use Rattle.rdx_lang.specs.Templates.{Template}
 use Rattle.rdx_lang.specs.TemplateView.{template_of}
 use Rattle.rdx_patterns.specs.Parts.{parts, text_of}
 use Rattle.rdx_patterns.specs.Readable.{IsReadable}
-use Rattle.rdx_patterns.specs.Refusal.{Refusal, refusal_of, named_at, or_else}
+use Rattle.rdx_patterns.specs.Refusal.{Refusal, refusal_of, named_at}
 use Rattle.rdx_patterns.specs.declared.shape.fault.DefFault.{DefFault}
 use Rattle.rdx_patterns.specs.declared.shape.fault.DefFault.TheVariants.{Refused, NoMemory}
 use Rattle.rdx_patterns.specs.declared.shape.fault.DefKind.TheVariants.{UnknownLanguage}
@@ -34,7 +34,7 @@ use Rattle.rdx_forms.specs.Inside.Earlier.{IsUnless}
 use Rattle.rdx_forms.specs.Faults.{IsFaultAt, IsRefusedBy}
 use Rattle.rdx_forms.proofs.CheckNumbers.{or_none, HasNumber, Checks, AreChecks, refused, merge, merged}
 use Rattle.rdx_forms.proofs.ClauseStands.{of_lone_premise}
-use Rattle.rdx_forms.proofs.FormParts.{unbuilt_at-built, parts-readable}
+use Rattle.rdx_forms.proofs.FormParts.{parts-readable}
 use Rattle.rdx_forms.proofs.GainingNothing.{parts-ask}
 use Rattle.rdx_forms.proofs.StandNumbers.{nameless_checks, nameless-checks, nameless-refusal}
 
@@ -134,9 +134,7 @@ module _ (K : Known) (d : Sexp) (h : HoldsParts) (f : IsHoldsFit d h) where
 
   -- the form is refused by these
   chain : holds_refusal K d (holds_parts d) ≡ refused (merge language_check (nameless_checks K.scope names stands))
-  chain =
-      ap (holds_refusal K d) f.parts
-      ∙ λ i. or_else (unbuilt_at-built d f.built i) (refused (merge language_check (nameless_checks K.scope names stands)))
+  chain = ap (holds_refusal K d) f.parts
 
   -- the refusal that is reported
   parts-refusal : holds_refusal K d (holds_parts d) ≡ earlier (asked_unknown_at K (headed h.premise)) (premise_refusal K.scope names h.premise h.result)

@@ -1,10 +1,9 @@
 -- Which check refuses a host expression in which no name is bound.
-use Rattle.std.proofs.Common.{◌≡◌, false, List, [], ◌∷◌, None, Result, Ok, Err, refl, ◌∙◌, arith}
+use Rattle.std.proofs.Common.{◌≡◌, List, [], ◌∷◌, None, Result, Ok, Err, refl, arith}
 use Rattle.std.specs.Prelude.{option_map}
 use Rattle.rdx_sexp.specs.Sexp.{Sexp}
 use Rattle.rdx_lang.specs.declared.template.HostExpr.{HostExpr}
 use Rattle.rdx_patterns.specs.Refusal.{unnamed, named, or_else}
-use Rattle.rdx_patterns.specs.Unbuilt.{has_word_to_come}
 use Rattle.rdx_patterns.specs.declared.shape.fault.DefFault.{DefFault}
 use Rattle.rdx_patterns.specs.declared.shape.fault.DefFault.TheVariants.{Refused, NoMemory}
 use Rattle.rdx_patterns.specs.declared.shape.fault.DefKind.TheVariants.{Shape, BadPattern, EllipsisDepth, EllipsisVariable, RacketEscape}
@@ -16,8 +15,7 @@ use Rattle.rdx_templates.specs.TemplateOccurrences.{TemplatePart, single, repeat
 use Rattle.rdx_templates.specs.TemplateRefusal.{host_refusal}
 use Rattle.rdx_templates.specs.TemplateShapes.{host_shapes}
 use Rattle.rdx_forms.specs.Faults.{IsRefusedBy}
-use Rattle.rdx_forms.proofs.CheckNumbers.{or_none, Checks, AreChecks, refused, unnamed-number}
-use Rattle.rdx_forms.proofs.FormParts.{unbuilt_at-built}
+use Rattle.rdx_forms.proofs.CheckNumbers.{Checks, AreChecks, refused, unnamed-number}
 
 -- no name stands under too few ellipses where none is bound
 pub no_shallow : (ps : List TemplatePart) → shallow_parts [] ps ≡ []
@@ -46,14 +44,13 @@ host-checks S d = (
   ),
 )
 
--- they refuse it, where it is built
-pub host-refusal : (S : Scope) (d : Sexp) → has_word_to_come d ≡ false → host_refusal S [] d ≡ refused (host_checks S d)
-host-refusal S d b =
+-- they refuse it
+pub host-refusal : (S : Scope) (d : Sexp) → host_refusal S [] d ≡ refused (host_checks S d)
+host-refusal S d =
     let ps = host_parts S [] 0 d in
     let last = or_else (option_map (unnamed EllipsisVariable) (earliest start (undriven_parts S [] ps))) (or_else (option_map (unnamed RacketEscape) (earliest start (escapes ps))) None) in
-    (λ i. or_else (unbuilt_at-built d b i) (or_else (or_else (option_map (unnamed Shape) (earliest start (host_shapes d)))
-    (or_else (option_map (unnamed BadPattern) (earliest start (bad_parts ps))) (or_else (option_map (named EllipsisDepth) (earliest start (no_shallow ps i))) last))) None))
-    ∙ or_none (refused (host_checks S d))
+    λ i. or_else (option_map (unnamed Shape) (earliest start (host_shapes d)))
+    (or_else (option_map (unnamed BadPattern) (earliest start (bad_parts ps))) (or_else (option_map (named EllipsisDepth) (earliest start (no_shallow ps i))) last))
 
 -- what is read of it is refused so
 pub host-refused : (S : Scope) (d : Sexp) (x : Result HostExpr DefFault) → ReadsHost S [] d x → IsRefusedBy (host_refusal S [] d) x

@@ -8,7 +8,6 @@ use Rattle.rdx_lang.specs.declared.program.Judgement.{Judgement}
 use Rattle.rdx_patterns.specs.Nonterminals.{names_of}
 use Rattle.rdx_patterns.specs.Parts.{parts, is_symbol, is_word}
 use Rattle.rdx_patterns.specs.Refusal.{Refusal, refusal_of, unnamed, or_else, first_refusal}
-use Rattle.rdx_patterns.specs.Unbuilt.{has_word_to_come, unbuilt_at}
 use Rattle.rdx_patterns.specs.declared.shape.fault.DefFault.{DefFault}
 use Rattle.rdx_patterns.specs.declared.shape.fault.DefFault.TheVariants.{Refused, NoMemory}
 use Rattle.rdx_patterns.specs.declared.shape.fault.DefKind.TheVariants.{Shape}
@@ -21,7 +20,6 @@ use Rattle.rdx_defs.specs.JudgementStands.{judgement_stands}
 use Rattle.rdx_relations.specs.LanguageRefusal.{unnamable_language_at, refusal_over}
 use Rattle.rdx_templates.specs.Scope.{Scope}
 use Rattle.rdx_parts.specs.StandChecks.{shape_at, repeated_name_at, bad_name_at, bad_place_at, depth_fault_at, unknown_name_at, undriven_at, escape_at, mode_fault_at}
-use Rattle.rdx_parts.specs.Stands.{Stand}
 use Rattle.rdx_forms.specs.Definitions.{judgement}
 use Rattle.rdx_forms.specs.OneForm.{by_check}
 use Rattle.rdx_forms.specs.FormKinds as kind
@@ -37,18 +35,11 @@ use Rattle.rdx_forms.specs.Inside.Earlier.{IsUnless}
 use Rattle.rdx_forms.specs.Faults.{IsRefusedBy}
 use Rattle.rdx_forms.specs.Inside.PartViews.{language_item, symbol_item, second_among}
 use Rattle.rdx_patterns.proofs.Booleans.{and_true}
-use Rattle.rdx_forms.proofs.CheckNumbers.{Checks, AreChecks, merged, or_none, unnamed-number}
-use Rattle.rdx_forms.proofs.LanguageChecks.{unbuilt-number, unknown-number, item-number, taken-same}
+use Rattle.rdx_forms.proofs.CheckNumbers.{Checks, AreChecks, merged, unnamed-number}
+use Rattle.rdx_forms.proofs.LanguageChecks.{unknown-number, item-number, taken-same}
 use Rattle.rdx_forms.proofs.StandNumbers.{over_checks, over-checks, over-refusal, unknown-unnamable, absorbed}
 
 -- ---- the checks
-
--- those of the form by itself
-abbrev form_checks : Scope → List (List ℕ) → Option Sexp → Sexp → List Stand → Checks
-form_checks S ns l d ss = (0, unbuilt_at d) ∷ over_checks S ns l ss
-
-form-checks : (S : Scope) (ns : List (List ℕ)) (l : Option Sexp) (d : Sexp) (ss : List Stand) → AreChecks 0 (form_checks S ns l d ss)
-form-checks S ns l d ss = (omega arith, (unbuilt-number (has_word_to_come d) d, over-checks S ns l ss))
 
 -- those of the names
 abbrev name_checks : Known → Option Sexp → Option Sexp → Checks
@@ -97,8 +88,7 @@ module _ (K : Known) (h : is_some (language_named K.program (codes "hole")) ≡ 
   -- of the form by itself, with these parts, over the language l
   abbrev form_refusal : Option Sexp → Option JudgementForm → Option Refusal
   form_refusal l o =
-      or_else (unbuilt_at d)
-      (or_else (refusal_over K.scope (names_of (named_base K l)) (form_language o) (judgement_stands K.scope (names_of (named_base K l)) d o)) None)
+      refusal_over K.scope (names_of (named_base K l)) (form_language o) (judgement_stands K.scope (names_of (named_base K l)) d o)
 
   -- a form that has its parts
   known-parts : (f : JudgementForm) → judgement_refusal_by K d (Some f) ≡ earlier (names_refusal (Some f.language) (judgement_in f)) (form_refusal (Some f.language) (Some f))
@@ -111,17 +101,17 @@ module _ (K : Known) (h : is_some (language_named K.program (codes "hole")) ≡ 
       (repeated_name_at ss ∷ bad_name_at ss ∷ bad_place_at K.scope ns ss ∷ depth_fault_at K.scope ns ss ∷ unknown_name_at K.scope ss
       ∷ undriven_at K.scope ss ∷ escape_at K.scope ss ∷ mode_fault_at ss ∷ [])
       in
-      (λ i. or_else (unbuilt_at d) (or_else (shape_at ss) (or_else (unknown_at K l) (or_else (taken-same K (judgement_in f) i) last))))
-      ∙ ap (λ (o : Option Refusal). or_else (unbuilt_at d) (or_else (shape_at ss) o))
+      (λ i. or_else (shape_at ss) (or_else (unknown_at K l) (or_else (taken-same K (judgement_in f) i) last)))
+      ∙ ap (or_else (shape_at ss))
       (absorbed (unknown_at K l) (unnamable_language_at l) (or_else (taken_at_item K (judgement_in f)) last) (unknown-unnamable K h l))
-      ∙ merged 0 (name_checks K l (judgement_in f)) (form_checks K.scope ns l d ss) (name-checks K l (judgement_in f)) (form-checks K.scope ns l d ss)
-      ∙ ap (λ o. earlier (names_refusal l (judgement_in f)) (or_else (unbuilt_at d) o)) (sym (or_none (refusal_over K.scope ns l ss) ∙ over-refusal K.scope ns l ss))
+      ∙ merged 0 (name_checks K l (judgement_in f)) (over_checks K.scope ns l ss) (name-checks K l (judgement_in f)) (over-checks K.scope ns l ss)
+      ∙ ap (earlier (names_refusal l (judgement_in f))) (sym (over-refusal K.scope ns l ss))
 
   -- one that has them not
   no-parts : (l y : Option Sexp) → judgement_refusal_by K d None ≡ earlier (names_refusal l y) (form_refusal l None)
   no-parts l y =
-      let cs : Checks = (0, unbuilt_at d) ∷ (1, Some (unnamed Shape d)) ∷ [] in
-      let ks : AreChecks 0 cs = (omega arith, (unbuilt-number (has_word_to_come d) d, (omega arith, (unnamed-number Shape (Some d), tt)))) in
+      let cs : Checks = (1, Some (unnamed Shape d)) ∷ [] in
+      let ks : AreChecks 0 cs = (omega arith, (unnamed-number Shape (Some d), tt)) in
       merged 0 (name_checks K l y) cs (name-checks K l y) ks
 
   -- by its parts

@@ -9,13 +9,12 @@ use Rattle.rdx_grammar.specs.Answers.{ReadsForm}
 use Rattle.rdx_grammar.specs.Forms.{GrammarForm}
 use Rattle.rdx_grammar.specs.Languages.{language_over}
 use Rattle.rdx_patterns.specs.Parts.{text_of}
-use Rattle.rdx_patterns.specs.Refusal.{Refusal, refusal_of, unnamed, named, or_else, first_refusal}
+use Rattle.rdx_patterns.specs.Refusal.{Refusal, refusal_of, named, or_else, first_refusal}
 use Rattle.rdx_grammar.specs.Refused.{by_check, by_recursion, by_escape, shape_at, duplicate_at, bad_name_at, bad_pattern_at, depth_clash_at, names_over, refusal_over}
 use Rattle.rdx_grammar.specs.Stands.{form_stands}
-use Rattle.rdx_patterns.specs.Unbuilt.{has_word_to_come, unbuilt_at}
 use Rattle.rdx_patterns.specs.declared.shape.fault.DefFault.{DefFault}
 use Rattle.rdx_patterns.specs.declared.shape.fault.DefFault.TheVariants.{Refused, NoMemory}
-use Rattle.rdx_patterns.specs.declared.shape.fault.DefKind.TheVariants.{Unbuilt, Shape, UnknownLanguage, Duplicate, BadName, BadPattern, EllipsisDepth, RacketEscape}
+use Rattle.rdx_patterns.specs.declared.shape.fault.DefKind.TheVariants.{Shape, UnknownLanguage, Duplicate, BadName, BadPattern, EllipsisDepth, RacketEscape}
 use Rattle.rdx_patterns.specs.declared.shape.fault.DefRefusal.{DefRefusal}
 use Rattle.rdx_forms.specs.Inside.Defining.{IsLanguageFault, language_by_check, language_by_recursion, language_by_escape, DefinesOver, IsNamed, taken_at_item}
 use Rattle.rdx_forms.specs.Reported.{number, earlier}
@@ -28,12 +27,7 @@ use Rattle.rdx_forms.proofs.CheckNumbers.{HasNumber, Checks, AreChecks, refused,
 
 -- ---- numbers
 
--- of the check of unbuilt words
-pub unbuilt-number : (b : Bool) (d : Sexp) → HasNumber 0 (if b then Some (unnamed Unbuilt d) else None)
-unbuilt-number true d r e = unnamed-number Unbuilt (Some d) r e
-unbuilt-number false d r e = absurd cc
-
--- of that of a language's name
+-- of the check of a language's name
 unknown_by-number : (o : Option Language) (l : Sexp) → HasNumber 2 (unknown_by o l)
 unknown_by-number None l r e = named-number UnknownLanguage (Some l) r e
 unknown_by-number (Some L) l r e = absurd cc
@@ -64,8 +58,7 @@ taken-same K (Some f) = refl
 -- those of a form by itself, but for left recursion
 abbrev form_checks : Language → Sexp → Option GrammarForm → Checks
 form_checks base d g =
-    (0, unbuilt_at d)
-    ∷ (1, shape_at (form_stands d g))
+    (1, shape_at (form_stands d g))
     ∷ (3, duplicate_at (form_stands d g))
     ∷ (4, bad_name_at (form_stands d g))
     ∷ (5, bad_pattern_at base (names_over base g) (form_stands d g))
@@ -76,22 +69,16 @@ form-checks : (base : Language) (d : Sexp) (g : Option GrammarForm) → AreCheck
 form-checks base d g = (
   omega arith,
   (
-    unbuilt-number (has_word_to_come d) d,
+    unnamed-number Shape _,
     (
       omega arith,
       (
-        unnamed-number Shape _,
+        named-number Duplicate _,
         (
           omega arith,
           (
-            named-number Duplicate _,
-            (
-              omega arith,
-              (
-                named-number BadName _,
-                (omega arith, (unnamed-number BadPattern _, (omega arith, (named-number EllipsisDepth _, tt)))),
-              ),
-            ),
+            named-number BadName _,
+            (omega arith, (unnamed-number BadPattern _, (omega arith, (named-number EllipsisDepth _, tt)))),
           ),
         ),
       ),
@@ -112,7 +99,7 @@ chain K base l0 d None n = refl
 chain K base l0 d (Some g) n =
     let ss = form_stands d (Some g) in
     let last = or_else (duplicate_at ss) (or_else (bad_name_at ss) (or_else (bad_pattern_at base (names_over base (Some g)) ss) (or_else (depth_clash_at (names_over base (Some g)) ss) None))) in
-    λ i. or_else (unbuilt_at d) (or_else (shape_at ss) (or_else (unknown_at K l0) (or_else (taken_at_item K (sym (n g refl) i)) last)))
+    λ i. or_else (shape_at ss) (or_else (unknown_at K l0) (or_else (taken_at_item K (sym (n g refl) i)) last))
 
 -- ---- a form over a base that is known
 
@@ -137,7 +124,7 @@ behind_name K base d g =
 unknown-refusal : (K : Known) (base other : Language) (l : Sexp) (d : Sexp) (g : Option GrammarForm) → language_named K.program (text_of l) ≡ None → language_refusal K base (Some l) d g ≡ earlier (Some (named UnknownLanguage l)) (refusal_over other d g)
 unknown-refusal K base other l d g u =
     let names : AreChecks 0 ((2, Some (named UnknownLanguage l)) ∷ []) = (omega arith, (named-number UnknownLanguage (Some l), tt)) in
-    (λ i. or_else (unbuilt_at d) (or_else (shape_at (form_stands d g)) (or_else (unknown_by (u i) l) (behind_name K base d g))))
+    (λ i. or_else (shape_at (form_stands d g)) (or_else (unknown_by (u i) l) (behind_name K base d g)))
     ∙ merged 0 ((2, Some (named UnknownLanguage l)) ∷ []) (form_checks other d g) names (form-checks other d g)
 
 -- ---- what is answered

@@ -8,7 +8,6 @@ use Rattle.rdx_lang.specs.declared.program.Metafunction.{Metafunction}
 use Rattle.rdx_patterns.specs.Nonterminals.{names_of}
 use Rattle.rdx_patterns.specs.Parts.{parts, is_symbol, is_word}
 use Rattle.rdx_patterns.specs.Refusal.{Refusal, refusal_of, unnamed, or_else, first_refusal}
-use Rattle.rdx_patterns.specs.Unbuilt.{has_word_to_come, unbuilt_at}
 use Rattle.rdx_patterns.specs.declared.shape.fault.DefFault.{DefFault}
 use Rattle.rdx_patterns.specs.declared.shape.fault.DefFault.TheVariants.{Refused, NoMemory}
 use Rattle.rdx_patterns.specs.declared.shape.fault.DefKind.TheVariants.{Shape}
@@ -21,7 +20,6 @@ use Rattle.rdx_defs.specs.MetafunctionStands.{metafunction_stands}
 use Rattle.rdx_relations.specs.LanguageRefusal.{unnamable_language_at, refusal_over}
 use Rattle.rdx_templates.specs.Scope.{Scope}
 use Rattle.rdx_parts.specs.StandChecks.{shape_at, bad_name_at, bad_place_at, depth_fault_at, unknown_name_at, undriven_at, escape_at, mode_fault_at}
-use Rattle.rdx_parts.specs.Stands.{Stand}
 use Rattle.rdx_forms.specs.Definitions.{metafunction}
 use Rattle.rdx_forms.specs.OneForm.{by_check}
 use Rattle.rdx_forms.specs.FormKinds as kind
@@ -37,19 +35,12 @@ use Rattle.rdx_forms.specs.Inside.Earlier.{IsUnless}
 use Rattle.rdx_forms.specs.Faults.{IsRefusedBy}
 use Rattle.rdx_forms.specs.Inside.PartViews.{language_item, symbol_item, second_among}
 use Rattle.rdx_patterns.proofs.Booleans.{and_true}
-use Rattle.rdx_forms.proofs.CheckNumbers.{Checks, AreChecks, refused, merged, or_none, unnamed-number}
-use Rattle.rdx_forms.proofs.ClauseStands.{AreNameless, of_function}
-use Rattle.rdx_forms.proofs.LanguageChecks.{unbuilt-number, unknown-number, item-number, taken-same}
+use Rattle.rdx_forms.proofs.CheckNumbers.{Checks, AreChecks, merged, unnamed-number}
+use Rattle.rdx_forms.proofs.ClauseStands.{of_function}
+use Rattle.rdx_forms.proofs.LanguageChecks.{unknown-number, item-number, taken-same}
 use Rattle.rdx_forms.proofs.StandNumbers.{nameless_over_checks, nameless-over-checks, nameless-over, unknown-unnamable, absorbed}
 
 -- ---- the checks
-
--- those of the form by itself
-abbrev form_checks : Scope → List (List ℕ) → Option Sexp → Sexp → List Stand → Checks
-form_checks S ns l d ss = (0, unbuilt_at d) ∷ nameless_over_checks S ns l ss
-
-form-checks : (S : Scope) (ns : List (List ℕ)) (l : Option Sexp) (d : Sexp) (ss : List Stand) → AreChecks 0 (form_checks S ns l d ss)
-form-checks S ns l d ss = (omega arith, (unbuilt-number (has_word_to_come d) d, nameless-over-checks S ns l ss))
 
 -- those of the names
 abbrev name_checks : Known → Option Sexp → Option Sexp → Checks
@@ -57,10 +48,6 @@ name_checks K l x = (2, unknown_at K l) ∷ (3, taken_at_item K x) ∷ []
 
 name-checks : (K : Known) (l x : Option Sexp) → AreChecks 0 (name_checks K l x)
 name-checks K l x = (omega arith, (unknown-number K l, (omega arith, (item-number K x, tt))))
-
--- the form is refused by those, where it has its parts
-stands-refusal : (S : Scope) (ns : List (List ℕ)) (l : Option Sexp) (d : Sexp) (ss : List Stand) → AreNameless ss → or_else (unbuilt_at d) (or_else (refusal_over S ns l ss) None) ≡ refused (form_checks S ns l d ss)
-stands-refusal S ns l d ss a = ap (or_else (unbuilt_at d)) (or_none (refusal_over S ns l ss) ∙ nameless-over S ns l ss a)
 
 -- ---- the language's name
 
@@ -124,8 +111,7 @@ module _ (K : Known) (h : is_some (language_named K.program (codes "hole")) ≡ 
   -- of the form by itself, with these parts, over the language l
   abbrev form_refusal : Option Sexp → Option MetafunctionForm → Option Refusal
   form_refusal l o =
-      or_else (unbuilt_at d)
-      (or_else (refusal_over K.scope (names_of (named_base K l)) (function_language o) (metafunction_stands K.scope (names_of (named_base K l)) d o)) None)
+      refusal_over K.scope (names_of (named_base K l)) (function_language o) (metafunction_stands K.scope (names_of (named_base K l)) d o)
 
   -- a form that has its parts
   known-parts : (m : MetafunctionForm) → function_refusal_by K d (Some m) ≡ earlier (names_refusal (Some m.language) (function_in m)) (form_refusal (Some m.language) (Some m))
@@ -138,17 +124,17 @@ module _ (K : Known) (h : is_some (language_named K.program (codes "hole")) ≡ 
       (bad_name_at ss ∷ bad_place_at K.scope ns ss ∷ depth_fault_at K.scope ns ss ∷ unknown_name_at K.scope ss ∷ undriven_at K.scope ss
       ∷ escape_at K.scope ss ∷ mode_fault_at ss ∷ [])
       in
-      (λ i. or_else (unbuilt_at d) (or_else (shape_at ss) (or_else (unknown_at K l) (or_else (taken-same K (function_in m) i) last))))
-      ∙ ap (λ (o : Option Refusal). or_else (unbuilt_at d) (or_else (shape_at ss) o))
+      (λ i. or_else (shape_at ss) (or_else (unknown_at K l) (or_else (taken-same K (function_in m) i) last)))
+      ∙ ap (or_else (shape_at ss))
       (absorbed (unknown_at K l) (unnamable_language_at l) (or_else (taken_at_item K (function_in m)) last) (unknown-unnamable K h l))
-      ∙ merged 0 (name_checks K l (function_in m)) (form_checks K.scope ns l d ss) (name-checks K l (function_in m)) (form-checks K.scope ns l d ss)
-      ∙ ap (earlier (names_refusal l (function_in m))) (sym (stands-refusal K.scope ns l d ss (of_function K.scope ns m (function_in m))))
+      ∙ merged 0 (name_checks K l (function_in m)) (nameless_over_checks K.scope ns l ss) (name-checks K l (function_in m)) (nameless-over-checks K.scope ns l ss)
+      ∙ ap (earlier (names_refusal l (function_in m))) (sym (nameless-over K.scope ns l ss (of_function K.scope ns m (function_in m))))
 
   -- one that has them not
   no-parts : (l y : Option Sexp) → function_refusal_by K d None ≡ earlier (names_refusal l y) (form_refusal l None)
   no-parts l y =
-      let cs : Checks = (0, unbuilt_at d) ∷ (1, Some (unnamed Shape d)) ∷ [] in
-      let ks : AreChecks 0 cs = (omega arith, (unbuilt-number (has_word_to_come d) d, (omega arith, (unnamed-number Shape (Some d), tt)))) in
+      let cs : Checks = (1, Some (unnamed Shape d)) ∷ [] in
+      let ks : AreChecks 0 cs = (omega arith, (unnamed-number Shape (Some d), tt)) in
       merged 0 (name_checks K l y) cs (name-checks K l y) ks
 
   -- by its parts

@@ -17,7 +17,6 @@ use Rattle.rdx_patterns.specs.PatternRefusal.{keyword_at, bad_binder_at, bad_occ
 use Rattle.rdx_patterns.specs.Reading.{reading}
 use Rattle.rdx_patterns.specs.Readable.{IsReadable}
 use Rattle.rdx_patterns.specs.Refusal.{Refusal, refusal_of, named, or_else}
-use Rattle.rdx_patterns.specs.Unbuilt.{has_word_to_come}
 use Rattle.rdx_patterns.specs.declared.shape.fault.DefFault.{DefFault}
 use Rattle.rdx_patterns.specs.declared.shape.fault.DefFault.TheVariants.{Refused, NoMemory}
 use Rattle.rdx_patterns.specs.declared.shape.fault.DefKind.TheVariants.{Shape, UnknownLanguage, BadName, BadPattern, EllipsisDepth, RacketEscape}
@@ -36,7 +35,7 @@ use Rattle.rdx_forms.specs.Inside.Earlier.{IsFirstFault}
 use Rattle.rdx_forms.specs.Faults.{IsFaultAt, IsRefusedBy}
 use Rattle.rdx_forms.proofs.CheckNumbers.{or_none, one-behind, Checks, AreChecks, refused, merge, merged, merge-checks, unnamed-number, named-number}
 use Rattle.rdx_forms.proofs.LanguageChecks.{unknown-number}
-use Rattle.rdx_forms.proofs.FormParts.{unbuilt_at-built, query-items, parts-readable, parts-built}
+use Rattle.rdx_forms.proofs.FormParts.{query-items, parts-readable}
 use Rattle.rdx_forms.proofs.HostChecks.{host_checks, host-checks, host-refusal, host-refused}
 
 -- ---- the checks of a pattern
@@ -67,9 +66,9 @@ pattern-checks ns p = (
   ),
 )
 
--- they refuse it, where it is built
-pub pattern-refusal : (ns : List (List ℕ)) (p : Sexp) → has_word_to_come p ≡ false → pattern_refusal ns p ≡ refused (pattern_checks ns p)
-pattern-refusal ns p b = λ i. or_else (unbuilt_at-built p b i) (refused (pattern_checks ns p))
+-- they refuse it
+pub pattern-refusal : (ns : List (List ℕ)) (p : Sexp) → pattern_refusal ns p ≡ refused (pattern_checks ns p)
+pattern-refusal ns p = refl
 
 -- what is read of it is refused so
 pub pattern-refused : (ns : List (List ℕ)) (p : Sexp) (x : Result CheckedPat DefFault) → ReadsPattern ns p x → IsRefusedBy (pattern_refusal ns p) x
@@ -104,22 +103,10 @@ module _ (K : Known) (d : Sexp) (q : QueryParts) (f : IsFit d q) where
       or_else (bad_occurrence_at names os) (or_else (bad_host_at ps) o)
       in
       ap (query_refusal K d) f.parts
-      ∙ (λ i. or_else (unbuilt_at-built d f.built i) (or_else (query_shape_at d (if f.symbol i then Some q else None)) unknown_last))
+      ∙ (λ i. or_else (query_shape_at d (if f.symbol i then Some q else None)) unknown_last)
       ∙ one-behind (keyword_at os) (host_shape_at q.host) unknown_last
       ∙ ap before (one-behind (bad_occurrence_at names os) (bad_host_at ps) bad_last)
       ∙ ap (λ o. before (between (behind o))) (one-behind (escape_at os) (host_escape_at ps) None)
-
-  -- no word to come stands in the pattern
-  pattern-built : has_word_to_come q.pattern ≡ false
-  pattern-built =
-      let k = query-items d q f.parts in
-      (parts-built d (k.head ∷ q.language ∷ q.pattern ∷ q.host ∷ []) k.are f.built).1.1.0
-
-  -- nor in the host expression
-  host-built : has_word_to_come q.host ≡ false
-  host-built =
-      let k = query-items d q f.parts in
-      (parts-built d (k.head ∷ q.language ∷ q.pattern ∷ q.host ∷ []) k.are f.built).1.1.1.0
 
   -- the pattern can be read
   pub pattern-readable : IsReadable d → IsReadable q.pattern
@@ -143,7 +130,7 @@ module _ (K : Known) (d : Sexp) (q : QueryParts) (f : IsFit d q) where
       chain
       ∙ merged 0 language_check all ls (merge-checks 0 (pattern_checks names q.pattern) (host_checks K.scope q.host) ps hs)
       ∙ (λ i. earlier (or_none (unknown_at K (Some q.language)) i) (merged 0 (pattern_checks names q.pattern) (host_checks K.scope q.host) ps hs i))
-      ∙ (λ i. earlier (unknown_at K (Some q.language)) (earlier (sym (pattern-refusal names q.pattern pattern-built) i) (sym (host-refusal K.scope q.host host-built) i)))
+      ∙ (λ i. earlier (unknown_at K (Some q.language)) (earlier (sym (pattern-refusal names q.pattern) i) (sym (host-refusal K.scope q.host) i)))
 
   -- ---- the language is unknown
 

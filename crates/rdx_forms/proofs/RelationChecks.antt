@@ -20,7 +20,6 @@ use Rattle.rdx_patterns.specs.Names.{is_bad_name}
 use Rattle.rdx_patterns.specs.Nonterminals.{names_of}
 use Rattle.rdx_patterns.specs.Parts.{parts, is_symbol, is_word, text_of}
 use Rattle.rdx_patterns.specs.Refusal.{Refusal, refusal_of, or_else, first_refusal}
-use Rattle.rdx_patterns.specs.Unbuilt.{has_word_to_come}
 use Rattle.rdx_patterns.specs.declared.shape.fault.DefFault.{DefFault}
 use Rattle.rdx_patterns.specs.declared.shape.fault.DefFault.TheVariants.{Refused, NoMemory}
 use Rattle.rdx_patterns.specs.declared.shape.fault.DefRefusal.{DefRefusal}
@@ -49,9 +48,8 @@ use Rattle.rdx_forms.specs.Fitting.{IsRelationOf, language_at}
 use Rattle.rdx_forms.specs.Inside.PartViews.{second_among, symbol_item, language_item}
 use Rattle.rdx_patterns.proofs.Booleans.{and_true}
 use Rattle.rdx_patterns.proofs.Firsts.{none_of}
-use Rattle.rdx_forms.proofs.CheckNumbers.{or_none, Checks, AreChecks, refused, merge, merged}
-use Rattle.rdx_forms.proofs.DefineChecks.{bad-number, good_name, sole_parts, body-built, relates-by}
-use Rattle.rdx_forms.proofs.FormParts.{unbuilt_at-built}
+use Rattle.rdx_forms.proofs.CheckNumbers.{Checks, AreChecks, refused, merge, merged}
+use Rattle.rdx_forms.proofs.DefineChecks.{bad-number, good_name, sole_parts, relates-by}
 use Rattle.rdx_forms.proofs.FoundByName.{language-found}
 use Rattle.rdx_forms.proofs.LanguageChecks.{unknown-number, taken-number}
 use Rattle.rdx_forms.proofs.StandNumbers.{stand_checks, over_checks, over-checks, over-refusal, unknown-unnamable, absorbed}
@@ -198,7 +196,7 @@ module _ (K : Known) (x body : Sexp) where
 
 -- ---- a form with these parts, behind which nothing stands
 
-module _ (K : Known) (h : is_some (language_named K.program (codes "hole")) ≡ false) (d x body : Sexp) (e : define_parts d ≡ Some (sole_parts by_cases x body)) (b : has_word_to_come d ≡ false) where
+module _ (K : Known) (h : is_some (language_named K.program (codes "hole")) ≡ false) (d x body : Sexp) (e : define_parts d ≡ Some (sole_parts by_cases x body)) where
   k : kind_among (parts body) ≡ Some by_cases
   k = gives-cases d (sole_parts by_cases x body) e
 
@@ -213,8 +211,7 @@ module _ (K : Known) (h : is_some (language_named K.program (codes "hole")) ≡ 
   -- the list is refused by its checks
   body-refusal : relation_refusal K.scope names body ≡ refused (over_checks K.scope names (language_item body) stands)
   body-refusal =
-      (λ i. or_else (unbuilt_at-built body (body-built d by_cases x body e b) i) (or_else (refusal_over K.scope names (language-item body k i) stands) None))
-      ∙ or_none (refusal_over K.scope names (language_item body) stands)
+      (λ i. refusal_over K.scope names (language-item body k i) stands)
       ∙ over-refusal K.scope names (language_item body) stands
 
   -- the form is refused by those of the names and of the list
@@ -227,8 +224,8 @@ module _ (K : Known) (h : is_some (language_named K.program (codes "hole")) ≡ 
       ∷ unknown_name_at K.scope stands ∷ undriven_at K.scope stands ∷ escape_at K.scope stands ∷ mode_fault_at stands ∷ [])
       in
       ap (define_refusal_by K d) e
-      ∙ (λ i. or_else (unbuilt_at-built d b i) (refused (merge (name_checks K (language-item body k i) x)
-      (stand_checks K.scope (names_of (named_base K (language-item body k i))) (relation_stands K.scope (names_of (named_base K (language-item body k i))) body (relation_form body))))))
+      ∙ (λ i. refused (merge (name_checks K (language-item body k i) x)
+      (stand_checks K.scope (names_of (named_base K (language-item body k i))) (relation_stands K.scope (names_of (named_base K (language-item body k i))) body (relation_form body)))))
       ∙ ap (or_else (shape_at stands)) (absorbed (unknown_at K l) (unnamable_language_at l) last (unknown-unnamable K h l))
 
   -- so the parts are

@@ -9,7 +9,6 @@ use Rattle.rdx_lang.specs.declared.template.HostExpr.{HostExpr}
 use Rattle.rdx_patterns.specs.Parts.{text_of}
 use Rattle.rdx_patterns.specs.Readable.{IsReadable}
 use Rattle.rdx_patterns.specs.Refusal.{Refusal, or_else}
-use Rattle.rdx_patterns.specs.Unbuilt.{has_word_to_come}
 use Rattle.rdx_patterns.specs.declared.shape.fault.DefFault.{DefFault}
 use Rattle.rdx_patterns.specs.declared.shape.fault.DefFault.TheVariants.{Refused, NoMemory}
 use Rattle.rdx_patterns.specs.declared.shape.fault.DefKind.TheVariants.{UnknownName}
@@ -23,7 +22,7 @@ use Rattle.rdx_forms.specs.Answers.{IsStepping}
 use Rattle.rdx_forms.specs.Reported.{earlier}
 use Rattle.rdx_forms.specs.Faults.{IsFaultAt, IsRefusedBy}
 use Rattle.rdx_forms.proofs.CheckNumbers.{or_none, HasNumber, Checks, AreChecks, refused, merge, merged, named-number}
-use Rattle.rdx_forms.proofs.FormParts.{unbuilt_at-built, step-items, parts-readable, parts-built}
+use Rattle.rdx_forms.proofs.FormParts.{step-items, parts-readable}
 use Rattle.rdx_forms.proofs.HostChecks.{host_checks, host-checks, host-refusal, host-refused}
 
 -- the number of the check of the relation's name
@@ -44,13 +43,7 @@ module _ (K : Known) (d : Sexp) (q : StepParts) (f : IsStepFit d q) where
       or_else (bad_host_at ps) (or_else (unknown_relation_at K (Some q)) (or_else (undriven_host_at K ps) (or_else (host_escape_at ps) None)))
       in
       ap (steps_refusal K d) f.parts
-      ∙ λ i. or_else (unbuilt_at-built d f.built i) (or_else (steps_shape_at d (if f.symbol i then Some q else None)) last)
-
-  -- no word to come stands in the host expression
-  host-built : has_word_to_come q.host ≡ false
-  host-built =
-      let k = step-items d q f.parts in
-      (parts-built d (k.head ∷ q.relation ∷ q.host ∷ []) k.are f.built).1.1.0
+      ∙ λ i. or_else (steps_shape_at d (if f.symbol i then Some q else None)) last
 
   -- the host expression can be read
   pub host-readable : IsReadable d → IsReadable q.host
@@ -64,7 +57,7 @@ module _ (K : Known) (d : Sexp) (q : StepParts) (f : IsStepFit d q) where
       let rs : AreChecks 0 relation_check = (omega arith, (unknown-number (relation_named K.program (text_of q.relation)) q.relation, tt)) in
       chain
       ∙ merged 0 relation_check (host_checks K.scope q.host) rs (host-checks K.scope q.host)
-      ∙ (λ i. earlier (or_none (unknown_relation_at K (Some q)) i) (sym (host-refusal K.scope q.host host-built) i))
+      ∙ (λ i. earlier (or_none (unknown_relation_at K (Some q)) i) (sym (host-refusal K.scope q.host) i))
 
   -- the relation is unknown
   pub unknown-fault : (x : Result HostExpr DefFault) (e : DefFault) (r : Refusal) → relation_named K.program (text_of q.relation) ≡ None → unknown_relation_by None q.relation ≡ Some r → ReadsHost K.scope [] q.host x

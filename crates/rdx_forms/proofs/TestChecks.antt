@@ -1,5 +1,5 @@
 -- Which check refuses a form of tests over host expressions.
-use Rattle.std.proofs.Common.{◌≡◌, ◌++◌, ℕ, ◌+◌, ◌<◌, length, drop, get_or, false, List, [], ◌∷◌, Option, Some, None, Result, Ok, Err, Vec, map, refl, sym, ◌∙◌, ap, subst, append_assoc, arith}
+use Rattle.std.proofs.Common.{◌≡◌, ◌++◌, ℕ, ◌+◌, ◌<◌, length, drop, get_or, List, [], ◌∷◌, Option, Some, None, Result, Ok, Err, Vec, map, refl, sym, ◌∙◌, ap, subst, append_assoc, arith}
 use Rattle.std.specs.Prelude.{option_map}
 use Rattle.std.specs.declared.alloc.Global.{Global}
 use Rattle.rdx_sexp.specs.Sexp.{Sexp}
@@ -10,7 +10,6 @@ use Rattle.rdx_lang.specs.declared.template.HostExpr.{HostExpr}
 use Rattle.rdx_patterns.specs.Parts.{text_of}
 use Rattle.rdx_patterns.specs.Readable.{IsReadable}
 use Rattle.rdx_patterns.specs.Refusal.{Refusal, refusal_of, named, or_else}
-use Rattle.rdx_patterns.specs.Unbuilt.{has_word_to_come}
 use Rattle.rdx_patterns.specs.declared.shape.fault.DefFault.{DefFault}
 use Rattle.rdx_patterns.specs.declared.shape.fault.DefKind.TheVariants.{Shape, BadPattern, UnknownName, EllipsisVariable, RacketEscape}
 use Rattle.rdx_patterns.specs.declared.shape.fault.DefRefusal.{DefRefusal}
@@ -33,8 +32,8 @@ use Rattle.rdx_forms.specs.Reported.{earlier}
 use Rattle.rdx_forms.specs.Inside.Earlier.{IsFirstFault}
 use Rattle.rdx_forms.specs.Faults.{IsFaultAt, IsRefusedBy}
 use Rattle.rdx_patterns.proofs.Rests.{drop-at}
-use Rattle.rdx_forms.proofs.CheckNumbers.{or_none, one-behind, HasNumber, Checks, AreChecks, refused, merge, merged, unnamed-number, first-number-of, earlier-assoc, earlier_none}
-use Rattle.rdx_forms.proofs.FormParts.{unbuilt_at-built, AllBuilt, equal-items, leading-items, parts-readable, parts-built}
+use Rattle.rdx_forms.proofs.CheckNumbers.{or_none, one-behind, HasNumber, Checks, AreChecks, refused, merged, unnamed-number, first-number-of, earlier-assoc, earlier_none}
+use Rattle.rdx_forms.proofs.FormParts.{equal-items, leading-items, parts-readable}
 use Rattle.rdx_forms.proofs.HostChecks.{host_checks, host-checks, host-refusal, host-refused}
 use Rattle.rdx_forms.proofs.StepChecks.{unknown-number}
 
@@ -78,11 +77,11 @@ hosts-more K h hs =
     (hosts_escape_at K hs)
     ∙ merged 0 (host_checks K.scope h) (hosts_checks K hs) (host-checks K.scope h) (hosts-checks K hs)
 
--- they refuse them, where they are built
-pub hosts-refusal : (K : Known) (hs : List Sexp) → AllBuilt hs → hosts_refusal K.scope hs ≡ refused (hosts_checks K hs)
-hosts-refusal K [] b = refl
-hosts-refusal K (h ∷ hs) b =
-    (λ i. earlier (host-refusal K.scope h b.0 i) (hosts-refusal K hs b.1 i)) ∙ sym (hosts-more K h hs)
+-- they refuse them
+pub hosts-refusal : (K : Known) (hs : List Sexp) → hosts_refusal K.scope hs ≡ refused (hosts_checks K hs)
+hosts-refusal K [] = refl
+hosts-refusal K (h ∷ hs) =
+    (λ i. earlier (host-refusal K.scope h i) (hosts-refusal K hs i)) ∙ sym (hosts-more K h hs)
 
 -- what is read of them is refused so
 hosts-refused : (S : Scope) (ds : List Sexp) (x : Result (Vec HostExpr Global) DefFault) → ReadsHosts S ds x → IsRefusedBy (hosts_refusal S ds) x
@@ -152,14 +151,13 @@ tested-number K None q e = absurd cc
 tested-number K (Some r) q e = unknown-number (relation_named K.program (text_of r)) r q e
 
 -- the refusal over a name and host expressions that is reported
-tested-refusal : (K : Known) (d : Sexp) (r : Option Sexp) (hs : List Sexp) → has_word_to_come d ≡ false → AllBuilt hs
+tested-refusal : (K : Known) (d : Sexp) (r : Option Sexp) (hs : List Sexp)
     → test_refusal_over K d r hs ≡ earlier (unknown_tested_at K r) (hosts_refusal K.scope hs)
-tested-refusal K d r hs b bs =
+tested-refusal K d r hs =
     let relation_check : Checks = (8, unknown_tested_at K r) ∷ [] in
     let rs : AreChecks 0 relation_check = (omega arith, (tested-number K r, tt)) in
-    (λ i. or_else (unbuilt_at-built d b i) (refused (merge relation_check (hosts_checks K hs))))
-    ∙ merged 0 relation_check (hosts_checks K hs) rs (hosts-checks K hs)
-    ∙ (λ i. earlier (or_none (unknown_tested_at K r) i) (sym (hosts-refusal K hs bs) i))
+    merged 0 relation_check (hosts_checks K hs) rs (hosts-checks K hs)
+    ∙ (λ i. earlier (or_none (unknown_tested_at K r) i) (sym (hosts-refusal K hs) i))
 
 -- ---- tests of two host expressions
 
@@ -174,10 +172,8 @@ module _ (K : Known) (d : Sexp) (q : EqualParts) (f : IsEqualFit d q) where
   -- the refusal that is reported
   equal-reported : equal_refusal K d (equal_parts d) ≡ earlier (host_refusal K.scope [] q.found) (host_refusal K.scope [] q.wanted)
   equal-reported =
-      let k = equal-items d q f.parts in
-      let b = parts-built d (k.head ∷ q.found ∷ q.wanted ∷ []) k.are f.built in
       ap (equal_refusal K d) f.parts
-      ∙ tested-refusal K d None (q.found ∷ q.wanted ∷ []) f.built b.1
+      ∙ tested-refusal K d None (q.found ∷ q.wanted ∷ [])
       ∙ ap (earlier (host_refusal K.scope [] q.found)) (earlier_none (host_refusal K.scope [] q.wanted))
 
   -- a fault of the host expressions
@@ -212,9 +208,7 @@ module _ (K : Known) (d : Sexp) (q : LeadingParts) (f : IsLeadingFit d q) where
   -- the refusal that is reported
   leading-reported : leading_refusal K d (leading_parts d) ≡ earlier (unknown_relation_by (relation_named K.program (text_of q.relation)) q.relation) hosts
   leading-reported =
-      let k = leading-items d q f.parts in
-      let b = parts-built d (k.head ∷ q.relation ∷ q.from ∷ q.wanted) k.are f.built in
-      ap (leading_refusal K d) f.parts ∙ tested-refusal K d (Some q.relation) (q.from ∷ q.wanted) f.built b.1.1
+      ap (leading_refusal K d) f.parts ∙ tested-refusal K d (Some q.relation) (q.from ∷ q.wanted)
 
   module _ (x : Result HostExpr DefFault) (y : Result (Vec HostExpr Global) DefFault)
       (a : ReadsHost K.scope [] q.from x) (b : ReadsHosts K.scope q.wanted y) where

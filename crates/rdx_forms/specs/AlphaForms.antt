@@ -3,12 +3,12 @@
 use Rattle.std.specs.Prelude.{List, [], ◌∷◌, Option, Some, None, option_map, if◌then◌else◌}
 use Rattle.rdx_sexp.specs.Sexp.{Sexp}
 use Rattle.rdx_patterns.specs.Parts.{parts, is_symbol, text_of}
-use Rattle.rdx_patterns.specs.Refusal.{Refusal, first_refusal}
-use Rattle.rdx_patterns.specs.Unbuilt.{unbuilt_at}
+use Rattle.rdx_patterns.specs.Refusal.{Refusal, unnamed, first_refusal}
+use Rattle.rdx_patterns.specs.declared.shape.fault.DefKind.TheVariants.{Shape}
 use Rattle.rdx_forms.specs.HostForms.{host_of_datum}
 use Rattle.rdx_forms.specs.Known.{Known}
 use Rattle.rdx_forms.specs.LanguageForms.{unknown_at}
-use Rattle.rdx_forms.specs.TestForms.{hosts_shape_at, bad_hosts_at, undriven_hosts_at, hosts_escape_at, misshaped_test}
+use Rattle.rdx_forms.specs.TestForms.{hosts_shape_at, bad_hosts_at, undriven_hosts_at, hosts_escape_at}
 use Rattle.rdx_answer.specs.Bound.{forms_named}
 use Rattle.rdx_answer.specs.Queries.{Query, alike, substituted}
 
@@ -49,21 +49,20 @@ put_parts d = put_among (parts d)
 abbrev pub bound_refusal_over : Known → Sexp → Sexp → List Sexp → Option Refusal
 bound_refusal_over K d l hs =
     first_refusal
-    (unbuilt_at d  -- S0
-    ∷ hosts_shape_at hs  -- S1
+    (hosts_shape_at hs  -- S1
     ∷ unknown_at K (Some l)  -- S2
     ∷ bad_hosts_at K hs  -- S5
     ∷ undriven_hosts_at K hs  -- S9
     ∷ hosts_escape_at K hs  -- S10
     ∷ [])
 
--- the refusal of a form with these parts; of one without, S0 and S1
+-- the refusal of a form with these parts; S1 of one without
 abbrev pub alike_refusal : Known → Sexp → Option AlikeParts → Option Refusal
-alike_refusal K d None = misshaped_test d
+alike_refusal K d None = Some (unnamed Shape d)
 alike_refusal K d (Some q) = bound_refusal_over K d q.language (q.one ∷ q.other ∷ [])
 
 abbrev pub put_refusal : Known → Sexp → Option PutParts → Option Refusal
-put_refusal K d None = misshaped_test d
+put_refusal K d None = Some (unnamed Shape d)
 put_refusal K d (Some q) = bound_refusal_over K d q.language (q.whole ∷ q.symbol ∷ q.value ∷ [])
 
 -- ---- what is asked

@@ -11,7 +11,6 @@ use Rattle.rdx_patterns.specs.Parts.{text_of}
 use Rattle.rdx_patterns.specs.PatternRefusal.{keyword_at, bad_binder_at, bad_occurrence_at, depth_clash_at, escape_at}
 use Rattle.rdx_patterns.specs.Reading.{reading}
 use Rattle.rdx_patterns.specs.Refusal.{Refusal, unnamed, named, or_else, first_refusal}
-use Rattle.rdx_patterns.specs.Unbuilt.{unbuilt_at}
 use Rattle.rdx_patterns.specs.declared.shape.fault.DefKind.TheVariants.{Shape, UnknownLanguage, BadPattern}
 use Rattle.rdx_patterns.specs.declared.patterns.position.Position.TheVariants as position
 use Rattle.rdx_forms.specs.DefineParts.{DefineParts, ClosureParts, closure_parts, with_symbol}
@@ -57,11 +56,7 @@ no_nonterminal_at ns e = if is_among ns (text_of e) then None else Some (unnamed
 
 -- the refusal of the form d whose list has not its parts
 abbrev pub misshaped_refusal : Sexp → DefineParts → Option Refusal
-misshaped_refusal d q =
-    first_refusal
-    (unbuilt_at d  -- S0
-    ∷ closure_shape_at d q.body q.rest None  -- S1
-    ∷ [])
+misshaped_refusal d q = closure_shape_at d q.body q.rest None  -- S1
 
 -- ---- closures by contexts that a pattern matches
 
@@ -69,8 +64,7 @@ misshaped_refusal d q =
 abbrev pub context_refusal_over : Known → Sexp → DefineParts → ClosureParts → List (List ℕ) → List Occurrence → Option Refusal
 context_refusal_over K d q c ns os =
     first_refusal
-    (unbuilt_at d  -- S0
-    ∷ closure_shape_at d q.body q.rest (Some c)  -- S1
+    (closure_shape_at d q.body q.rest (Some c)  -- S1
     ∷ keyword_at os  -- S1
     ∷ closure_language_at K c  -- S2
     ∷ name_taken_at K q.name  -- S3
@@ -108,8 +102,7 @@ abbrev pub compatible_refusal_by : Known → Sexp → DefineParts → Option Clo
 compatible_refusal_by K d q None = misshaped_refusal d q
 compatible_refusal_by K d q (Some c) =
     first_refusal
-    (unbuilt_at d  -- S0
-    ∷ closure_shape_at d q.body q.rest (Some c)  -- S1
+    (closure_shape_at d q.body q.rest (Some c)  -- S1
     ∷ closure_language_at K c  -- S2
     ∷ name_taken_at K q.name  -- S3
     ∷ bad_relation_at q.name  -- S4

@@ -1,9 +1,8 @@
 -- Forms that define a relation: when they are refused, and what they define else. A `define` of anything else is Racket that means nothing here.
-use Rattle.std.specs.Prelude.{[], ◌∷◌, Option, Some, None}
+use Rattle.std.specs.Prelude.{Option, Some, None}
 use Rattle.rdx_sexp.specs.Sexp.{Sexp}
 use Rattle.rdx_lang.specs.Programs.{Relation}
-use Rattle.rdx_patterns.specs.Refusal.{Refusal, unnamed, first_refusal}
-use Rattle.rdx_patterns.specs.Unbuilt.{unbuilt_at}
+use Rattle.rdx_patterns.specs.Refusal.{Refusal, unnamed}
 use Rattle.rdx_patterns.specs.declared.shape.fault.DefKind.TheVariants.{RacketEscape}
 use Rattle.rdx_forms.specs.ClosureForms.{context_refusal, context_relation, compatible_refusal, compatible_relation}
 use Rattle.rdx_forms.specs.DefineParts.{DefineKind, by_cases, by_contexts, by_crosses, DefineParts, define_parts}
@@ -18,9 +17,7 @@ kind_refusal K d q by_crosses = compatible_refusal K d q
 
 -- by its parts, where it has them
 abbrev pub define_refusal_by : Known → Sexp → Option DefineParts → Option Refusal
-define_refusal_by K d None = first_refusal (unbuilt_at d  -- S0
-    ∷ Some (unnamed RacketEscape d)  -- S10
-    ∷ [])
+define_refusal_by K d None = Some (unnamed RacketEscape d)  -- S10
 define_refusal_by K d (Some q) = kind_refusal K d q q.kind
 
 -- the refusal of `(define ...)`

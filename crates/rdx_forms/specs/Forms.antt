@@ -18,7 +18,7 @@ use Rattle.rdx_forms.specs.JudgementForms.{define_judgement_refusal, defined_jud
 use Rattle.rdx_forms.specs.LanguageForms.{plain_refusal, plain_language, extension_refusal, extended_language, language_escape}
 use Rattle.rdx_forms.specs.MatchForms.{query_parts, query_refusal, match_query}
 use Rattle.rdx_forms.specs.MetafunctionForms.{function_refusal, defined_function}
-use Rattle.rdx_forms.specs.PassedForms.{wants_refusal, offers_refusal}
+use Rattle.rdx_forms.specs.PassedForms.{wants_refusal}
 use Rattle.rdx_forms.specs.Reported.{earlier}
 use Rattle.rdx_answer.specs.Queries.{Query, matches, whether, splits, reducts, tagged, stepper, test_step, test_run, test_match, test_results}
 use Rattle.rdx_forms.specs.StepForms.{step_parts, steps_refusal, steps_query}
@@ -102,7 +102,7 @@ asked_query K d kind.test_results = Some test_results
 -- the refusal of such a form
 abbrev pub passed_refusal : Sexp → PassedKind → Option Refusal
 passed_refusal d kind.wants = wants_refusal d
-passed_refusal d kind.offers = offers_refusal d
+passed_refusal d kind.offers = None
 
 -- ---- forms
 

@@ -9,7 +9,6 @@ use Rattle.rdx_patterns.specs.PatternChecks.{when}
 use Rattle.rdx_patterns.specs.PatternRefusal.{keyword_at, bad_binder_at, bad_occurrence_at, depth_clash_at, escape_at}
 use Rattle.rdx_patterns.specs.Reading.{reading}
 use Rattle.rdx_patterns.specs.Refusal.{Refusal, unnamed, named, or_else, first_refusal}
-use Rattle.rdx_patterns.specs.Unbuilt.{unbuilt_at}
 use Rattle.rdx_patterns.specs.declared.shape.fault.DefKind.TheVariants.{Shape, EllipsisDepth, EllipsisVariable}
 use Rattle.rdx_patterns.specs.declared.patterns.position.Position.TheVariants as position
 use Rattle.rdx_templates.specs.Bound.{Bound}
@@ -132,8 +131,7 @@ check_undriven_at K bs ps = option_map (unnamed EllipsisVariable) (earliest star
 abbrev pub generate_refusal : Known → Sexp → Option GenerateParts → Option Refusal
 generate_refusal K d q =
     first_refusal
-    (unbuilt_at d  -- S0
-    ∷ generate_shape_at d q  -- S1
+    (generate_shape_at d q  -- S1
     ∷ unknown_at K (language_in q)  -- S2
     ∷ bad_binder_at (pattern_stands q)  -- S4
     ∷ bad_occurrence_at (names_over K q) (pattern_stands q)  -- S5
@@ -145,8 +143,7 @@ generate_refusal K d q =
 abbrev pub check_refusal : Known → Sexp → Option GenerateParts → Option Refusal
 check_refusal K d q =
     first_refusal
-    (unbuilt_at d  -- S0
-    ∷ check_shape_at d q  -- S1
+    (check_shape_at d q  -- S1
     ∷ unknown_at K (language_in q)  -- S2
     ∷ bad_binder_at (pattern_stands q)  -- S4
     ∷ or_else (bad_occurrence_at (names_over K q) (pattern_stands q)) (bad_host_at (host_stands K q))  -- S5

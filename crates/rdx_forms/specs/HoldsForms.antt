@@ -8,7 +8,6 @@ use Rattle.rdx_grammar.specs.Languages.{empty_language}
 use Rattle.rdx_patterns.specs.Nonterminals.{names_of}
 use Rattle.rdx_patterns.specs.Parts.{parts, text_of}
 use Rattle.rdx_patterns.specs.Refusal.{Refusal, first_refusal, named_at, unnamed}
-use Rattle.rdx_patterns.specs.Unbuilt.{unbuilt_at}
 use Rattle.rdx_patterns.specs.declared.shape.fault.DefKind.TheVariants.{Shape, UnknownLanguage}
 use Rattle.rdx_parts.specs.ExtraReading.{premise_reading}
 use Rattle.rdx_parts.specs.Headed.{Headed, headed}
@@ -82,8 +81,7 @@ asked_unknown_at K (Some q) = unfound_for K q.head (judgement_language K (text_o
 abbrev pub holds_refusal_over : Known → Sexp → Option Headed → List Stand → Option Refusal
 holds_refusal_over K d q ss =
     first_refusal
-    (unbuilt_at d  -- S0
-    ∷ shape_at ss  -- S1
+    (shape_at ss  -- S1
     ∷ asked_unknown_at K q  -- S2
     ∷ bad_name_at ss  -- S4
     ∷ bad_place_at K.scope (asked_names K q) ss  -- S5
@@ -96,9 +94,7 @@ holds_refusal_over K d q ss =
 
 -- the refusal of a form with these parts
 abbrev pub holds_refusal : Known → Sexp → Option HoldsParts → Option Refusal
-holds_refusal K d None = first_refusal (unbuilt_at d  -- S0
-    ∷ Some (unnamed Shape d)  -- S1
-    ∷ [])
+holds_refusal K d None = Some (unnamed Shape d)  -- S1
 holds_refusal K d (Some h) =
     holds_refusal_over K d (headed h.premise) (lone_premise_stands K.scope (asked_names K (headed h.premise)) h.premise h.result)
 

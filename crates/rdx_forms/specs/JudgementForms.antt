@@ -4,7 +4,6 @@ use Rattle.rdx_sexp.specs.Sexp.{Sexp}
 use Rattle.rdx_lang.specs.Programs.{Judgement}
 use Rattle.rdx_patterns.specs.Nonterminals.{names_of}
 use Rattle.rdx_patterns.specs.Refusal.{Refusal, first_refusal}
-use Rattle.rdx_patterns.specs.Unbuilt.{unbuilt_at}
 use Rattle.rdx_defs.specs.JudgementForms.{JudgementForm, judgement_form, judgement_in}
 use Rattle.rdx_defs.specs.JudgementReading.{judgement_reading}
 use Rattle.rdx_defs.specs.JudgementStands.{judgement_stands}
@@ -31,8 +30,7 @@ form_names K f = names_of (named_base K (form_language f))
 abbrev pub judgement_refusal_over : Known → Sexp → Option JudgementForm → List (List ℕ) → List Stand → Option Refusal
 judgement_refusal_over K d f ns ss =
     first_refusal
-    (unbuilt_at d  -- S0
-    ∷ shape_at ss  -- S1
+    (shape_at ss  -- S1
     ∷ unknown_at K (form_language f)  -- S2
     ∷ function_taken_at K (form_name f)  -- S3
     ∷ repeated_name_at ss  -- S3

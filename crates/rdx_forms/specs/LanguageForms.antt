@@ -7,7 +7,6 @@ use Rattle.rdx_grammar.specs.Languages.{empty_language, language_over}
 use Rattle.rdx_grammar.specs.Stands.{form_stands}
 use Rattle.rdx_patterns.specs.Parts.{parts, text_of}
 use Rattle.rdx_patterns.specs.Refusal.{Refusal, named, first_refusal}
-use Rattle.rdx_patterns.specs.Unbuilt.{unbuilt_at}
 use Rattle.rdx_grammar.specs.Refused.{shape_at, duplicate_at, bad_name_at, bad_pattern_at, depth_clash_at, escape_at, names_over}
 use Rattle.rdx_patterns.specs.declared.shape.fault.DefKind.TheVariants.{UnknownLanguage, Duplicate}
 use Rattle.rdx_lang.specs.Programs.{language_named}
@@ -56,8 +55,7 @@ taken_at K (Some g) = name_taken_at K g.name
 abbrev pub language_refusal : Known → Language → Option Sexp → Sexp → Option GrammarForm → Option Refusal
 language_refusal K base l0 d g =
     first_refusal
-    (unbuilt_at d  -- S0
-    ∷ shape_at (form_stands d g)  -- S1
+    (shape_at (form_stands d g)  -- S1
     ∷ unknown_at K l0  -- S2
     ∷ taken_at K g  -- S3
     ∷ duplicate_at (form_stands d g)  -- S3

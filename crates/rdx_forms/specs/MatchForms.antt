@@ -8,7 +8,6 @@ use Rattle.rdx_patterns.specs.Parts.{parts, is_symbol, text_of}
 use Rattle.rdx_patterns.specs.PatternRefusal.{keyword_at, bad_binder_at, bad_occurrence_at, depth_clash_at, escape_at}
 use Rattle.rdx_patterns.specs.Reading.{reading}
 use Rattle.rdx_patterns.specs.Refusal.{Refusal, unnamed, or_else, first_refusal}
-use Rattle.rdx_patterns.specs.Unbuilt.{unbuilt_at}
 use Rattle.rdx_patterns.specs.Occurrences.{Occurrence, occurrences}
 use Rattle.rdx_patterns.specs.declared.shape.fault.DefKind.TheVariants.{Shape}
 use Rattle.rdx_patterns.specs.declared.patterns.position.Position.TheVariants as position
@@ -76,8 +75,7 @@ query_escape_at os ps = or_else (escape_at os) (host_escape_at ps)
 abbrev pub query_refusal : Known → Sexp → Option QueryParts → Option Refusal
 query_refusal K d q =
     first_refusal
-    (unbuilt_at d  -- S0
-    ∷ query_shape_at d (checked_parts q)  -- S1
+    (query_shape_at d (checked_parts q)  -- S1
     ∷ unknown_at K (query_language q)  -- S2
     ∷ bad_binder_at (pattern_occurrences q)  -- S4
     ∷ bad_query_at (names_of (named_base K (query_language q))) (pattern_occurrences q) (query_host K q)  -- S5

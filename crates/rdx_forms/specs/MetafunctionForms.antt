@@ -4,7 +4,6 @@ use Rattle.rdx_sexp.specs.Sexp.{Sexp}
 use Rattle.rdx_lang.specs.Programs.{Metafunction}
 use Rattle.rdx_patterns.specs.Nonterminals.{names_of}
 use Rattle.rdx_patterns.specs.Refusal.{Refusal, first_refusal}
-use Rattle.rdx_patterns.specs.Unbuilt.{unbuilt_at}
 use Rattle.rdx_defs.specs.MetafunctionForms.{MetafunctionForm, metafunction_form, function_in}
 use Rattle.rdx_defs.specs.MetafunctionReading.{metafunction_reading}
 use Rattle.rdx_defs.specs.MetafunctionStands.{metafunction_stands}
@@ -35,8 +34,7 @@ function_names K m = names_of (named_base K (function_language m))
 abbrev pub function_refusal_over : Known → Sexp → Option MetafunctionForm → List (List ℕ) → List Stand → Option Refusal
 function_refusal_over K d m ns ss =
     first_refusal
-    (unbuilt_at d  -- S0
-    ∷ shape_at ss  -- S1
+    (shape_at ss  -- S1
     ∷ unknown_at K (function_language m)  -- S2
     ∷ function_taken_at K (function_name m)  -- S3
     ∷ bad_name_at ss  -- S4

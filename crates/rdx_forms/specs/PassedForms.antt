@@ -5,7 +5,6 @@ use Rattle.rdx_sexp.specs.Sexp.{Sexp}
 use Rattle.rdx_patterns.specs.Parts.{parts, is_symbol, text_of}
 use Rattle.rdx_patterns.specs.PatternChecks.{when}
 use Rattle.rdx_patterns.specs.Refusal.{Refusal, unnamed, first, first_refusal}
-use Rattle.rdx_patterns.specs.Unbuilt.{unbuilt_at}
 use Rattle.rdx_patterns.specs.declared.shape.fault.DefKind.TheVariants.{Shape, RacketEscape}
 
 -- the items behind the head of a list
@@ -34,11 +33,6 @@ other_modules ds = flat_map (λ d. when (is_symbol d && not (is_known_module (te
 abbrev pub wants_refusal : Sexp → Option Refusal
 wants_refusal d =
     first_refusal
-    (unbuilt_at d  -- S0
-    ∷ option_map (unnamed Shape) (first (unnamed_modules (wanted d)))  -- S1
+    (option_map (unnamed Shape) (first (unnamed_modules (wanted d)))  -- S1
     ∷ option_map (unnamed RacketEscape) (first (other_modules (wanted d)))  -- S10
     ∷ [])
-
--- the refusal of `(provide d ...)`
-abbrev pub offers_refusal : Sexp → Option Refusal
-offers_refusal d = unbuilt_at d  -- S0

@@ -6,7 +6,6 @@ use Rattle.rdx_patterns.specs.Names.{is_bad_name}
 use Rattle.rdx_patterns.specs.Nonterminals.{names_of}
 use Rattle.rdx_patterns.specs.Parts.{text_of}
 use Rattle.rdx_patterns.specs.Refusal.{Refusal, unnamed, named, first_refusal}
-use Rattle.rdx_patterns.specs.Unbuilt.{unbuilt_at}
 use Rattle.rdx_patterns.specs.declared.shape.fault.DefKind.TheVariants.{Shape, BadName}
 use Rattle.rdx_relations.specs.RelationForms.{relation_form}
 use Rattle.rdx_relations.specs.RelationReading.{relation_reading}
@@ -40,8 +39,7 @@ bad_relation_at x = if is_bad_name (text_of x) then Some (named BadName x) else 
 abbrev pub cases_refusal_over : Known → Sexp → DefineParts → List (List ℕ) → List Stand → Option Refusal
 cases_refusal_over K d q ns ss =
     first_refusal
-    (unbuilt_at d  -- S0
-    ∷ define_shape_at d q.rest ss  -- S1
+    (define_shape_at d q.rest ss  -- S1
     ∷ unknown_at K (relation_language q)  -- S2
     ∷ name_taken_at K q.name  -- S3
     ∷ repeated_name_at ss  -- S3

@@ -2,11 +2,10 @@
 use Rattle.std.specs.Prelude.{ℕ, Option, Some, None, nat_lt, if◌then◌else◌}
 use Rattle.rdx_patterns.specs.Refusal.{Refusal}
 use Rattle.rdx_patterns.specs.declared.shape.fault.DefKind.{DefKind}
-use Rattle.rdx_patterns.specs.declared.shape.fault.DefKind.TheVariants.{Unbuilt, Shape, UnknownLanguage, Duplicate, BadName, BadPattern, EllipsisDepth, LeftRecursive, UnknownName, EllipsisVariable, RacketEscape, Mode}
+use Rattle.rdx_patterns.specs.declared.shape.fault.DefKind.TheVariants.{Shape, UnknownLanguage, Duplicate, BadName, BadPattern, EllipsisDepth, LeftRecursive, UnknownName, EllipsisVariable, RacketEscape, Mode}
 
 -- the number of a check
 abbrev pub number : DefKind → ℕ
-number Unbuilt = 0
 number Shape = 1
 number UnknownLanguage = 2
 number Duplicate = 3

@@ -5,7 +5,6 @@ use Rattle.rdx_lang.specs.Programs.{Relation, relation_named}
 use Rattle.rdx_lang.specs.Templates.{Host}
 use Rattle.rdx_patterns.specs.Parts.{parts, is_symbol, text_of}
 use Rattle.rdx_patterns.specs.Refusal.{Refusal, unnamed, named, first_refusal}
-use Rattle.rdx_patterns.specs.Unbuilt.{unbuilt_at}
 use Rattle.rdx_patterns.specs.declared.shape.fault.DefKind.TheVariants.{Shape, UnknownName}
 use Rattle.rdx_templates.specs.TemplateOccurrences.{TemplatePart}
 use Rattle.rdx_forms.specs.HostForms.{parts_of_host, host_of_datum, host_shape_at, bad_host_at, undriven_host_at, host_escape_at}
@@ -61,8 +60,7 @@ unknown_relation_at K (Some q) = unknown_relation_by (relation_named K.program (
 abbrev pub steps_refusal : Known → Sexp → Option StepParts → Option Refusal
 steps_refusal K d q =
     first_refusal
-    (unbuilt_at d  -- S0
-    ∷ steps_shape_at d (checked_steps q)  -- S1
+    (steps_shape_at d (checked_steps q)  -- S1
     ∷ bad_host_at (steps_host K q)  -- S5
     ∷ unknown_relation_at K q  -- S8
     ∷ undriven_host_at K (steps_host K q)  -- S9

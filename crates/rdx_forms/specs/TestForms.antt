@@ -6,7 +6,6 @@ use Rattle.rdx_lang.specs.Programs.{relation_named}
 use Rattle.rdx_lang.specs.Templates.{Host}
 use Rattle.rdx_patterns.specs.Parts.{parts, is_symbol, text_of}
 use Rattle.rdx_patterns.specs.Refusal.{Refusal, unnamed, first_refusal}
-use Rattle.rdx_patterns.specs.Unbuilt.{unbuilt_at}
 use Rattle.rdx_patterns.specs.declared.shape.fault.DefKind.TheVariants.{Shape}
 use Rattle.rdx_forms.specs.HostForms.{parts_of_host, host_of_datum, host_shape_at, bad_host_at, undriven_host_at, host_escape_at}
 use Rattle.rdx_forms.specs.Known.{Known}
@@ -73,27 +72,20 @@ unknown_tested_at K (Some r) = unknown_relation_by (relation_named K.program (te
 abbrev pub test_refusal_over : Known → Sexp → Option Sexp → List Sexp → Option Refusal
 test_refusal_over K d r hs =
     first_refusal
-    (unbuilt_at d  -- S0
-    ∷ hosts_shape_at hs  -- S1
+    (hosts_shape_at hs  -- S1
     ∷ bad_hosts_at K hs  -- S5
     ∷ unknown_tested_at K r  -- S8
     ∷ undriven_hosts_at K hs  -- S9
     ∷ hosts_escape_at K hs  -- S10
     ∷ [])
 
--- the refusal of a form without its parts
-abbrev pub misshaped_test : Sexp → Option Refusal
-misshaped_test d = first_refusal (unbuilt_at d  -- S0
-    ∷ Some (unnamed Shape d)  -- S1
-    ∷ [])
-
--- the refusal of a form with these parts
+-- the refusal of a form with these parts, S1 where it has them not
 abbrev pub equal_refusal : Known → Sexp → Option EqualParts → Option Refusal
-equal_refusal K d None = misshaped_test d
+equal_refusal K d None = Some (unnamed Shape d)
 equal_refusal K d (Some q) = test_refusal_over K d None (q.found ∷ q.wanted ∷ [])
 
 abbrev pub leading_refusal : Known → Sexp → Option LeadingParts → Option Refusal
-leading_refusal K d None = misshaped_test d
+leading_refusal K d None = Some (unnamed Shape d)
 leading_refusal K d (Some q) = test_refusal_over K d (Some q.relation) (q.from ∷ q.wanted)
 
 -- S1: a form that counts tests has more than its head
@@ -103,9 +95,7 @@ counting_among d o = Some (unnamed Shape d)
 
 -- the refusal of a form that counts tests
 abbrev pub results_refusal : Sexp → Option Refusal
-results_refusal d = first_refusal (unbuilt_at d  -- S0
-    ∷ counting_among d (parts d)  -- S1
-    ∷ [])
+results_refusal d = counting_among d (parts d)
 
 -- ---- what is asked
 

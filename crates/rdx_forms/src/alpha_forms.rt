@@ -15,9 +15,8 @@ use crate::lookup::place_named;
 use crate::parts::{AlikeParts, PutParts, alike_parts, put_parts};
 use crate::refusals::misshaped;
 use rdx_lang::HostExpr;
-use rdx_patterns::refusal::{named, unnamed};
+use rdx_patterns::refusal::named;
 use rdx_patterns::shape::text;
-use rdx_patterns::unbuilt::has_word_to_come;
 use rdx_patterns::{DefFault, DefKind};
 use rdx_sexp::Datum;
 use rdx_term::Name;
@@ -57,16 +56,13 @@ fn known_name(alloc: Global, known: &Known, language: &Datum) -> Result<Name, De
     }
 }
 
-// The parts of a form that asks whether terms are alpha equivalent, where it has them and is built.
+// The parts of a form that asks whether terms are alpha equivalent, where it has them.
 fn check_alike(form: &Datum) -> Result<AlikeParts<'_>, DefFault>
     ensures { AlikeFitsBy form.now result }
 {
     let Some(parts) = alike_parts(form) else {
         return Err(DefFault::Refused(misshaped(form)));
     };
-    if has_word_to_come(form) {
-        return Err(DefFault::Refused(unnamed(DefKind::Unbuilt, form)));
-    }
     Ok(parts)
 }
 
@@ -85,16 +81,13 @@ pub fn read_alike(alloc: Global, known: &Known, form: &Datum) -> Result<Alike, D
     Ok(Alike { name, one, other })
 }
 
-// The parts of a form that puts a term for a symbol, where it has them and is built.
+// The parts of a form that puts a term for a symbol, where it has them.
 fn check_put(form: &Datum) -> Result<PutParts<'_>, DefFault>
     ensures { PutFitsBy form.now result }
 {
     let Some(parts) = put_parts(form) else {
         return Err(DefFault::Refused(misshaped(form)));
     };
-    if has_word_to_come(form) {
-        return Err(DefFault::Refused(unnamed(DefKind::Unbuilt, form)));
-    }
     Ok(parts)
 }
 

@@ -15,7 +15,6 @@ use crate::parts::{DefineKind, define_parts};
 use crate::relation_forms::define_by_cases;
 use rdx_lang::Relation;
 use rdx_patterns::refusal::unnamed;
-use rdx_patterns::unbuilt::has_word_to_come;
 use rdx_patterns::{DefFault, DefKind};
 use rdx_sexp::Datum;
 use std::alloc::Global;
@@ -30,9 +29,6 @@ pub fn define_relation(alloc: Global, known: &mut Known, form: &Datum) -> Result
     ensures fits { IfOk result (λ r. IsRelationOf (known_of known.old).program (relation_of r)) }
     ensures same { known_of known.new ≡ known_of known.old }
 {
-    if has_word_to_come(form) {
-        return Err(DefFault::Refused(unnamed(DefKind::Unbuilt, form)));
-    }
     let Some(parts) = define_parts(form) else {
         return Err(DefFault::Refused(unnamed(DefKind::RacketEscape, form)));
     };

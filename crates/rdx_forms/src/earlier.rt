@@ -12,7 +12,6 @@ fn number(kind: DefKind) -> u32
     ensures { result ≡ model.number kind }
 {
     match kind {
-        DefKind::Unbuilt => 0,
         DefKind::Shape => 1,
         DefKind::UnknownLanguage => 2,
         DefKind::Duplicate => 3,

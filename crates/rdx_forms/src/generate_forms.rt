@@ -35,7 +35,6 @@ use rdx_patterns::checks::{bound_by, first_bad_binder};
 use rdx_patterns::occurrences::{Occurrence, add_pattern};
 use rdx_patterns::refusal::{named, unnamed};
 use rdx_patterns::shape::{is_symbol, text};
-use rdx_patterns::unbuilt::has_word_to_come;
 use rdx_patterns::{DefFault, DefKind, Names, Position, read_pattern, symbol_name};
 use rdx_sexp::{Datum, Form};
 use rdx_templates::earliest::earlier;
@@ -107,8 +106,8 @@ fn sized_parts(form: &Datum) -> Option<GenerateParts<'_>>
     }
 }
 
-// The parts, where the form has them and is built.
-fn check_built<'a>(
+// The parts, where the form has them.
+fn check_shape<'a>(
     form: &Datum,
     parts: Option<GenerateParts<'a>>,
 ) -> Result<GenerateParts<'a>, DefFault>
@@ -117,9 +116,6 @@ fn check_built<'a>(
     let Some(parts) = parts else {
         return Err(DefFault::Refused(misshaped(form)));
     };
-    if has_word_to_come(form) {
-        return Err(DefFault::Refused(unnamed(DefKind::Unbuilt, form)));
-    }
     Ok(parts)
 }
 
@@ -305,7 +301,7 @@ pub fn read_generate(alloc: Global, known: &mut Known, form: &Datum) -> Result<G
     ensures asks { GenerateAskedBy (known_of known.old) form.now result }
     ensures same { known_of known.new ≡ known_of known.old }
 {
-    let parts = check_built(form, sized_parts(form))?;
+    let parts = check_shape(form, sized_parts(form))?;
     let numbers = read_generating(parts);
     match place_named(known, text(parts.language)) {
         Some(place) => {
@@ -337,7 +333,7 @@ pub fn read_check(alloc: Global, known: &mut Known, form: &Datum) -> Result<Chec
     ensures asks { CheckAskedBy (known_of known.old) form.now result }
     ensures same { known_of known.new ≡ known_of known.old }
 {
-    let parts = check_built(form, check_parts(form))?;
+    let parts = check_shape(form, check_parts(form))?;
     let numbers = read_checking(parts);
     match place_named(known, text(parts.language)) {
         Some(place) => {

@@ -24,24 +24,20 @@ use crate::parts::{HoldsParts, holds_parts, judgement_head, lone_parts};
 use crate::refusals::misshaped;
 use rdx_defs::{ReadPremise, read_premise, read_premise_over};
 use rdx_lang::Premise;
-use rdx_patterns::refusal::{named_at, unnamed};
+use rdx_patterns::refusal::named_at;
 use rdx_patterns::shape::text;
-use rdx_patterns::unbuilt::has_word_to_come;
 use rdx_patterns::{DefFault, DefKind, DefRefusal};
 use rdx_sexp::Datum;
 use rdx_term::NoMemory;
 use std::alloc::Global;
 
-// The parts of such a form, where it has them and is built.
+// The parts of such a form, where it has them.
 fn check_shape(form: &Datum) -> Result<HoldsParts<'_>, DefFault>
     ensures { HoldsFitsBy form.now result }
 {
     let Some(parts) = holds_parts(form) else {
         return Err(DefFault::Refused(misshaped(form)));
     };
-    if has_word_to_come(form) {
-        return Err(DefFault::Refused(unnamed(DefKind::Unbuilt, form)));
-    }
     Ok(parts)
 }
 

@@ -44,6 +44,6 @@ pub use known::Known;
 pub use language_forms::{define_extension, define_language};
 pub use match_forms::{Asked, read_query};
 pub use metafunction_forms::define_metafunction;
-pub use passed_forms::{check_offers, check_wants};
+pub use passed_forms::check_wants;
 pub use step_forms::{Stepping, read_steps};
 pub use test_forms::{Leading, Same, check_results, read_equal, read_leading};

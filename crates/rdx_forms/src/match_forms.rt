@@ -22,7 +22,6 @@ use crate::refusals::misshaped;
 use rdx_lang::{CheckedPat, HostExpr};
 use rdx_patterns::refusal::{named, unnamed};
 use rdx_patterns::shape::{is_symbol, text};
-use rdx_patterns::unbuilt::has_word_to_come;
 use rdx_patterns::{DefFault, DefKind, read_pattern, read_pattern_over};
 use rdx_sexp::Datum;
 use rdx_term::Name;
@@ -36,16 +35,13 @@ pub struct Asked {
     pub host: HostExpr,
 }
 
-// The parts of the query, where it has them and is built.
+// The parts of the query, where it has them.
 fn check_shape(form: &Datum) -> Result<QueryParts<'_>, DefFault>
     ensures { FitsBy form.now result }
 {
     let Some(parts) = query_parts(form) else {
         return Err(DefFault::Refused(misshaped(form)));
     };
-    if has_word_to_come(form) {
-        return Err(DefFault::Refused(unnamed(DefKind::Unbuilt, form)));
-    }
     if !is_symbol(parts.language) {
         return Err(DefFault::Refused(unnamed(DefKind::Shape, form)));
     }

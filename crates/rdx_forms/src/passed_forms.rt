@@ -7,7 +7,6 @@ ghost use Rattle.rdx_forms.specs.PassedForms as model;
 
 use rdx_patterns::refusal::unnamed;
 use rdx_patterns::shape::{is_symbol, items, text};
-use rdx_patterns::unbuilt::has_word_to_come;
 use rdx_patterns::{DefFault, DefKind};
 use rdx_sexp::Datum;
 
@@ -59,21 +58,8 @@ fn check_modules(modules: &[Datum]) -> Result<(), DefFault>
 pub fn check_wants(form: &Datum) -> Result<(), DefFault>
     ensures { IsRefusedBy (model.wants_refusal form.now) result }
 {
-    if has_word_to_come(form) {
-        return Err(DefFault::Refused(unnamed(DefKind::Unbuilt, form)));
-    }
     match items(form) {
         Some([_, modules @ ..]) => check_modules(modules),
         Some([]) | None => Ok(()),
     }
-}
-
-/// Lets a form pass that offers something, whatever that is.
-pub fn check_offers(form: &Datum) -> Result<(), DefFault>
-    ensures { IsRefusedBy (model.offers_refusal form.now) result }
-{
-    if has_word_to_come(form) {
-        return Err(DefFault::Refused(unnamed(DefKind::Unbuilt, form)));
-    }
-    Ok(())
 }

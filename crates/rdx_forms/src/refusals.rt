@@ -2,7 +2,6 @@
 ghost use Rattle.std.specs.Prelude.{◌≡◌, ◌∷◌, [], Some, IfOk, option_map};
 ghost use Rattle.rdx_patterns.specs.Refusal.{first_refusal, refusal_of};
 ghost use Rattle.rdx_patterns.specs.Refusal as places;
-ghost use Rattle.rdx_patterns.specs.Unbuilt.{unbuilt_at};
 ghost use Rattle.rdx_patterns.specs.declared.shape.fault.DefKind.TheVariants.{Shape};
 ghost use Rattle.rdx_forms.specs.LanguageForms.{unknown_at};
 ghost use Rattle.rdx_forms.specs.Inside.Defining.{taken_at_item};
@@ -12,21 +11,16 @@ use crate::known::Known;
 use crate::lookup::{is_taken, place_named};
 use rdx_patterns::refusal::{named, unnamed};
 use rdx_patterns::shape::text;
-use rdx_patterns::unbuilt::has_word_to_come;
 use rdx_patterns::{DefKind, DefRefusal};
 use rdx_sexp::Datum;
 use rdx_term::NoMemory;
 use std::alloc::Global;
 
-/// The refusal of a form that has not its shape, S1, unless a word in it is not built yet, S0.
+/// The refusal of a form that has not its shape, S1.
 pub(crate) fn misshaped(form: &Datum) -> DefRefusal
-    ensures { Some (refusal_of result) ≡ places.or_else (unbuilt_at form.now) (Some (places.unnamed Shape form.now)) }
+    ensures { refusal_of result ≡ places.unnamed Shape form.now }
 {
-    if has_word_to_come(form) {
-        unnamed(DefKind::Unbuilt, form)
-    } else {
-        unnamed(DefKind::Shape, form)
-    }
+    unnamed(DefKind::Shape, form)
 }
 
 /// The refusal of a name that is that of no language, S2.

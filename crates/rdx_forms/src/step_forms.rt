@@ -13,7 +13,6 @@ use crate::refusals::misshaped;
 use rdx_lang::HostExpr;
 use rdx_patterns::refusal::{named, unnamed};
 use rdx_patterns::shape::{is_symbol, text};
-use rdx_patterns::unbuilt::has_word_to_come;
 use rdx_patterns::{DefFault, DefKind};
 use rdx_sexp::Datum;
 use rdx_term::Name;
@@ -26,16 +25,13 @@ pub struct Stepping {
     pub host: HostExpr,
 }
 
-// The parts of such a form, where it has them and is built.
+// The parts of such a form, where it has them.
 fn check_shape(form: &Datum) -> Result<StepParts<'_>, DefFault>
     ensures { StepFitsBy form.now result }
 {
     let Some(parts) = step_parts(form) else {
         return Err(DefFault::Refused(misshaped(form)));
     };
-    if has_word_to_come(form) {
-        return Err(DefFault::Refused(unnamed(DefKind::Unbuilt, form)));
-    }
     if !is_symbol(parts.relation) {
         return Err(DefFault::Refused(unnamed(DefKind::Shape, form)));
     }

@@ -18,9 +18,8 @@ use crate::lookup::relation_named;
 use crate::parts::{EqualParts, LeadingParts, equal_parts, leading_parts};
 use crate::refusals::misshaped;
 use rdx_lang::HostExpr;
-use rdx_patterns::refusal::{named, unnamed};
+use rdx_patterns::refusal::named;
 use rdx_patterns::shape::{items, text};
-use rdx_patterns::unbuilt::has_word_to_come;
 use rdx_patterns::{DefFault, DefKind, DefRefusal};
 use rdx_sexp::Datum;
 use rdx_templates::Scope;
@@ -43,16 +42,13 @@ pub struct Leading {
     pub wanted: Vec<HostExpr>,
 }
 
-// The parts of a test of two host expressions, where it has them and is built.
+// The parts of a test of two host expressions, where it has them.
 fn check_equal(form: &Datum) -> Result<EqualParts<'_>, DefFault>
     ensures { EqualFitsBy form.now result }
 {
     let Some(parts) = equal_parts(form) else {
         return Err(DefFault::Refused(misshaped(form)));
     };
-    if has_word_to_come(form) {
-        return Err(DefFault::Refused(unnamed(DefKind::Unbuilt, form)));
-    }
     Ok(parts)
 }
 
@@ -68,16 +64,13 @@ pub fn read_equal(alloc: Global, known: &Known, form: &Datum) -> Result<Same, De
     Ok(Same { found, wanted })
 }
 
-// The parts of a test of a relation, where it has them and is built.
+// The parts of a test of a relation, where it has them.
 fn check_leading(form: &Datum) -> Result<LeadingParts<'_>, DefFault>
     ensures { LeadingFitsBy form.now result }
 {
     let Some(parts) = leading_parts(form) else {
         return Err(DefFault::Refused(misshaped(form)));
     };
-    if has_word_to_come(form) {
-        return Err(DefFault::Refused(unnamed(DefKind::Unbuilt, form)));
-    }
     Ok(parts)
 }
 
@@ -142,7 +135,7 @@ pub fn check_results(form: &Datum) -> Result<(), DefFault>
     ensures { IsRefusedBy (results_refusal form.now) result }
 {
     match items(form) {
-        Some([_]) if !has_word_to_come(form) => Ok(()),
+        Some([_]) => Ok(()),
         Some(_) | None => Err(DefFault::Refused(misshaped(form))),
     }
 }

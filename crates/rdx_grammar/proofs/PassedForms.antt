@@ -12,7 +12,6 @@ use Rattle.rdx_grammar.specs.Forms.{GrammarForm}
 use Rattle.rdx_grammar.specs.Languages.{language_over}
 use Rattle.rdx_patterns.specs.Refusal.{or_else, unnamed, refusal_of}
 use Rattle.rdx_grammar.specs.Refused.{refusal_over, shape_at, duplicate_at, bad_name_at, escape_at, by_recursion, by_escape}
-use Rattle.rdx_patterns.specs.Unbuilt.{unbuilt_at}
 use Rattle.rdx_grammar.specs.Stands.{form_stands}
 use Rattle.rdx_patterns.specs.declared.shape.fault.DefFault.{DefFault}
 use Rattle.rdx_patterns.specs.declared.shape.fault.DefFault.TheVariants.{Refused, NoMemory}
@@ -29,18 +28,13 @@ IsWellFormed-base (Some c) = c.well_formed
 -- what a form that passes defines has names
 pub AreNamedIn-refusal : (base : Language) (d : Sexp) (g : Option GrammarForm) → AreSpelledIn g → refusal_over base d g ≡ None → AreNamedIn g
 AreNamedIn-refusal base d g h e =
-    let f = (none_or (unbuilt_at d) _ e).1 in
-    let k = (none_or (shape_at (form_stands d g)) _ f).1 in
+    let k = (none_or (shape_at (form_stands d g)) _ e).1 in
     let l = (none_or (duplicate_at (form_stands d g)) _ k).1 in
     AreNamedIn-passed d g h (none_or (bad_name_at (form_stands d g)) _ l).0
 
 -- a form that passes has parts
 pub has_parts : (base : Language) (d : Sexp) → refusal_over base d None ≡ None → ⊥
-has_parts base d e = by_first (unbuilt_at d) e
-  where
-    by_first : (o : _) → or_else o (Some (unnamed Shape d)) ≡ None → ⊥
-    by_first None f = cc
-    by_first (Some r) f = cc
+has_parts base d e = let f : Some (unnamed Shape d) ≡ None = e in cc
 
 -- a form that passes, and whose language is free of left recursion, is refused for a list that would ask Racket
 pub ReadsForm-escape : (base : Language) (d : Sexp) (g : Option GrammarForm) (p : GrammarForm) (c : CheckedLang) (r : DefRefusal) → refusal_over base d g ≡ None → g ≡ Some p → ChecksRecursion (language_over base p) d (Ok c) → escape_at (form_stands d g) ≡ Some (refusal_of r) → ReadsForm base d g (Err (Refused r))

@@ -29,7 +29,6 @@ use Rattle.rdx_grammar.specs.Definitions.{Definition, definition_in}
 use Rattle.rdx_patterns.specs.Reading.{reading}
 use Rattle.rdx_patterns.specs.Refusal.{unnamed, named}
 use Rattle.rdx_grammar.specs.Refused.{refusal_over, shape_at, duplicate_at, bad_name_at, bad_pattern_at, depth_clash_at}
-use Rattle.rdx_patterns.specs.Unbuilt.{unbuilt_at}
 use Rattle.rdx_patterns.specs.declared.patterns.position.Position.TheVariants.{Grammar as InGrammar}
 use Rattle.rdx_patterns.specs.declared.shape.fault.DefKind.TheVariants.{BadName, BadPattern, EllipsisDepth}
 use Rattle.rdx_patterns.proofs.Among.{bytes_eq-sym, is_among-names}
@@ -128,8 +127,7 @@ Within-both xs ys zs f g x e = or_true (is_defined_among x xs) (is_defined_among
 are_distinct-names : (base : Language) (d : Sexp) (g : GrammarForm) → refusal_over base d (Some g) ≡ None → are_distinct (refs (names_in g.definitions)) ≡ true
 are_distinct-names base d g e =
     let ss = form_stands d (Some g) in
-    let f = (none_or (unbuilt_at d) _ e).1 in
-    let h = (none_or (shape_at ss) _ f).1 in
+    let h = (none_or (shape_at ss) _ e).1 in
     let k : duplicate_at ss ≡ None = (none_or (duplicate_at ss) _ h).0 in
     ap (λ (xs : List (List ℕ)). are_distinct (refs xs)) (sym (nonterminals_in-definitions g.definitions)) ∙ are_distinct-nonterminals ss k
 
@@ -139,8 +137,7 @@ passed-definitions base d g e =
     let ns = all_names base g.definitions in
     let ss = form_stands d (Some g) in
     let rs = definitions_stand g.definitions in
-    let f = (none_or (unbuilt_at d) _ e).1 in
-    let h = (none_or (shape_at ss) _ f).1 in
+    let h = (none_or (shape_at ss) _ e).1 in
     let k = none_or (duplicate_at ss) _ h in
     let l = none_or (bad_name_at ss) _ k.1 in
     let m = none_or (bad_pattern_at base ns ss) _ l.1 in

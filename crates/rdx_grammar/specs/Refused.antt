@@ -11,7 +11,6 @@ use Rattle.rdx_grammar.specs.Nonterminals.{all_names}
 use Rattle.rdx_patterns.specs.Nonterminals.{called}
 use Rattle.rdx_patterns.specs.Refusal.{Refusal, unnamed, named, named_at, first, first_refusal}
 use Rattle.rdx_grammar.specs.Stands.{Stand, form_stands}
-use Rattle.rdx_patterns.specs.Unbuilt.{unbuilt_at}
 use Rattle.rdx_patterns.specs.declared.shape.fault.DefKind.TheVariants.{Shape, Duplicate, BadName, BadPattern, EllipsisDepth, LeftRecursive, RacketEscape}
 
 -- ---- check by check: the first place at which each refuses
@@ -52,8 +51,7 @@ names_over base (Some g) = all_names base g.definitions
 abbrev pub refusal_over : Language → Sexp → Option GrammarForm → Option Refusal
 refusal_over base d g =
     first_refusal
-    (unbuilt_at d  -- S0
-    ∷ shape_at (form_stands d g)  -- S1
+    (shape_at (form_stands d g)  -- S1
     ∷ duplicate_at (form_stands d g)  -- S3
     ∷ bad_name_at (form_stands d g)  -- S4
     ∷ bad_pattern_at base (names_over base g) (form_stands d g)  -- S5

@@ -40,20 +40,18 @@ pub none_of : (o : Option Refusal) (os : List (Option Refusal)) → first_refusa
 none_of o os e = none_or o (first_refusal os) e
 
 -- the first of several checks, where the early ones refuse nothing
-pub late_of : (u s d b : Option Refusal) (os : List (Option Refusal)) → u ≡ None → first_refusal (s ∷ d ∷ b ∷ []) ≡ None → first_refusal (u ∷ s ∷ d ∷ b ∷ os) ≡ first_refusal os
-late_of None None None None os e f = refl
-late_of None None None (Some x) os e f = absurd cc
-late_of None None (Some x) b os e f = absurd cc
-late_of None (Some x) d b os e f = absurd cc
-late_of (Some x) s d b os e f = absurd cc
+pub late_of : (s d b : Option Refusal) (os : List (Option Refusal)) → first_refusal (s ∷ d ∷ b ∷ []) ≡ None → first_refusal (s ∷ d ∷ b ∷ os) ≡ first_refusal os
+late_of None None None os e = refl
+late_of None None (Some x) os e = absurd cc
+late_of None (Some x) b os e = absurd cc
+late_of (Some x) d b os e = absurd cc
 
--- the refusal of the early checks, where the first one refuses nothing
-pub early_of : (u s d b : Option Refusal) (os : List (Option Refusal)) (r : Refusal) → u ≡ None → Some r ≡ first_refusal (s ∷ d ∷ b ∷ []) → Some r ≡ first_refusal (u ∷ s ∷ d ∷ b ∷ os)
-early_of None None None None os r e f = absurd cc
-early_of None None None (Some x) os r e f = f
-early_of None None (Some x) b os r e f = f
-early_of None (Some x) d b os r e f = f
-early_of (Some x) s d b os r e f = absurd cc
+-- the refusal of the early checks is that of all
+pub early_of : (s d b : Option Refusal) (os : List (Option Refusal)) (r : Refusal) → Some r ≡ first_refusal (s ∷ d ∷ b ∷ []) → Some r ≡ first_refusal (s ∷ d ∷ b ∷ os)
+early_of None None None os r e = absurd cc
+early_of None None (Some x) os r e = e
+early_of None (Some x) b os r e = e
+early_of (Some x) d b os r e = e
 
 -- a list without a first member is empty
 pub none-empty : {A : Type 0} (xs : List A) → first xs ≡ None → xs ≡ []

@@ -21,7 +21,6 @@ use Rattle.rdx_patterns.specs.Names.{begins_with_dots}
 use Rattle.rdx_patterns.specs.Readable.{IsReadable}
 use Rattle.rdx_patterns.specs.Reading.{reading, items_among}
 use Rattle.rdx_patterns.specs.Refusal.{unnamed, named}
-use Rattle.rdx_patterns.specs.Unbuilt.{unbuilt_at}
 use Rattle.rdx_patterns.specs.declared.patterns.position.Position.{Position}
 use Rattle.rdx_patterns.specs.declared.patterns.position.Position.TheVariants.{Query}
 use Rattle.rdx_patterns.specs.declared.shape.fault.DefKind.TheVariants.{BadName, BadPattern, EllipsisDepth}
@@ -111,8 +110,7 @@ pub fitting-pattern : (ns : List (List ℕ)) (d : Sexp) → IsReadable d → pat
     → has_fitting_names (reading ns Query d) ≡ true
 fitting-pattern ns d r e =
     let os = occurrences 0 d in
-    let f = none_or (unbuilt_at d) _ e in
-    let k = none_or (keyword_at os) _ f.1 in
+    let k = none_or (keyword_at os) _ e in
     let l = none_or (bad_binder_at os) _ k.1 in
     let m = none_or (bad_occurrence_at ns os) _ l.1 in
     let n = none_or (depth_clash_at ns os) _ m.1 in

@@ -25,7 +25,6 @@ use Rattle.rdx_patterns.specs.PatternRefusal.{keyword_at, bad_binder_at, bad_occ
 use Rattle.rdx_patterns.specs.Readable.{IsReadable}
 use Rattle.rdx_patterns.specs.Reading.{reading, items_among}
 use Rattle.rdx_patterns.specs.Refusal.{unnamed}
-use Rattle.rdx_patterns.specs.Unbuilt.{unbuilt_at}
 use Rattle.rdx_patterns.specs.declared.patterns.position.Position.TheVariants.{Query}
 use Rattle.rdx_patterns.specs.declared.shape.fault.DefKind.TheVariants.{BadPattern}
 use Rattle.rdx_patterns.proofs.Among.{is_among-names}
@@ -116,8 +115,7 @@ module _ (L : Language) (es : List (List ℕ)) where
   pattern_well_formed d r i e =
       let os = occurrences 0 d in
       let p = reading (names_of L) Query d in
-      let f = none_or (unbuilt_at d) _ e in
-      let k = none_or (keyword_at os) _ f.1 in
+      let k = none_or (keyword_at os) _ e in
       let l = none_or (bad_binder_at os) _ k.1 in
       let m = none_or (bad_occurrence_at (names_of L) os) _ l.1 in
       and_both (has_known_nonterminals (defined (crossed_for es L)) p) (has_fitting_names p)

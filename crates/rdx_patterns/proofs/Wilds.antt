@@ -20,7 +20,6 @@ use Rattle.rdx_patterns.specs.PatternRefusal.{keyword_at, bad_binder_at, bad_occ
 use Rattle.rdx_patterns.specs.Reading.{base, base_of, suffixed, other_symbol, by_base, symbol_reading, name_in, only, bound_to, prefixed, across_itself, names_among, ellipsis_behind, item_slot, with_item, role_items, assembled, reading, items_among}
 use Rattle.rdx_patterns.specs.Refusal.{unnamed}
 use Rattle.rdx_patterns.specs.Refusal as refusing
-use Rattle.rdx_patterns.specs.Unbuilt.{unbuilt_at}
 use Rattle.rdx_patterns.specs.declared.patterns.position.Position.{Position}
 use Rattle.rdx_patterns.specs.declared.patterns.position.Position.TheVariants.{Grammar, Query}
 use Rattle.rdx_patterns.specs.declared.shape.fault.DefKind.TheVariants.{Shape, BadName, BadPattern, RacketEscape}
@@ -293,8 +292,7 @@ module _ (ns : List (List ℕ)) (pos : Position) where
 pub wilds_are_written : WildsAreWritten
 wilds_are_written ns pos d h e =
     let os = occurrences 0 d in
-    let f = none_or (unbuilt_at d) _ e in
-    let k = none_or (keyword_at os) _ f.1 in
+    let k = none_or (keyword_at os) _ e in
     let l = none_or (bad_binder_at os) _ k.1 in
     let m = none_or (bad_occurrence_at ns os) _ l.1 in
     let keys = nothing (unnamed Shape) (keyword_faults os) k.0 in

@@ -1,7 +1,6 @@
 pub mod Parts
 pub mod Names
 pub mod Refusal
-pub mod Unbuilt
 pub mod Heads
 pub mod HeadView
 pub mod Occurrences

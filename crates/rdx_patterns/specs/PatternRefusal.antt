@@ -4,7 +4,6 @@ use Rattle.rdx_sexp.specs.Sexp.{Sexp}
 use Rattle.rdx_patterns.specs.Occurrences.{Occurrence, occurrences}
 use Rattle.rdx_patterns.specs.PatternChecks.{keyword_faults, bad_binders, bad_occurrences, depth_clashes, escapes}
 use Rattle.rdx_patterns.specs.Refusal.{Refusal, unnamed, named, first, first_refusal}
-use Rattle.rdx_patterns.specs.Unbuilt.{unbuilt_at}
 use Rattle.rdx_patterns.specs.declared.shape.fault.DefKind.TheVariants.{Shape, BadName, BadPattern, EllipsisDepth, RacketEscape}
 use Rattle.rdx_patterns.specs.declared.patterns.position.Position.TheVariants.{Query}
 
@@ -32,8 +31,7 @@ escape_at os = option_map (unnamed RacketEscape) (first (escapes os))
 abbrev pub pattern_refusal : List (List ℕ) → Sexp → Option Refusal
 pattern_refusal ns d =
     first_refusal
-    (unbuilt_at d  -- S0
-    ∷ keyword_at (occurrences 0 d)  -- S1
+    (keyword_at (occurrences 0 d)  -- S1
     ∷ bad_binder_at (occurrences 0 d)  -- S4
     ∷ bad_occurrence_at ns (occurrences 0 d)  -- S5
     ∷ depth_clash_at ns (occurrences 0 d)  -- S6

@@ -2,13 +2,13 @@
 //!
 //! A datum outside grammars gives a checked pattern, or is refused at the first place of the check with the least number that refuses it. What
 //! patterns mean follows the Redex reference manual ("Patterns"). The crate also has what `rdx_grammar`, which reads the forms of languages, and
-//! the crates above it want of data: their shape, names, words that are not built yet, and refusals.
+//! the crates above it want of data: their shape, names, and refusals.
 //!
 //! In a list of patterns an ellipsis, `...` or `..._x`, repeats the pattern right before it, and `..._x` names the number of turns. One that
 //! is first, or right behind another one, is refused. So is a list headed by `unquote` or `side-condition`, which would ask Racket.
 //!
-//! The README names the definition of each check. The modules stand on each other in this order: [`shape`] (data by their shape, names, words
-//! that are not built yet, refusals at data), lookup (a map of definitions), crosses (languages with cross nonterminals), patterns.
+//! The README names the definition of each check. The modules stand on each other in this order: [`shape`] (data by their shape, names,
+//! refusals at data), lookup (a map of definitions), crosses (languages with cross nonterminals), patterns.
 #![tactic(auto)]
 
 mod crosses;
@@ -23,4 +23,4 @@ pub use patterns::{
     Names, Position, add_ends, called, checks, ends_in, heads, kind, language_names, occurrences,
     read_pattern, read_pattern_over, readings, symbol_name,
 };
-pub use shape::{DefFault, DefKind, DefRefusal, names, refusal, unbuilt};
+pub use shape::{DefFault, DefKind, DefRefusal, names, refusal};

@@ -4,7 +4,6 @@ mod data;
 mod fault;
 pub mod names;
 pub mod refusal;
-pub mod unbuilt;
 
 pub use data::{are_symbols, is_symbol, is_word, items, symbol, text};
 pub use fault::{DefFault, DefKind, DefRefusal};

@@ -11,7 +11,6 @@ use Rattle.rdx_patterns.specs.Parts.{text_of}
 use Rattle.rdx_patterns.specs.Refusal.{or_else}
 use Rattle.rdx_grammar.specs.Refused as grammar
 use Rattle.rdx_grammar.specs.Stands.{form_stands}
-use Rattle.rdx_patterns.specs.Unbuilt.{unbuilt_at}
 use Rattle.rdx_defs.specs.JudgementForms.{JudgementForm, judgement_form, judgement_in}
 use Rattle.rdx_defs.specs.JudgementReading.{judgement_reading}
 use Rattle.rdx_defs.specs.JudgementStands.{judgement_stands}
@@ -62,8 +61,7 @@ pub language-parts : (K : Known) (base : Language) (l0 : Option Sexp) (d : Sexp)
 language-parts K base l0 d None L r m = absurd cc
 language-parts K base l0 d (Some g) L r m =
     let ss = form_stands d (Some g) in
-    let a = (none_or (unbuilt_at d) _ r).1 in
-    let b = (none_or (grammar.shape_at ss) _ a).1 in
+    let b = (none_or (grammar.shape_at ss) _ r).1 in
     let c = (none_or (unknown_at K l0) _ b).1 in
     let e = none_or (taken_at K (Some g)) _ c in
     let f = (none_or (grammar.duplicate_at ss) _ e.1).1 in
@@ -91,8 +89,7 @@ function-parts K d (Some p) F e r m =
     let S = K.scope in
     let ns = function_names K (Some p) in
     let ss = metafunction_stands S ns d (Some p) in
-    let a = none_or (unbuilt_at d) _ r in
-    let b = none_or (shape_at ss) _ a.1 in
+    let b = none_or (shape_at ss) _ r in
     let c = none_or (unknown_at K (Some p.language)) _ b.1 in
     let f = none_or (function_taken_at K (function_in p)) _ c.1 in
     let stands : stands_refusal S ns ss ≡ None = nameless-refusal S ns ss (of_function S ns p (function_in p)) ∙ (λ i. or_else (b.0 i) (f.1 i)) in
@@ -124,8 +121,7 @@ judgement-parts K d (Some p) J e r m =
     let S = K.scope in
     let ns = form_names K (Some p) in
     let ss = judgement_stands S ns d (Some p) in
-    let a = none_or (unbuilt_at d) _ r in
-    let b = none_or (shape_at ss) _ a.1 in
+    let b = none_or (shape_at ss) _ r in
     let c = none_or (unknown_at K (Some p.language)) _ b.1 in
     let f = none_or (function_taken_at K (judgement_in p)) _ c.1 in
     let stands : stands_refusal S ns ss ≡ None = λ i. or_else (b.0 i) (f.1 i) in
@@ -161,8 +157,7 @@ cases-parts K d q R r m =
     let ns = relation_names K q in
     let ss = relation_stands S ns q.body (relation_form q.body) in
     let v = image-of (relation_reading S ns (text_of q.name)) (relation_form q.body) R m in
-    let a = none_or (unbuilt_at d) _ r in
-    let b = none_or (define_shape_at d q.rest ss) _ a.1 in
+    let b = none_or (define_shape_at d q.rest ss) _ r in
     let c = none_or (unknown_at K (relation_language q)) _ b.1 in
     let f = none_or (name_taken_at K q.name) _ c.1 in
     let h = none_or (repeated_name_at ss) _ f.1 in

@@ -24,7 +24,6 @@ use Rattle.rdx_patterns.specs.Readable.{IsReadable}
 use Rattle.rdx_patterns.specs.Refusal.{or_else}
 use Rattle.rdx_grammar.specs.Refused.{shape_at, refusal_over}
 use Rattle.rdx_grammar.specs.Stands.{form_stands}
-use Rattle.rdx_patterns.specs.Unbuilt.{unbuilt_at}
 use Rattle.rdx_eval.specs.Laws.{AreFree}
 use Rattle.rdx_answer.specs.Queries.{Query}
 use Rattle.rdx_forms.specs.BindingParts.{binding_refusal, grammar_part}
@@ -67,11 +66,10 @@ base-formed K (Some l) w = found-formed K.program.languages (text_of l) w (langu
 passed-alone : (K : Known) (base : Language) (l0 : Option Sexp) (d : Sexp) (o : Option GrammarForm) → language_refusal K base l0 d o ≡ None
     → refusal_over base d o ≡ None
 passed-alone K base l0 d o e =
-    let a = none_or (unbuilt_at d) _ e in
-    let b = none_or (shape_at (form_stands d o)) _ a.1 in
+    let b = none_or (shape_at (form_stands d o)) _ e in
     let c = none_or (unknown_at K l0) _ b.1 in
     let f = none_or (taken_at K o) _ c.1 in
-    λ i. or_else (a.0 i) (or_else (b.0 i) (f.1 i))
+    λ i. or_else (b.0 i) (f.1 i)
 
 -- the language of a form over a base
 form-formed : (K : Known) (base : Language) (l0 : Option Sexp) (d : Sexp) (o : Option GrammarForm) (L : Language) → IsWellFormed base → AreSpelledIn o

@@ -13,9 +13,8 @@ use Rattle.rdx_patterns.specs.Parts.{text_of}
 use Rattle.rdx_patterns.specs.PatternRefusal.{keyword_at, bad_binder_at, bad_occurrence_at, depth_clash_at, escape_at}
 use Rattle.rdx_patterns.specs.Reading.{reading}
 use Rattle.rdx_patterns.specs.Refusal.{Refusal, unnamed, or_else, first_refusal}
-use Rattle.rdx_patterns.specs.Unbuilt.{unbuilt_at}
 use Rattle.rdx_grammar.specs.Refused.{recursion_at}
-use Rattle.rdx_patterns.specs.declared.shape.fault.DefKind.TheVariants.{Shape, RacketEscape}
+use Rattle.rdx_patterns.specs.declared.shape.fault.DefKind.TheVariants.{Shape}
 use Rattle.rdx_patterns.specs.declared.patterns.position.Position.TheVariants as position
 use Rattle.rdx_templates.specs.Earliest.{start}
 use Rattle.rdx_parts.specs.Headed.{Headed, headed}
@@ -64,14 +63,9 @@ use Rattle.rdx_query.proofs.OneReading.{accepts-scope, accepts-languages, accept
 
 -- ---- what passes has its parts
 
--- where a check refuses, all are not passed, whatever comes before it
-not_passed : (o : Option Refusal) (r : Refusal) → or_else o (Some r) ≡ None → ⊥
-not_passed None r e = absurd cc
-not_passed (Some q) r e = absurd cc
-
 -- a form that defines a language has the parts of one
 language-parts : (K : Known) (base : Language) (l0 : Option Sexp) (d : Sexp) (g : Option GrammarForm) → language_refusal K base l0 d g ≡ None → HasValue GrammarForm g
-language-parts K base l0 d None e = absurd (not_passed (unbuilt_at d) (unnamed Shape d) e)
+language-parts K base l0 d None e = absurd cc
 language-parts K base l0 d (Some g) e = record { value = g; is = refl }
 
 -- a form that defines a relation by cases has a list with the parts of one
@@ -79,17 +73,17 @@ list-parts : (K : Known) (d : Sexp) (q : DefineParts) (ns : List (List ℕ)) (o 
 list-parts K d q ns None e = by_rest q.rest e
   where
     by_rest : (ds : List Sexp) → cases_refusal_over K d (record { kind = q.kind; name = q.name; body = q.body; rest = ds }) ns (relation_stands K.scope ns q.body None) ≡ None → HasValue RelationForm None
-    by_rest [] f = absurd (not_passed (unbuilt_at d) (unnamed Shape q.body) f)
-    by_rest (c ∷ ds) f = absurd (not_passed (unbuilt_at d) (unnamed Shape d) f)
+    by_rest [] f = absurd cc
+    by_rest (c ∷ ds) f = absurd cc
 list-parts K d q ns (Some r) e = record { value = r; is = refl }
 
 -- one that defines a closure has the parts of one
 has_parts : (d : Sexp) (q : DefineParts) → misshaped_refusal d q ≡ None → ⊥
 has_parts d q e = by_rest q.rest e
   where
-    by_rest : (ds : List Sexp) → first_refusal (unbuilt_at d ∷ closure_shape_at d q.body ds None ∷ []) ≡ None → ⊥
-    by_rest [] f = not_passed (unbuilt_at d) (unnamed Shape q.body) f
-    by_rest (c ∷ ds) f = not_passed (unbuilt_at d) (unnamed Shape d) f
+    by_rest : (ds : List Sexp) → closure_shape_at d q.body ds None ≡ None → ⊥
+    by_rest [] f = absurd cc
+    by_rest (c ∷ ds) f = absurd cc
 
 -- and closes a relation that is known
 context-parts : (K : Known) (d : Sexp) (q : DefineParts) (o : Option ClosureParts) → context_refusal_by K d q o ≡ None → HasValue Relation (context_relation_by K q o)
@@ -98,21 +92,21 @@ context-parts K d q (Some c) e =
     let ns = closure_names K c in
     let os = occurrences 0 c.by in
     let checks : List (Option Refusal) =
-    unbuilt_at d ∷ closure_shape_at d q.body q.rest (Some c) ∷ keyword_at os ∷ closure_language_at K c ∷ name_taken_at K q.name ∷ bad_relation_at q.name
+    closure_shape_at d q.body q.rest (Some c) ∷ keyword_at os ∷ closure_language_at K c ∷ name_taken_at K q.name ∷ bad_relation_at q.name
     ∷ bad_binder_at os ∷ bad_occurrence_at ns os ∷ depth_clash_at ns os ∷ unknown_closed_at K c ∷ escape_at os ∷ []
     in
     mapped (context_closure (reading ns position.Query c.by) (text_of q.name)) (closed_relation K c)
-    (relation-found (closed_relation K c) c.relation (none-at 9 checks e))
+    (relation-found (closed_relation K c) c.relation (none-at 8 checks e))
 
 compatible-parts : (K : Known) (d : Sexp) (q : DefineParts) (o : Option ClosureParts) → compatible_refusal_by K d q o ≡ None → HasValue Relation (compatible_relation_by K q o)
 compatible-parts K d q None e = absurd (has_parts d q e)
 compatible-parts K d q (Some c) e =
     let checks : List (Option Refusal) =
-    unbuilt_at d ∷ closure_shape_at d q.body q.rest (Some c) ∷ closure_language_at K c ∷ name_taken_at K q.name ∷ bad_relation_at q.name
+    closure_shape_at d q.body q.rest (Some c) ∷ closure_language_at K c ∷ name_taken_at K q.name ∷ bad_relation_at q.name
     ∷ no_nonterminal_at (closure_names K c) c.by ∷ unknown_closed_at K c ∷ []
     in
     mapped (compatible_closure (text_of c.by) (text_of q.name)) (closed_relation K c)
-    (relation-found (closed_relation K c) c.relation (none-at 6 checks e))
+    (relation-found (closed_relation K c) c.relation (none-at 5 checks e))
 
 -- so a form that defines a relation has the parts of one, whatever its list says
 kind-parts : (K : Known) (d : Sexp) (q : DefineParts) (k : DefineKind) → kind_refusal K d q k ≡ None → HasValue Relation (kind_relation K q k)
@@ -122,17 +116,17 @@ kind-parts K d q by_contexts e = context-parts K d q (closure_parts q.body) e
 kind-parts K d q by_crosses e = compatible-parts K d q (with_symbol (closure_parts q.body)) e
 
 relation-parts : (K : Known) (d : Sexp) (o : Option DefineParts) → define_refusal_by K d o ≡ None → HasValue Relation (relation_by K o)
-relation-parts K d None e = absurd (not_passed (unbuilt_at d) (unnamed RacketEscape d) e)
+relation-parts K d None e = absurd cc
 relation-parts K d (Some q) e = kind-parts K d q q.kind e
 
 -- so does one that defines a metafunction
 function-parts : (K : Known) (d : Sexp) (o : Option MetafunctionForm) → function_refusal_by K d o ≡ None → HasValue MetafunctionForm o
-function-parts K d None e = absurd (not_passed (unbuilt_at d) (unnamed Shape d) e)
+function-parts K d None e = absurd cc
 function-parts K d (Some m) e = record { value = m; is = refl }
 
 -- or a judgement
 judgement-parts : (K : Known) (d : Sexp) (o : Option JudgementForm) → judgement_refusal_by K d o ≡ None → HasValue JudgementForm o
-judgement-parts K d None e = absurd (not_passed (unbuilt_at d) (unnamed Shape d) e)
+judgement-parts K d None e = absurd cc
 judgement-parts K d (Some f) e = record { value = f; is = refl }
 
 -- so it defines something
@@ -156,39 +150,39 @@ definition-means K d kind.relation e = mapped relation (defined_relation K d) (r
 
 -- a query has the parts of one
 query-parts : (K : Known) (d : Sexp) (q : Option QueryParts) → query_refusal K d q ≡ None → HasValue QueryParts q
-query-parts K d None e = absurd (not_passed (unbuilt_at d) (unnamed Shape d) e)
+query-parts K d None e = absurd cc
 query-parts K d (Some q) e = record { value = q; is = refl }
 
 -- so has a form that asks for steps
 step-parts : (K : Known) (d : Sexp) (q : Option StepParts) → steps_refusal K d q ≡ None → HasValue StepParts q
-step-parts K d None e = absurd (not_passed (unbuilt_at d) (unnamed Shape d) e)
+step-parts K d None e = absurd cc
 step-parts K d (Some q) e = record { value = q; is = refl }
 
 -- so has a form that generates a term
 generate-parts : (K : Known) (d : Sexp) (q : Option GenerateParts) → generate_refusal K d q ≡ None → HasValue GenerateParts q
-generate-parts K d None e = absurd (not_passed (unbuilt_at d) (unnamed Shape d) e)
+generate-parts K d None e = absurd cc
 generate-parts K d (Some q) e = record { value = q; is = refl }
 
 -- or checks a property
 check-parts : (K : Known) (d : Sexp) (q : Option GenerateParts) → check_refusal K d q ≡ None → HasValue GenerateParts q
-check-parts K d None e = absurd (not_passed (unbuilt_at d) (unnamed Shape d) e)
+check-parts K d None e = absurd cc
 check-parts K d (Some q) e = record { value = q; is = refl }
 
 -- so have tests of host expressions
 equal-parts : (K : Known) (d : Sexp) (q : Option EqualParts) → equal_refusal K d q ≡ None → HasValue EqualParts q
-equal-parts K d None e = absurd (not_passed (unbuilt_at d) (unnamed Shape d) e)
+equal-parts K d None e = absurd cc
 equal-parts K d (Some q) e = record { value = q; is = refl }
 
 alike-parts : (K : Known) (d : Sexp) (q : Option AlikeParts) → alike_refusal K d q ≡ None → HasValue AlikeParts q
-alike-parts K d None e = absurd (not_passed (unbuilt_at d) (unnamed Shape d) e)
+alike-parts K d None e = absurd cc
 alike-parts K d (Some q) e = record { value = q; is = refl }
 
 put-parts : (K : Known) (d : Sexp) (q : Option PutParts) → put_refusal K d q ≡ None → HasValue PutParts q
-put-parts K d None e = absurd (not_passed (unbuilt_at d) (unnamed Shape d) e)
+put-parts K d None e = absurd cc
 put-parts K d (Some q) e = record { value = q; is = refl }
 
 leading-parts : (K : Known) (d : Sexp) (q : Option LeadingParts) → leading_refusal K d q ≡ None → HasValue LeadingParts q
-leading-parts K d None e = absurd (not_passed (unbuilt_at d) (unnamed Shape d) e)
+leading-parts K d None e = absurd cc
 leading-parts K d (Some q) e = record { value = q; is = refl }
 
 -- so has one that asks whether a premise is met, and so has the premise
@@ -201,18 +195,18 @@ premise-parts K d h None e =
     let ss = misshaped h.premise ∷ behind in
     let last = first_refusal (unknown_name_at K.scope ss ∷ undriven_at K.scope ss ∷ stands_escape_at K.scope ss ∷ mode_fault_at ss ∷ []) in
     let late = or_else (bad_name_at ss) (or_else (bad_place_at K.scope ns ss) (or_else (depth_fault_at K.scope ns ss) last)) in
-    let shaped : shape_at ss ≡ None = (none_or (shape_at ss) late (none_or (unbuilt_at d) (or_else (shape_at ss) late) e).1).0 in
+    let shaped : shape_at ss ≡ None = (none_or (shape_at ss) late e).0 in
     let none : h.premise ∷ shape_faults behind ≡ [] = earliest-none start (unnamed Shape) (shape_faults ss) shaped in
     absurd cc
 premise-parts K d h (Some q) e = record { value = q; is = refl }
 
 holds-parts : (K : Known) (d : Sexp) (o : Option HoldsParts) → holds_refusal K d o ≡ None → HasValue Query (holds_by K o)
-holds-parts K d None e = absurd (not_passed (unbuilt_at d) (unnamed Shape d) e)
+holds-parts K d None e = absurd cc
 holds-parts K d (Some h) e = mapped (holds_over K h.result) (headed h.premise) (premise-parts K d h (headed h.premise) e)
 
 -- and a test that it is
 holds-test-parts : (K : Known) (d : Sexp) (o : Option HoldsParts) → holds_refusal K d o ≡ None → HasValue Query (holds_test_by K o)
-holds-test-parts K d None e = absurd (not_passed (unbuilt_at d) (unnamed Shape d) e)
+holds-test-parts K d None e = absurd cc
 holds-test-parts K d (Some h) e = mapped (λ (q : Headed). test_holds (asked_premise K q)) (headed h.premise) (premise-parts K d h (headed h.premise) e)
 
 -- so it asks something, as a host expression does anyway

@@ -16,7 +16,6 @@ use Rattle.rdx_patterns.specs.Parts.{text_of}
 use Rattle.rdx_patterns.specs.Refusal.{unnamed}
 use Rattle.rdx_grammar.specs.Refused.{shape_at, duplicate_at, bad_name_at, bad_pattern_at}
 use Rattle.rdx_grammar.specs.Stands.{definitions_stand, form_stands}
-use Rattle.rdx_patterns.specs.Unbuilt.{unbuilt_at}
 use Rattle.rdx_patterns.specs.declared.shape.fault.DefKind.TheVariants.{BadPattern}
 use Rattle.rdx_forms.specs.BindingParts.{binding_refusal, grammar_part}
 use Rattle.rdx_forms.specs.DefineForms.{defined_relation}
@@ -63,8 +62,7 @@ passed-patterns : (K : Known) (base : Language) (l0 : Option Sexp) (d : Sexp) (g
     → bad_patterns base (all_names base g.definitions) (definitions_stand g.definitions) ≡ []
 passed-patterns K base l0 d g e =
     let ss = form_stands d (Some g) in
-    let f = (none_or (unbuilt_at d) _ e).1 in
-    let h = (none_or (shape_at ss) _ f).1 in
+    let h = (none_or (shape_at ss) _ e).1 in
     let i = (none_or (unknown_at K l0) _ h).1 in
     let j = (none_or (taken_at K (Some g)) _ i).1 in
     let k = (none_or (duplicate_at ss) _ j).1 in

@@ -18,7 +18,6 @@ use Rattle.rdx_patterns.specs.Reading.{reading}
 use Rattle.rdx_patterns.specs.declared.patterns.position.Position.TheVariants as position
 use Rattle.rdx_patterns.specs.PatternChecks.{when}
 use Rattle.rdx_patterns.specs.Refusal.{Refusal, named, or_else, first_refusal}
-use Rattle.rdx_patterns.specs.Unbuilt.{unbuilt_at}
 use Rattle.rdx_patterns.specs.declared.shape.fault.DefKind.TheVariants.{UnknownName}
 use Rattle.rdx_templates.specs.Earliest.{start}
 use Rattle.rdx_parts.specs.Arguments.{is_misfit}
@@ -274,13 +273,17 @@ known-relation : (P : Program) (o : Option Relation) (r : Sexp) → LanguagesKno
 known-relation P None r l f e = absurd cc
 known-relation P (Some R) r l f e = record { relation = R; named = f; language = l (text_of r) R f }
 
--- the third check of a chain refuses nothing where none does
-third-none : (a b c o : Option Refusal) → or_else a (or_else b (or_else c o)) ≡ None → c ≡ None
-third-none a b c o e = (none_or c o (none_or b (or_else c o) (none_or a (or_else b (or_else c o)) e).1).1).0
+-- the second check of a chain refuses nothing where none does
+second-none : (a b o : Option Refusal) → or_else a (or_else b o) ≡ None → b ≡ None
+second-none a b o e = (none_or b o (none_or a (or_else b o) e).1).0
 
--- none does behind the third
-behind-three : (a b c o : Option Refusal) → or_else a (or_else b (or_else c o)) ≡ None → o ≡ None
-behind-three a b c o e = (none_or c o (none_or b (or_else c o) (none_or a (or_else b (or_else c o)) e).1).1).1
+-- none does behind the second
+behind-two : (a b o : Option Refusal) → or_else a (or_else b o) ≡ None → o ≡ None
+behind-two a b o e = (none_or b o (none_or a (or_else b o) e).1).1
+
+-- nor does the third
+third-none : (a b c o : Option Refusal) → or_else a (or_else b (or_else c o)) ≡ None → c ≡ None
+third-none a b c o e = second-none b c o (none_or a (or_else b (or_else c o)) e).1
 
 -- nor does the fourth
 fourth-none : (a b c d o : Option Refusal) → or_else a (or_else b (or_else c (or_else d o))) ≡ None → d ≡ None
@@ -297,7 +300,7 @@ query-known K d q e =
     (bad_binder_at os ∷ bad_query_at ns os ps ∷ depth_clash_at ns os ∷ undriven_host_at K ps ∷ query_escape_at os ps ∷ [])
     in
     known-name (language_named K.program (text_of q.language)) q.language
-    (third-none (unbuilt_at d) (query_shape_at d (checked_parts (Some q))) (unknown_at K (Some q.language)) last e)
+    (second-none (query_shape_at d (checked_parts (Some q))) (unknown_at K (Some q.language)) last e)
 
 -- a relation of an accepted form that asks for its steps is
 steps-known : (K : Known) (d : Sexp) (q : StepParts) → LanguagesKnown K.program → steps_refusal K d (Some q) ≡ None → KnowsRelation K.program (text_of q.relation)
@@ -305,7 +308,7 @@ steps-known K d q l e =
     let ps = steps_host K (Some q) in
     let last = first_refusal (undriven_host_at K ps ∷ host_escape_at ps ∷ []) in
     known-relation K.program (relation_named K.program (text_of q.relation)) q.relation l refl
-    (fourth-none (unbuilt_at d) (steps_shape_at d (checked_steps (Some q))) (bad_host_at ps) (unknown_relation_at K (Some q)) last e)
+    (third-none (steps_shape_at d (checked_steps (Some q))) (bad_host_at ps) (unknown_relation_at K (Some q)) last e)
 
 -- a query with a pattern, of any kind
 by_query : (K : Known) (d : Sexp) (make : List ℕ → Pattern → Host → Query) (o : Option QueryParts) (r : Query)
@@ -321,7 +324,7 @@ generate-known K d q e =
     let ns = names_over K (Some q) in
     let last = first_refusal (bad_binder_at os ∷ bad_occurrence_at ns os ∷ depth_clash_at ns os ∷ pattern.escape_at os ∷ []) in
     known-name (language_named K.program (text_of q.language)) q.language
-    (third-none (unbuilt_at d) (generate_shape_at d (Some q)) (unknown_at K (language_in (Some q))) last e)
+    (second-none (generate_shape_at d (Some q)) (unknown_at K (language_in (Some q))) last e)
 
 -- so is that of one that checks a property
 check-known : (K : Known) (d : Sexp) (q : GenerateParts) → check_refusal K d (Some q) ≡ None → IsSome (language_named K.program (text_of q.language))
@@ -336,7 +339,7 @@ check-known K d q e =
     ∷ or_else (pattern.escape_at os) (host_escape_at ps) ∷ [])
     in
     known-name (language_named K.program (text_of q.language)) q.language
-    (third-none (unbuilt_at d) (check_shape_at d (Some q)) (unknown_at K (language_in (Some q))) last e)
+    (second-none (check_shape_at d (Some q)) (unknown_at K (language_in (Some q))) last e)
 
 -- a form that generates a term
 by_generate : (K : Known) (d : Sexp) (o : Option GenerateParts) (r : Query) → generate_refusal K d o ≡ None → option_map (generate_over K) o ≡ Some r → IsAwaited K r
@@ -355,7 +358,7 @@ tested-known K d q l e =
     let hs = q.from ∷ q.wanted in
     let last = first_refusal (undriven_hosts_at K hs ∷ hosts_escape_at K hs ∷ []) in
     known-relation K.program (relation_named K.program (text_of q.relation)) q.relation l refl
-    (fourth-none (unbuilt_at d) (hosts_shape_at hs) (bad_hosts_at K hs) (unknown_tested_at K (Some q.relation)) last e)
+    (third-none (hosts_shape_at hs) (bad_hosts_at K hs) (unknown_tested_at K (Some q.relation)) last e)
 
 -- a form that asks for steps, in any kind
 by_steps : (K : Known) (d : Sexp) (make : StepParts → Query) (o : Option StepParts) (r : Query) → LanguagesKnown K.program → ((q : StepParts) → KnowsRelation K.program (text_of q.relation) → IsAwaited K (make q))
@@ -428,7 +431,7 @@ by_premise K d h make (Some q) r f e m =
     let late = or_else (bad_name_at ss) (or_else (bad_place_at K.scope ns ss) (or_else (depth_fault_at K.scope ns ss) (or_else (unknown_name_at K.scope ss) last))) in
     let n : unknown_name_at K.scope ss ≡ None =
     fourth-none (bad_name_at ss) (bad_place_at K.scope ns ss) (depth_fault_at K.scope ns ss) (unknown_name_at K.scope ss) last
-    (behind-three (unbuilt_at d) (shape_at ss) (asked_unknown_at K (Some q)) late e)
+    (behind-two (shape_at ss) (asked_unknown_at K (Some q)) late e)
     in
     let g : make q ≡ r = cc in
     subst (IsAwaited K) g (f q (asked-known K.scope q.head behind n))
@@ -490,7 +493,7 @@ language-none K d q e =
     (name_taken_at K q.name ∷ repeated_name_at ss ∷ bad_relation_at q.name ∷ bad_name_at ss ∷ bad_place_at K.scope ns ss
     ∷ depth_fault_at K.scope ns ss ∷ unknown_name_at K.scope ss ∷ undriven_at K.scope ss ∷ escape_at K.scope ss ∷ mode_fault_at ss ∷ [])
     in
-    third-none (unbuilt_at d) (define_shape_at d q.rest ss) (unknown_at K (relation_language q)) last e
+    second-none (define_shape_at d q.rest ss) (unknown_at K (relation_language q)) last e
 
 -- that of a closure is the one of the relation that is closed
 by_closed : (K : Known) (c : ClosureParts) (f : Relation → Relation) (o : Option Relation) (R : Relation) → closed_relation K c ≡ o → closure_language_at K c ≡ None → ((S : Relation) → (f S).language ≡ S.language)
@@ -513,7 +516,7 @@ by_contexts-parts K d q (Some c) R e m =
     ∷ pattern.escape_at os ∷ [])
     in
     by_closed K c (context_closure (reading ns position.Query c.by) (text_of q.name)) (closed_relation K c) R refl
-    (fourth-none (unbuilt_at d) (closure_shape_at d q.body q.rest (Some c)) (keyword_at os) (closure_language_at K c) last e)
+    (third-none (closure_shape_at d q.body q.rest (Some c)) (keyword_at os) (closure_language_at K c) last e)
     (λ S. refl) m
 
 by_crosses-parts : (K : Known) (d : Sexp) (q : DefineParts) (o : Option ClosureParts) (R : Relation) → compatible_refusal_by K d q o ≡ None → compatible_relation_by K q o ≡ Some R → IsSome (language_named K.program R.language)
@@ -522,7 +525,7 @@ by_crosses-parts K d q (Some c) R e m =
     let last : Option Refusal =
     first_refusal (name_taken_at K q.name ∷ bad_relation_at q.name ∷ no_nonterminal_at (closure_names K c) c.by ∷ unknown_closed_at K c ∷ []) in
     by_closed K c (compatible_closure (text_of c.by) (text_of q.name)) (closed_relation K c) R refl
-    (third-none (unbuilt_at d) (closure_shape_at d q.body q.rest (Some c)) (closure_language_at K c) last e)
+    (second-none (closure_shape_at d q.body q.rest (Some c)) (closure_language_at K c) last e)
     (λ S. refl) m
 
 -- by what the list says
@@ -549,7 +552,7 @@ by_judgement K d (Some f) J e m =
     in
     let g : judgement_reading K.scope ns f ≡ J = cc in
     subst (λ (I : Judgement). IsSome (language_named K.program I.language)) g
-    (known-name (language_named K.program (text_of f.language)) f.language (third-none (unbuilt_at d) (shape_at ss) (unknown_at K (Some f.language)) last e))
+    (known-name (language_named K.program (text_of f.language)) f.language (second-none (shape_at ss) (unknown_at K (Some f.language)) last e))
 
 by_definition : (K : Known) (d : Sexp) (k : FormKind) (x : Defined) → refusal_by_kind K d k ≡ None → definition_by_kind K d k ≡ Some x → IsGrounded K.program x
 by_definition K d (asks k) x e m = absurd cc

@@ -26,7 +26,6 @@ use Rattle.rdx_patterns.specs.PatternRefusal.{keyword_at, bad_binder_at, bad_occ
 use Rattle.rdx_patterns.specs.Readable.{IsReadable}
 use Rattle.rdx_patterns.specs.Reading.{reading}
 use Rattle.rdx_patterns.specs.Refusal.{unnamed, named, or_else}
-use Rattle.rdx_patterns.specs.Unbuilt.{has_word_to_come, unbuilt_at}
 use Rattle.rdx_patterns.specs.declared.patterns.position.Position.TheVariants as position
 use Rattle.rdx_patterns.specs.declared.shape.fault.DefKind.TheVariants.{Shape, BadName, BadPattern, EllipsisDepth, EllipsisVariable}
 use Rattle.rdx_templates.specs.Earliest.{start, earliest}
@@ -65,13 +64,13 @@ use Rattle.rdx_forms.specs.TestForms.{EqualParts, equal_parts, LeadingParts, lea
 use Rattle.rdx_query.specs.ValidQueries.{Askable, is_valid_host, is_valid_pattern, is_valid_premise, fits_behind, fits_where, is_valid_query}
 use Rattle.rdx_query.proofs.AcceptedForms.{image-of}
 use Rattle.rdx_forms.proofs.ClauseStands.{of_lone_premise}
-use Rattle.rdx_forms.proofs.FormParts.{unbuilt_at-built, parts-built, query-items, GenerateItems, generate-items, check-items, parts-readable}
+use Rattle.rdx_forms.proofs.FormParts.{query-items, GenerateItems, generate-items, check-items, parts-readable}
 use Rattle.rdx_forms.proofs.FoundByName.{relation-found}
 use Rattle.rdx_forms.proofs.GainingNothing.{parts-ask}
 use Rattle.rdx_forms.proofs.HostChecks.{no_shallow}
 use Rattle.rdx_forms.proofs.StandNumbers.{nameless-refusal}
 use Rattle.rdx_query.proofs.OptionNumbers.{attempts-within, seed-small, size-small}
-use Rattle.rdx_query.proofs.ValidDefinitions.{built, read-over, read-in}
+use Rattle.rdx_query.proofs.ValidDefinitions.{read-over, read-in}
 
 -- ---- what may be asked where a form stands
 
@@ -137,18 +136,16 @@ module _ (K : Known) (crossed : AreCrossed K.program.languages K.ends) (paired :
 
   -- ---- patterns
 
-  -- a datum of the form is built and can be read, and asks for no more than the file does
+  -- a datum of the form can be read, and asks for no more than the file does
   record IsWithin (p : Sexp) : Type 0 where
-    plain : has_word_to_come p ≡ false
     clear : IsReadable p
     among : AreAmong (ends_in p) K.ends
 
-  -- its third does, where nothing in the form is to come
-  third-within : (h l p : Sexp) (ds : List Sexp) → parts d ≡ Some (h ∷ l ∷ p ∷ ds) → unbuilt_at d ≡ None → IsWithin p
-  third-within h l p ds e u =
+  -- its third does
+  third-within : (h l p : Sexp) (ds : List Sexp) → parts d ≡ Some (h ∷ l ∷ p ∷ ds) → IsWithin p
+  third-within h l p ds e =
       let items : List Sexp = h ∷ l ∷ p ∷ ds in
       record {
-        plain = (parts-built d items e (built d u)).1.1.0;
         clear = (parts-readable d items e readable).1.1.0;
         among = (parts-ask K.ends d items e asked).1.1.0;
       }
@@ -168,9 +165,8 @@ module _ (K : Known) (crossed : AreCrossed K.program.languages K.ends) (paired :
       → is_valid_pattern (language_named K.program (text_of l)) (reading (names_of (named_base K (Some l))) position.Query p) ≡ true
   pattern-valid l p z =
       let B = named_base K (Some l) in
-      let u : unbuilt_at p ≡ None = unbuilt_at-built p z.within.plain in
       let passed : pattern_refusal (names_of B) p ≡ None =
-      λ y. or_else (u y) (or_else (z.keys y) (or_else (z.binders y) (or_else (z.places y) (or_else (z.depths y) (or_else (z.escapes y) None))))) in
+      λ y. or_else (z.keys y) (or_else (z.binders y) (or_else (z.places y) (or_else (z.depths y) (or_else (z.escapes y) None)))) in
       let over = read-over K crossed l (ends_in p) z.known z.within.among in
       ap (λ (o : Option Language). is_valid_pattern o (reading (names_of B) position.Query p)) over
       ∙ pattern_well_formed B (ends_in p) p z.within.clear (λ y j. j) passed
@@ -189,8 +185,7 @@ module _ (K : Known) (crossed : AreCrossed K.program.languages K.ends) (paired :
       let os = occurrences 0 q.pattern in
       let ps = parts_of_host K q.host in
       let p = reading ns position.Query q.pattern in
-      let a = none_or (unbuilt_at d) _ r in
-      let b = none_or (query_shape_at d (checked_parts (Some q))) _ a.1 in
+      let b = none_or (query_shape_at d (checked_parts (Some q))) _ r in
       let c = none_or (unknown_at K (Some q.language)) _ b.1 in
       let e = none_or (bad_binder_at os) _ c.1 in
       let g = none_or (bad_query_at ns os ps) _ e.1 in
@@ -201,7 +196,7 @@ module _ (K : Known) (crossed : AreCrossed K.program.languages K.ends) (paired :
       let items = query-items d q f in
       let z : PatternPasses q.language q.pattern =
       record {
-        within = third-within items.head q.language q.pattern (q.host ∷ []) items.are a.0;
+        within = third-within items.head q.language q.pattern (q.host ∷ []) items.are;
         known = c.0;
         keys = shape-by (is_symbol q.language) q b.0;
         binders = e.0;
@@ -227,8 +222,8 @@ module _ (K : Known) (crossed : AreCrossed K.program.languages K.ends) (paired :
   -- ---- generated terms
 
   -- the pattern does not go beyond the form
-  pattern-within : (q : GenerateParts) → GenerateItems (parts d) q → unbuilt_at d ≡ None → IsWithin q.pattern
-  pattern-within q items u = third-within items.head q.language q.pattern (q.third ∷ q.options) items.are u
+  pattern-within : (q : GenerateParts) → GenerateItems (parts d) q → IsWithin q.pattern
+  pattern-within q items = third-within items.head q.language q.pattern (q.third ∷ q.options) items.are
 
   -- a host expression fits where the names of the pattern are bound
   bound-valid : (q : GenerateParts) → PatternPasses q.language q.pattern → bad_host_at (host_stands K (Some q)) ≡ None
@@ -262,8 +257,7 @@ module _ (K : Known) (crossed : AreCrossed K.program.languages K.ends) (paired :
       let ns = names_over K (Some c) in
       let os = occurrences 0 c.pattern in
       let faults = size_faults c.third ++ option_faults generate_options c.options in
-      let a = none_or (unbuilt_at d) _ r in
-      let b = none_or (generate_shape_at d (Some c)) _ a.1 in
+      let b = none_or (generate_shape_at d (Some c)) _ r in
       let s = none_or (keyword_at os) (numbers_at faults) b.0 in
       let k = none_or (unknown_at K (Some c.language)) _ b.1 in
       let l = none_or (bad_binder_at os) _ k.1 in
@@ -273,7 +267,7 @@ module _ (K : Known) (crossed : AreCrossed K.program.languages K.ends) (paired :
       let numbers = none_both (size_faults c.third) (option_faults generate_options c.options) (earliest-none start (unnamed Shape) faults s.1) in
       let z : PatternPasses c.language c.pattern =
       record {
-        within = pattern-within c (generate-items d c e) a.0;
+        within = pattern-within c (generate-items d c e);
         known = k.0;
         keys = s.0;
         binders = l.0;
@@ -301,8 +295,7 @@ module _ (K : Known) (crossed : AreCrossed K.program.languages K.ends) (paired :
       let os = occurrences 0 c.pattern in
       let ps = host_stands K (Some c) in
       let faults = option_faults check_options c.options in
-      let a = none_or (unbuilt_at d) _ r in
-      let b = none_or (check_shape_at d (Some c)) _ a.1 in
+      let b = none_or (check_shape_at d (Some c)) _ r in
       let s = none_or (or_else (keyword_at os) (host_shape_at c.third)) (numbers_at faults) b.0 in
       let k = none_or (unknown_at K (Some c.language)) _ b.1 in
       let l = none_or (bad_binder_at os) _ k.1 in
@@ -314,7 +307,7 @@ module _ (K : Known) (crossed : AreCrossed K.program.languages K.ends) (paired :
       let depths = none_or (depth_clash_at ns os) _ h.0 in
       let z : PatternPasses c.language c.pattern =
       record {
-        within = pattern-within c (check-items d c e) a.0;
+        within = pattern-within c (check-items d c e);
         known = k.0;
         keys = (none_or (keyword_at os) (host_shape_at c.third) s.0).0;
         binders = l.0;
@@ -374,8 +367,7 @@ module _ (K : Known) (crossed : AreCrossed K.program.languages K.ends) (paired :
       let S = K.scope in
       let ns = asked_names K (headed h.premise) in
       let ss = lone_premise_stands S ns h.premise h.result in
-      let a = none_or (unbuilt_at d) _ r in
-      let b = none_or (shape_at ss) _ a.1 in
+      let b = none_or (shape_at ss) _ r in
       let c = none_or (asked_unknown_at K (headed h.premise)) _ b.1 in
       let stands : stands_refusal S ns ss ≡ None = nameless-refusal S ns ss (of_lone_premise S ns h.premise h.result) ∙ (λ i. or_else (b.0 i) (c.1 i)) in
       let l = asked_language K (Some q) in
@@ -470,8 +462,7 @@ module _ (K : Known) (crossed : AreCrossed K.program.languages K.ends) (paired :
   steps-valid make same (Some p) q r m =
       let f : make (text_of p.relation) (host_of_datum K p.host) ≡ q = cc in
       let ps = parts_of_host K p.host in
-      let a = none_or (unbuilt_at d) _ r in
-      let b = none_or (steps_shape_at d (checked_steps (Some p))) _ a.1 in
+      let b = none_or (steps_shape_at d (checked_steps (Some p))) _ r in
       let c = none_or (bad_host_at ps) _ b.1 in
       let e = none_or (unknown_relation_at K (Some p)) _ c.1 in
       let g = none_or (undriven_host_at K ps) _ e.1 in
@@ -489,8 +480,7 @@ module _ (K : Known) (crossed : AreCrossed K.program.languages K.ends) (paired :
   -- so it is, where no check refuses the form
   tested : (r : Option Sexp) (hs : List Sexp) → test_refusal_over K d r hs ≡ None → IsTested r hs
   tested r hs e =
-      let a = none_or (unbuilt_at d) _ e in
-      let b = none_or (hosts_shape_at hs) _ a.1 in
+      let b = none_or (hosts_shape_at hs) _ e in
       let c = none_or (bad_hosts_at K hs) _ b.1 in
       let f = none_or (unknown_tested_at K r) _ c.1 in
       let g = none_or (undriven_hosts_at K hs) _ f.1 in
@@ -530,8 +520,7 @@ module _ (K : Known) (crossed : AreCrossed K.program.languages K.ends) (paired :
   -- no check refuses these host expressions
   hosts-pass : (l : Sexp) (hs : List Sexp) → bound_refusal_over K d l hs ≡ None → list_all (is_valid_host C) (map (host_of_datum K) hs) ≡ true
   hosts-pass l hs e =
-      let a = none_or (unbuilt_at d) _ e in
-      let b = none_or (hosts_shape_at hs) _ a.1 in
+      let b = none_or (hosts_shape_at hs) _ e in
       let c = none_or (unknown_at K (Some l)) _ b.1 in
       let f = none_or (bad_hosts_at K hs) _ c.1 in
       let g = none_or (undriven_hosts_at K hs) _ f.1 in
@@ -581,9 +570,7 @@ module _ (K : Known) (crossed : AreCrossed K.program.languages K.ends) (paired :
   by_kind (asks kind.value) q r m =
       let f : value (host_of_datum K d) ≡ q = cc in
       let ps = host_parts K.scope [] 0 d in
-      let a = none_or (unbuilt_at d) _ r in
-      let b = (none_or _ None a.1).0 in
-      let c = none_or (option_map (unnamed Shape) (earliest start (host_shapes d))) _ b in
+      let c = none_or (option_map (unnamed Shape) (earliest start (host_shapes d))) _ r in
       let e = none_or (option_map (unnamed BadPattern) (earliest start (bad_parts ps))) _ c.1 in
       let g = none_or (option_map (named EllipsisDepth) (earliest start (shallow_parts [] ps))) _ e.1 in
       let h = none_or (option_map (unnamed EllipsisVariable) (earliest start (undriven_parts K.scope [] ps))) _ g.1 in

@@ -33,9 +33,8 @@ use Rattle.rdx_patterns.specs.PatternRefusal.{keyword_at, bad_binder_at, bad_occ
 use Rattle.rdx_patterns.specs.Readable.{IsReadable}
 use Rattle.rdx_patterns.specs.Reading.{reading}
 use Rattle.rdx_patterns.specs.Refusal.{Refusal, or_else, unnamed}
-use Rattle.rdx_patterns.specs.Unbuilt.{has_word_to_come, unbuilt_at}
 use Rattle.rdx_patterns.specs.declared.patterns.position.Position.TheVariants as position
-use Rattle.rdx_patterns.specs.declared.shape.fault.DefKind.TheVariants.{Unbuilt, BadPattern}
+use Rattle.rdx_patterns.specs.declared.shape.fault.DefKind.TheVariants.{BadPattern}
 use Rattle.rdx_relations.specs.Expansion.{expanded_form}
 use Rattle.rdx_parts.specs.Headed.{Headed}
 use Rattle.rdx_relations.specs.Inside.FormOutlines.{domain_patterns}
@@ -86,7 +85,7 @@ use Rattle.rdx_query.proofs.BoundTexts.{NamesHave, RulesBind, rules-bind}
 use Rattle.rdx_forms.proofs.ClosureChecks.{by-readable, by-asks, language-known, same-language}
 use Rattle.rdx_query.proofs.DefinedJudgements.{mapped-some}
 use Rattle.rdx_query.proofs.DistinctDefinitions.{over-name, defined_name, free-name}
-use Rattle.rdx_forms.proofs.FormParts.{unbuilt_at-built, parts-built, define-items, closure-items}
+use Rattle.rdx_forms.proofs.FormParts.{define-items}
 use Rattle.rdx_forms.proofs.FoundByName.{language-found, language-among, relation-among}
 use Rattle.rdx_forms.proofs.GainingNothing.{crossed-same, data-asked, define-asked, body-asks}
 use Rattle.rdx_forms.proofs.GrammarParts.{part-readable}
@@ -204,14 +203,6 @@ few-rules d n (q ∷ rs) l h r (there i) = few-rules d n rs l h.1 r i
 -- the same where more are allowed
 pub few-more : (m n : ℕ) (rs : List Rule) → m ≤ n → BindFew m rs → BindFew n rs
 few-more m n rs l h r i = let b = h r i in let k = b.few in record { texts = b.texts; few = omega (arith, k, l); among = b.among }
-
--- a datum without a word to come
-pub built : (d : Sexp) → unbuilt_at d ≡ None → has_word_to_come d ≡ false
-built d e = by_test (has_word_to_come d) e
-  where
-    by_test : (b : Bool) → (let o : Option Refusal = if b then Some (unnamed Unbuilt d) else None in o) ≡ None → b ≡ false
-    by_test true f = absurd cc
-    by_test false f = refl
 
 -- no datum has more nodes than the data among which it stands
 nodes-listed : (ds : Sexps) → Each (λ e. sexp_nodes e ≤ sexps_nodes ds) (listed ds)
@@ -449,8 +440,7 @@ module _ (n : ℕ) (K : Known) (V : AreValidSoFar n K) (d : Sexp) (depth : sexp_
     contexts-made (Some c) R room e r m =
         let ns = closure_names K c in
         let os = occurrences 0 c.by in
-        let a = none_or (unbuilt_at d) _ r in
-        let b = none_or (closure_shape_at d q.body q.rest (Some c)) _ a.1 in
+        let b = none_or (closure_shape_at d q.body q.rest (Some c)) _ r in
         let f = none_or (keyword_at os) _ b.1 in
         let g = none_or (closure_language_at K c) _ f.1 in
         let h = none_or (name_taken_at K q.name) _ g.1 in
@@ -459,12 +449,7 @@ module _ (n : ℕ) (K : Known) (V : AreValidSoFar n K) (d : Sexp) (depth : sexp_
         let k = none_or (bad_occurrence_at ns os) _ j.1 in
         let l = none_or (depth_clash_at ns os) _ k.1 in
         let s = none_or (unknown_closed_at K c) _ l.1 in
-        let items = define-items d q is_form in
-        let closing = closure-items q.body c e in
-        let whole = (parts-built d (items.head ∷ q.name ∷ q.body ∷ q.rest) items.are (built d a.0)).1.1.0 in
-        let part = (parts-built q.body (closing.head ∷ c.relation ∷ c.language ∷ c.by ∷ []) closing.are whole).1.1.1.0 in
-        let u : unbuilt_at c.by ≡ None = unbuilt_at-built c.by part in
-        let passed : pattern_refusal ns c.by ≡ None = λ y. or_else (u y) (or_else (f.0 y) (or_else (j.0 y) (or_else (k.0 y) (or_else (l.0 y) (s.1 y))))) in
+        let passed : pattern_refusal ns c.by ≡ None = λ y. or_else (f.0 y) (or_else (j.0 y) (or_else (k.0 y) (or_else (l.0 y) (s.1 y)))) in
         let es = ends_in c.by in
         let among : AreAmong es K.ends = by-asks K.ends q.body c e (body-asks K.ends d q is_form asked) in
         closed-made c (reading ns position.Query c.by) R room g.0 h.0
@@ -481,8 +466,7 @@ module _ (n : ℕ) (K : Known) (V : AreValidSoFar n K) (d : Sexp) (depth : sexp_
     crosses-made (Some c) R room k e r m =
         let ns = closure_names K c in
         let y = text_of c.by in
-        let a = none_or (unbuilt_at d) _ r in
-        let b = none_or (closure_shape_at d q.body q.rest (Some c)) _ a.1 in
+        let b = none_or (closure_shape_at d q.body q.rest (Some c)) _ r in
         let g = none_or (closure_language_at K c) _ b.1 in
         let h = none_or (name_taken_at K q.name) _ g.1 in
         let i = none_or (bad_relation_at q.name) _ h.1 in

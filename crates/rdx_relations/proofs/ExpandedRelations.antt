@@ -5,7 +5,6 @@ use Rattle.rdx_sexp.specs.Sexp.{Sexp}
 use Rattle.rdx_lang.specs.declared.program.Relation.{Relation}
 use Rattle.rdx_patterns.specs.Parts.{is_word}
 use Rattle.rdx_patterns.specs.Refusal.{first_refusal}
-use Rattle.rdx_patterns.specs.Unbuilt.{unbuilt_at}
 use Rattle.rdx_patterns.specs.declared.shape.fault.DefFault.{DefFault}
 use Rattle.rdx_patterns.specs.declared.shape.fault.DefFault.TheVariants.{Refused, NoMemory}
 use Rattle.rdx_relations.specs.Answers.{ReadsRelation}
@@ -23,13 +22,12 @@ use Rattle.rdx_relations.proofs.FormRefusals.{alone}
 
 -- ---- refusals
 
-module _ (S : Scope) (ns : List (List ℕ)) (d : Sexp) (r p : RelationForm) (ds : List Sexp) (u : unbuilt_at d ≡ None) (e : relation_form d ≡ Some r)
+module _ (S : Scope) (ns : List (List ℕ)) (d : Sexp) (r p : RelationForm) (ds : List Sexp) (e : relation_form d ≡ Some r)
     (f : p ≡ expanded_form r) (g : ds ≡ behind_with r.cases) where
   -- the refusal is that of what it is without shorthand
   pub expanded-refused : relation_refusal S ns d ≡ expanded_refusal S ns p ds
   expanded-refused =
-      (λ i. first_refusal (u i ∷ refusal_over S ns (option_map (λ (q : RelationForm). q.language) (e i)) (relation_stands S ns d (e i)) ∷ []))
-      ∙ alone (refusal_over S ns (Some r.language) (relation_stands S ns d (Some r)))
+      (λ i. refusal_over S ns (option_map (λ (q : RelationForm). q.language) (e i)) (relation_stands S ns d (e i)))
       ∙ (λ i. expanded_refusal S ns (sym f i) (sym g i))
 
   -- and so is what is read

@@ -3,7 +3,6 @@ use Rattle.std.proofs.Common.{◌≡◌, ◌++◌, ◌∙◌, ℕ, List, [], ◌
 use Rattle.std.specs.Prelude.{option_map}
 use Rattle.rdx_sexp.specs.Sexp.{Sexp}
 use Rattle.rdx_patterns.specs.Refusal.{Refusal, unnamed, named, or_else, first_refusal}
-use Rattle.rdx_patterns.specs.Unbuilt.{unbuilt_at}
 use Rattle.rdx_patterns.specs.declared.shape.fault.DefKind.TheVariants.{Shape, BadName, BadPattern, EllipsisDepth, UnknownName, EllipsisVariable, RacketEscape}
 use Rattle.rdx_patterns.proofs.Firsts.{none_of}
 use Rattle.rdx_templates.specs.Earliest.{start, earliest}
@@ -92,7 +91,7 @@ relation-refused S ns r ds =
     (λ k. relation-faults k S ns r ds)
 
 -- without the parts of a relation
-pub no-relation : (S : Scope) (ns : List (List ℕ)) (d : Sexp) → relation_form d ≡ None → relation_refusal S ns d ≡ or_else (unbuilt_at d) (Some (unnamed Shape d))
+pub no-relation : (S : Scope) (ns : List (List ℕ)) (d : Sexp) → relation_form d ≡ None → relation_refusal S ns d ≡ Some (unnamed Shape d)
 no-relation S ns d e i = relation_refusal_by S ns d (e i)
 
 -- ---- what is not refused

@@ -14,8 +14,7 @@ abbrev pub unnamable_language_at : Option Sexp → Option Refusal
 unnamable_language_at None = None
 unnamable_language_at (Some l) = if is_word (codes "hole") l then Some (named UnknownLanguage l) else None
 
--- the refusal of a form that names this language, where it names one, and in which these things stand, but for S0; in this scope, over the
--- nonterminals ns
+-- the refusal of a form that names this language, where it names one, and in which these things stand; in this scope, over the nonterminals ns
 abbrev pub refusal_over : Scope → List (List ℕ) → Option Sexp → List Stand → Option Refusal
 refusal_over S ns l ss =
     first_refusal

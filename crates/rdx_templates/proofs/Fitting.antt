@@ -15,7 +15,6 @@ use Rattle.rdx_patterns.specs.Parts.{is_symbol, is_word, text_of}
 use Rattle.rdx_patterns.specs.PatternChecks.{when}
 use Rattle.rdx_patterns.specs.Reading.{is_pattern}
 use Rattle.rdx_patterns.specs.Refusal.{unnamed, named}
-use Rattle.rdx_patterns.specs.Unbuilt.{unbuilt_at}
 use Rattle.rdx_patterns.specs.declared.shape.fault.DefKind.TheVariants.{Shape, BadPattern, EllipsisDepth, EllipsisVariable, RacketEscape}
 use Rattle.rdx_patterns.proofs.Booleans.{and_true, and_both, and_not_both}
 use Rattle.rdx_patterns.proofs.Firsts.{none_both, none_first, none_of}
@@ -236,14 +235,10 @@ module _ (S : Scope) (bs : Bound) where
   pub passed-fits : (d : Sexp) → template_refusal S bs d ≡ None → fits (has_metafunction S) (is_bound bs) 0 (template_reading S bs d) ≡ true
   passed-fits d e =
       let ps = template_parts S bs 0 d in
-      let r = parts_refusal S bs (template_shapes d) ps in
-      let all = none_of r [] (none_of (unbuilt_at d) (r ∷ []) e).1 in
-      template_fits S bs (is_bound bs) first_depth 0 d (passed (template_shapes d) ps all.0)
+      template_fits S bs (is_bound bs) first_depth 0 d (passed (template_shapes d) ps e)
 
   -- and as a host expression
   pub passed_host-fits : (d : Sexp) → host_refusal S bs d ≡ None → fits_in (has_metafunction S) (is_bound bs) 0 (host_reading S bs d) ≡ true
   passed_host-fits d e =
       let ps = host_parts S bs 0 d in
-      let r = parts_refusal S bs (host_shapes d) ps in
-      let all = none_of r [] (none_of (unbuilt_at d) (r ∷ []) e).1 in
-      host_fits S bs (is_bound bs) first_depth 0 d (passed (host_shapes d) ps all.0)
+      host_fits S bs (is_bound bs) first_depth 0 d (passed (host_shapes d) ps e)

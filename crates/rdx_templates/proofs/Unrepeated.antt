@@ -3,7 +3,6 @@ use Rattle.std.proofs.Common.{◌≡◌, ◌++◌, ◌∙◌, List, [], ◌∷�
 use Rattle.std.specs.Prelude.{option_map}
 use Rattle.rdx_sexp.specs.Sexp.{Sexp}
 use Rattle.rdx_patterns.specs.Refusal.{unnamed, named, first_refusal, or_else}
-use Rattle.rdx_patterns.specs.Unbuilt.{unbuilt_at}
 use Rattle.rdx_patterns.specs.declared.shape.fault.DefKind.TheVariants.{Shape, BadPattern, EllipsisDepth, EllipsisVariable, RacketEscape}
 use Rattle.rdx_templates.specs.Bound.{Bound}
 use Rattle.rdx_templates.specs.Earliest.{earliest, start}
@@ -40,13 +39,8 @@ escapes_unrepeated (escape d ∷ ps) = ap (λ (ds : List Sexp). escape_in (escap
 
 -- ---- refusals
 
--- nothing behind
-or_else-none : {A : Type 0} (o : Option A) → or_else o None ≡ o
-or_else-none None = refl
-or_else-none (Some x) = refl
-
 -- the first check, and those behind it, which look at what stands there but for repeated items
-refused_late : (S : Scope) (bs : Bound) (ds : List Sexp) (ps : List TemplatePart)
+pub refused_late : (S : Scope) (bs : Bound) (ds : List Sexp) (ps : List TemplatePart)
     → parts_refusal S bs ds ps ≡ or_else (option_map (unnamed Shape) (earliest start ds)) (late_refusal bs (earliest start (undriven_parts S bs ps)) (unrepeated ps))
 refused_late S bs ds ps =
     λ i. or_else (option_map (unnamed Shape) (earliest start ds))
@@ -56,9 +50,3 @@ refused_late S bs ds ps =
     ∷ option_map (unnamed EllipsisVariable) (earliest start (undriven_parts S bs ps))
     ∷ option_map (unnamed RacketEscape) (earliest start (sym (escapes_unrepeated ps) i))
     ∷ []))
-
--- the whole refusal of a datum with these data at fault by the first check, in which these parts stand
-pub refused-by_parts : (S : Scope) (bs : Bound) (d : Sexp) (ds : List Sexp) (ps : List TemplatePart)
-    → first_refusal (unbuilt_at d ∷ parts_refusal S bs ds ps ∷ [])
-    ≡ or_else (unbuilt_at d) (or_else (option_map (unnamed Shape) (earliest start ds)) (late_refusal bs (earliest start (undriven_parts S bs ps)) (unrepeated ps)))
-refused-by_parts S bs d ds ps = ap (or_else (unbuilt_at d)) (or_else-none (parts_refusal S bs ds ps) ∙ refused_late S bs ds ps)

@@ -2,7 +2,6 @@
 use Rattle.std.specs.Prelude.{List, [], ◌∷◌, Option, option_map}
 use Rattle.rdx_sexp.specs.Sexp.{Sexp}
 use Rattle.rdx_patterns.specs.Refusal.{Refusal, unnamed, named, first_refusal}
-use Rattle.rdx_patterns.specs.Unbuilt.{unbuilt_at}
 use Rattle.rdx_patterns.specs.declared.shape.fault.DefKind.TheVariants.{Shape, BadPattern, EllipsisDepth, EllipsisVariable, RacketEscape}
 use Rattle.rdx_templates.specs.Earliest.{start, earliest}
 use Rattle.rdx_templates.specs.Bound.{Bound}
@@ -22,10 +21,10 @@ parts_refusal S bs ds ps =
     ∷ option_map (unnamed RacketEscape) (earliest start (escapes ps))  -- S10
     ∷ [])
 
--- the refusal of a datum as a template in this scope, where these names are bound; S0 comes first
+-- the refusal of a datum as a template in this scope, where these names are bound
 abbrev pub template_refusal : Scope → Bound → Sexp → Option Refusal
-template_refusal S bs d = first_refusal (unbuilt_at d ∷ parts_refusal S bs (template_shapes d) (template_parts S bs 0 d) ∷ [])
+template_refusal S bs d = parts_refusal S bs (template_shapes d) (template_parts S bs 0 d)
 
 -- as a host expression
 abbrev pub host_refusal : Scope → Bound → Sexp → Option Refusal
-host_refusal S bs d = first_refusal (unbuilt_at d ∷ parts_refusal S bs (host_shapes d) (host_parts S bs 0 d) ∷ [])
+host_refusal S bs d = parts_refusal S bs (host_shapes d) (host_parts S bs 0 d)

@@ -143,7 +143,6 @@ pub fn read_premise_over(
 
 /// The premise that a datum stands for, before which no name is bound, its patterns over the
 /// language, and the template behind it, where there is one, which sees the names of the premise.
-/// Words that are not built yet aren't looked for.
 pub fn read_premise(
     alloc: Global,
     scope: &Scope,

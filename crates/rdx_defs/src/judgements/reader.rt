@@ -16,7 +16,6 @@ use crate::judgements::readings::read_parts;
 use crate::judgements::refusals::refuse_judgement;
 use rdx_lang::{CheckedLang, Judgement};
 use rdx_patterns::refusal::unnamed;
-use rdx_patterns::unbuilt::has_word_to_come;
 use rdx_patterns::{DefFault, DefKind, Names};
 use rdx_sexp::Datum;
 use rdx_templates::Scope;
@@ -51,9 +50,6 @@ pub fn read_judgement_over(
         IsTrue (is_valid_judgement (callable (scope_of scope.now))
         (Some (language_in language.new)) (judgement_of j))) }
 {
-    if has_word_to_come(form) {
-        return Err(DefFault::Refused(unnamed(DefKind::Unbuilt, form)));
-    }
     let Some(parts) = judgement_form(form) else {
         return Err(DefFault::Refused(unnamed(DefKind::Shape, form)));
     };

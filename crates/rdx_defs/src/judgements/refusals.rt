@@ -2,7 +2,6 @@
 ghost use Rattle.std.specs.Prelude.{◌≡◌, IfOk, None, Some, option_map};
 ghost use Rattle.rdx_patterns.specs.Readable.{IsReadable};
 ghost use Rattle.rdx_patterns.specs.Refusal.{refusal_of};
-ghost use Rattle.rdx_patterns.specs.Unbuilt.{unbuilt_at};
 ghost use Rattle.rdx_defs.specs.Inside.FormViews.{judgement_form_of};
 ghost use Rattle.rdx_parts.specs.PartsHave.{IsReadableIn};
 ghost use Rattle.rdx_defs.specs.JudgementForms as forms;
@@ -21,7 +20,7 @@ use rdx_templates::Scope;
 use rdx_term::NoMemory;
 use std::alloc::Global;
 
-/// The refusal of a form with these parts and this mode, in which nothing is left unbuilt.
+/// The refusal of a form with these parts and this mode.
 pub(crate) fn refuse_judgement(
     alloc: Global,
     scope: &Scope,
@@ -31,7 +30,6 @@ pub(crate) fn refuse_judgement(
     mode: Option<&[bool]>,
 ) -> Result<Option<DefRefusal>, NoMemory>
     requires readable { IsReadable d.now }
-    requires built { unbuilt_at d.now ≡ None }
     requires form { forms.judgement_form d.now ≡ Some (judgement_form_of form) }
     requires mode { option_map (λ m. m.now) mode ≡ forms.own_mode (judgement_form_of form) }
     ensures { IfOk result (λ r.

@@ -16,7 +16,6 @@ use crate::metafunctions::stands::{function_stands, metafunction_outline};
 use rdx_lang::{CheckedLang, Metafunction};
 use rdx_parts::stands::refusals::refuse_parts;
 use rdx_patterns::refusal::unnamed;
-use rdx_patterns::unbuilt::has_word_to_come;
 use rdx_patterns::{DefFault, DefKind, Names};
 use rdx_relations::refuse_over;
 use rdx_sexp::Datum;
@@ -41,9 +40,6 @@ pub fn read_metafunction_over(
         IsTrue (is_valid_metafunction (callable (scope_of scope.now))
         (Some (language_in language.new)) (metafunction_of f))) }
 {
-    if has_word_to_come(form) {
-        return Err(DefFault::Refused(unnamed(DefKind::Unbuilt, form)));
-    }
     let Some(parts) = metafunction_form(form) else {
         return Err(DefFault::Refused(unnamed(DefKind::Shape, form)));
     };

@@ -1,5 +1,5 @@
 -- What is answered by the shape of a form that asks something.
-use Rattle.std.specs.Prelude.{◌≡◌, true, false, List, [], ◌∷◌, Option, Some, None, Result, Ok, Err, Vec, map}
+use Rattle.std.specs.Prelude.{◌≡◌, true, List, [], ◌∷◌, Option, Some, None, Result, Ok, Err, Vec, map}
 use Rattle.std.specs.declared.alloc.Global.{Global}
 use Rattle.rdx_sexp.specs.Sexp.{Sexp}
 use Rattle.rdx_lang.specs.TemplateView.{host_of}
@@ -9,7 +9,6 @@ use Rattle.rdx_templates.specs.TemplateReading.{host_reading}
 use Rattle.rdx_templates.specs.TemplateRefusal.{host_refusal}
 use Rattle.rdx_patterns.specs.Parts.{is_symbol}
 use Rattle.rdx_patterns.specs.Refusal.{Refusal}
-use Rattle.rdx_patterns.specs.Unbuilt.{has_word_to_come}
 use Rattle.rdx_patterns.specs.declared.shape.fault.DefFault.{DefFault}
 use Rattle.rdx_forms.specs.AlphaForms.{AlikeParts, PutParts, alike_parts, put_parts, alike_refusal, put_refusal}
 use Rattle.rdx_forms.specs.HoldsForms.{HoldsParts, holds_parts, holds_refusal}
@@ -34,7 +33,6 @@ use Rattle.rdx_forms.specs.declared.parts.StepParts as code_steps
 pub record IsFit (d : Sexp) (q : QueryParts) : Type 0 where
   pub parts : query_parts d ≡ Some q
   pub symbol : is_symbol q.language ≡ true
-  pub built : has_word_to_come d ≡ false
 
 -- the answer of the check of its shape
 abbrev pub FitsBy : Sexp → Result code_query.QueryParts DefFault → Type 0
@@ -47,7 +45,6 @@ FitsBy d (Err e) = (K : Known) → IsFaultAt (query_refusal K d (query_parts d))
 pub record IsStepFit (d : Sexp) (q : StepParts) : Type 0 where
   pub parts : step_parts d ≡ Some q
   pub symbol : is_symbol q.relation ≡ true
-  pub built : has_word_to_come d ≡ false
 
 -- the answer of the check of its shape
 abbrev pub StepFitsBy : Sexp → Result code_steps.StepParts DefFault → Type 0
@@ -56,10 +53,9 @@ StepFitsBy d (Err e) = (K : Known) → IsFaultAt (steps_refusal K d (step_parts 
 
 -- ---- premises
 
--- the form d that asks whether a premise is met has these parts, and is built
+-- the form d that asks whether a premise is met has these parts
 pub record IsHoldsFit (d : Sexp) (q : HoldsParts) : Type 0 where
   pub parts : holds_parts d ≡ Some q
-  pub built : has_word_to_come d ≡ false
 
 -- the answer of the check of its shape
 abbrev pub HoldsFitsBy : Sexp → Result code_holds.HoldsParts DefFault → Type 0
@@ -83,7 +79,6 @@ ReadsHosts S ds (Err e) = IsFaultAt (hosts_refusal S ds) e
 -- the form d has its shape, with these parts
 pub record IsEqualFit (d : Sexp) (q : EqualParts) : Type 0 where
   pub parts : equal_parts d ≡ Some q
-  pub built : has_word_to_come d ≡ false
 
 -- the answer of the check of its shape
 abbrev pub EqualFitsBy : Sexp → Result code_equal.EqualParts DefFault → Type 0
@@ -95,7 +90,6 @@ EqualFitsBy d (Err e) = (K : Known) → IsFaultAt (equal_refusal K d (equal_part
 -- the form d that asks whether terms are alpha equivalent has its shape, with these parts
 pub record IsAlikeFit (d : Sexp) (q : AlikeParts) : Type 0 where
   pub parts : alike_parts d ≡ Some q
-  pub built : has_word_to_come d ≡ false
 
 -- the answer of the check of its shape
 abbrev pub AlikeFitsBy : Sexp → Result code_alike.AlikeParts DefFault → Type 0
@@ -105,7 +99,6 @@ AlikeFitsBy d (Err e) = (K : Known) → IsFaultAt (alike_refusal K d (alike_part
 -- the form d that puts a term for a symbol has its shape, with these parts
 pub record IsPutFit (d : Sexp) (q : PutParts) : Type 0 where
   pub parts : put_parts d ≡ Some q
-  pub built : has_word_to_come d ≡ false
 
 -- the answer of the check of its shape
 abbrev pub PutFitsBy : Sexp → Result code_put.PutParts DefFault → Type 0
@@ -117,7 +110,6 @@ PutFitsBy d (Err e) = (K : Known) → IsFaultAt (put_refusal K d (put_parts d)) 
 -- the form d has its shape, with these parts
 pub record IsLeadingFit (d : Sexp) (q : LeadingParts) : Type 0 where
   pub parts : leading_parts d ≡ Some q
-  pub built : has_word_to_come d ≡ false
 
 -- the answer of the check of its shape
 abbrev pub LeadingFitsBy : Sexp → Result code_leading.LeadingParts DefFault → Type 0

@@ -1,5 +1,5 @@
 -- What is answered by the shape of a form that generates a term or checks a property, and what is read of its parts.
-use Rattle.std.specs.Prelude.{◌≡◌, ℕ, false, List, [], ◌∷◌, ◌++◌, Option, Some, None, Result, Ok, Err}
+use Rattle.std.specs.Prelude.{◌≡◌, ℕ, List, [], ◌∷◌, ◌++◌, Option, Some, None, Result, Ok, Err}
 use Rattle.rdx_sexp.specs.Sexp.{Sexp}
 use Rattle.rdx_lang.specs.Checked.{pattern_in}
 use Rattle.rdx_lang.specs.TemplateView.{host_of}
@@ -11,7 +11,6 @@ use Rattle.rdx_patterns.specs.PatternChecks.{bad_binders}
 use Rattle.rdx_patterns.specs.PatternRefusal.{pattern_refusal}
 use Rattle.rdx_patterns.specs.Reading.{reading}
 use Rattle.rdx_patterns.specs.Refusal.{Refusal}
-use Rattle.rdx_patterns.specs.Unbuilt.{has_word_to_come}
 use Rattle.rdx_patterns.specs.declared.patterns.position.Position.TheVariants as position
 use Rattle.rdx_patterns.specs.declared.shape.fault.DefFault.{DefFault}
 use Rattle.rdx_templates.specs.Bound.{Bound}
@@ -28,19 +27,14 @@ use Rattle.rdx_forms.specs.declared.parts.GenerateParts as code
 
 -- ---- the shape
 
--- the form d, which has these parts, if it has its shape, has them, and is built
-pub record IsGenerateFit (d : Sexp) (o : Option GenerateParts) (q : GenerateParts) : Type 0 where
-  pub parts : o ≡ Some q
-  pub built : has_word_to_come d ≡ false
-
--- the fault is that of a form without its shape, or of one that is not built, of whichever kind it is
+-- the fault is that of a form without its shape, of whichever kind it is
 pub record IsGenerateFault (d : Sexp) (o : Option GenerateParts) (e : DefFault) : Type 0 where
   pub generate : (K : Known) → IsFaultAt (generate_refusal K d o) e
   pub check : (K : Known) → IsFaultAt (check_refusal K d o) e
 
--- the answer of the check of its shape
+-- the answer of the check of the shape of the form d, which has these parts, if it has its shape
 abbrev pub GenerateFitsBy : Sexp → Option GenerateParts → Result code.GenerateParts DefFault → Type 0
-GenerateFitsBy d o (Ok q) = IsGenerateFit d o (generate_of q)
+GenerateFitsBy d o (Ok q) = o ≡ Some (generate_of q)
 GenerateFitsBy d o (Err e) = IsGenerateFault d o e
 
 -- ---- numbers

@@ -18,7 +18,6 @@ use crate::languages::form_parts::FormParts;
 use crate::languages::nonterminals::form_names;
 use crate::languages::stands::Stand;
 use rdx_patterns::refusal::{named, unnamed};
-use rdx_patterns::unbuilt::has_word_to_come;
 use rdx_patterns::{DefKind, DefRefusal, Names};
 use rdx_sexp::Datum;
 use rdx_term::{Name, NoMemory};
@@ -101,9 +100,6 @@ pub(crate) fn refuse_form(
         ≡ model.refusal_over (base_in (option_map (λ c. c.now) base.entry)) form.now
         (option_map parts_of parts.entry)) }
 {
-    if has_word_to_come(form) {
-        return Ok(Some(unnamed(DefKind::Unbuilt, form)));
-    }
     if let Some(refusal) = refuse_early(alloc, found)? {
         return Ok(Some(refusal));
     }

@@ -11,7 +11,6 @@ use crate::patterns::names::Names;
 use crate::patterns::occurrences::add_pattern;
 use crate::patterns::position::Position;
 use crate::shape::refusal::{named, unnamed};
-use crate::shape::unbuilt::has_word_to_come;
 use crate::shape::{DefKind, DefRefusal};
 use rdx_sexp::Datum;
 use rdx_term::NoMemory;
@@ -26,9 +25,6 @@ pub(crate) fn refuse_pattern(
     requires { IsReadable d.now }
     ensures { IfOk result (λ r. option_map refusal_of r ≡ model.pattern_refusal names.now d.now) }
 {
-    if has_word_to_come(d) {
-        return Ok(Some(unnamed(DefKind::Unbuilt, d)));
-    }
     let mut found = Vec::new(alloc);
     add_pattern(0, d, &mut found)?;
     if let Some(d) = first_keyword(&found) {

@@ -10,8 +10,6 @@ use std::rc::RcStr;
 /// The checks of a form. The one with the least number that refuses it is reported.
 #[derive(Clone, Copy, Debug, PartialEq, Eq)]
 pub enum DefKind {
-    /// The form, or a word in it, is not built yet. The place is the form's.
-    Unbuilt,
     /// A form or a definition has not its shape, or a keyword stands in a pattern or a template. The place is the innermost such datum's.
     Shape,
     /// No earlier form defines the language. The place and the name are those of the name.

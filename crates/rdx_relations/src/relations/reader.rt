@@ -28,7 +28,6 @@ use rdx_lang::{CheckedLang, Relation};
 use rdx_parts::branches::Outline;
 use rdx_parts::stands::refusals::refuse_parts;
 use rdx_patterns::refusal::unnamed;
-use rdx_patterns::unbuilt::has_word_to_come;
 use rdx_patterns::{DefFault, DefKind, Names};
 use rdx_sexp::Datum;
 use rdx_templates::Scope;
@@ -114,9 +113,6 @@ pub fn read_relation_over(
         IsTrue (is_valid_over (callable (scope_of scope.now))
         (Some (language_in language.new)) (relation_of r))) }
 {
-    if has_word_to_come(form) {
-        return Err(DefFault::Refused(unnamed(DefKind::Unbuilt, form)));
-    }
     let Some(parts) = relation_form(form) else {
         return Err(DefFault::Refused(unnamed(DefKind::Shape, form)));
     };

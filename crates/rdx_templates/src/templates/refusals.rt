@@ -15,7 +15,6 @@ use crate::templates::parts::TemplatePart;
 use crate::templates::places::{in_host, in_template};
 use crate::templates::shapes::{shape_in_host, shape_in_template};
 use rdx_patterns::refusal::{named, unnamed};
-use rdx_patterns::unbuilt::has_word_to_come;
 use rdx_patterns::{DefKind, DefRefusal};
 use rdx_sexp::Datum;
 use rdx_term::NoMemory;
@@ -61,9 +60,6 @@ pub(crate) fn refuse_template(
     ensures { IfOk result (λ r. option_map refusal_of r
         ≡ model.template_refusal (scope_of scope.now) bound.now d.now) }
 {
-    if has_word_to_come(d) {
-        return Ok(Some(unnamed(DefKind::Unbuilt, d)));
-    }
     if let Some(d) = shape_in_template(d) {
         return Ok(Some(unnamed(DefKind::Shape, d)));
     }
@@ -83,9 +79,6 @@ pub(crate) fn refuse_host(
     ensures { IfOk result (λ r. option_map refusal_of r
         ≡ model.host_refusal (scope_of scope.now) bound.now d.now) }
 {
-    if has_word_to_come(d) {
-        return Ok(Some(unnamed(DefKind::Unbuilt, d)));
-    }
     if let Some(d) = shape_in_host(d) {
         return Ok(Some(unnamed(DefKind::Shape, d)));
     }

@@ -1,4 +1,4 @@
-use Rattle.std.proofs.Common.{◌≡◌, Option, Some, ap, sym, subst, ◌∙◌}
+use Rattle.std.proofs.Common.{◌≡◌, Option, Some, ap, subst, ◌∙◌}
 use Rattle.rdx_patterns.specs.Among.{AreAmong}
 use Rattle.rdx_forms.specs.DefineParts.{DefineParts, by_cases, by_contexts, by_crosses, define_parts}
 use Rattle.rdx_forms.specs.Ends.{define_ends}
@@ -87,7 +87,7 @@ returns-in-Cases-clause-relates c =
     let e = parts-shown c.args.form.now (defining_of p) c.in-Some.ensures c.if-parts.false in
     let f : define_parts c.args.form.now ≡ Some (sole_parts by_cases p.name.now p.body.now) =
     e ∙ ap (λ (l : code.DefineKind). let o : Option DefineParts = Some (sole_parts (define_kind_of l) p.name.now p.body.now) in o) c.in-Cases.is in
-    relates-cases (known_of c.args.known.now) c.args.known.now.tabled.nameable c.args.form.now p.name.now p.body.now f (sym c.if-has_word_to_come.ensures) c.define_by_cases.result c.requires.relation
+    relates-cases (known_of c.args.known.now) c.args.known.now.tabled.nameable c.args.form.now p.name.now p.body.now f c.define_by_cases.result c.requires.relation
     c.define_by_cases.ensures.relates
 
 pub returns-in-Contexts-clause-relates : goal.returns-in-Contexts-clause-relates
@@ -97,7 +97,7 @@ returns-in-Contexts-clause-relates c =
     let e = parts-shown c.args.form.now (defining_of p) c.in-Some.ensures c.if-parts.false in
     let f : define_parts c.args.form.now ≡ Some (sole_parts by_contexts p.name.now p.body.now) =
     e ∙ ap (λ (l : code.DefineKind). let o : Option DefineParts = Some (sole_parts (define_kind_of l) p.name.now p.body.now) in o) c.in-Contexts.is in
-    relates-contexts (known_of c.args.known.now) c.args.form.now p.name.now p.body.now f (sym c.if-has_word_to_come.ensures) c.define_by_contexts.result c.requires.relation
+    relates-contexts (known_of c.args.known.now) c.args.form.now p.name.now p.body.now f c.define_by_contexts.result c.requires.relation
     c.define_by_contexts.ensures.closes
 
 pub returns-in-Crosses-clause-relates : goal.returns-in-Crosses-clause-relates
@@ -107,5 +107,5 @@ returns-in-Crosses-clause-relates c =
     let e = parts-shown c.args.form.now (defining_of p) c.in-Some.ensures c.if-parts.false in
     let f : define_parts c.args.form.now ≡ Some (sole_parts by_crosses p.name.now p.body.now) =
     e ∙ ap (λ (l : code.DefineKind). let o : Option DefineParts = Some (sole_parts (define_kind_of l) p.name.now p.body.now) in o) c.in-Crosses.is in
-    relates-crosses (known_of c.args.known.now) c.args.form.now p.name.now p.body.now f (sym c.if-has_word_to_come.ensures) c.define_by_crosses.result c.requires.relation
+    relates-crosses (known_of c.args.known.now) c.args.form.now p.name.now p.body.now f c.define_by_crosses.result c.requires.relation
     c.define_by_crosses.ensures.closes

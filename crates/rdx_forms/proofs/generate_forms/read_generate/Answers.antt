@@ -25,13 +25,13 @@ returns-in_err-parts-clause-asks c =
 pub read_over-pat-requires-clause-readable : goal.read_over-pat-requires-clause-readable
 read_over-pat-requires-clause-readable c =
     let q = generate_of c.in_ok-parts.parts in
-    let e : generate_parts c.args.form.now ≡ Some q = sym c.sized_parts.ensures ∙ c.in_ok-parts.ensures.parts in
+    let e : generate_parts c.args.form.now ≡ Some q = sym c.sized_parts.ensures ∙ c.in_ok-parts.ensures in
     (items-readable c.args.form.now q (generate-items c.args.form.now q e) c.requires.readable).0
 
 pub read_over-pat-requires-clause-ends : goal.read_over-pat-requires-clause-ends
 read_over-pat-requires-clause-ends c =
     let q = generate_of c.in_ok-parts.parts in
-    let e : generate_parts c.args.form.now ≡ Some q = sym c.sized_parts.ensures ∙ c.in_ok-parts.ensures.parts in
+    let e : generate_parts c.args.form.now ≡ Some q = sym c.sized_parts.ensures ∙ c.in_ok-parts.ensures in
     items-ask (known_of c.args.known.now).ends c.args.form.now q (generate-items c.args.form.now q e) c.requires.ends
 
 pub returns-in_err-pat-in-Some-clause-asks : goal.returns-in_err-pat-in-Some-clause-asks
@@ -39,10 +39,10 @@ returns-in_err-pat-in-Some-clause-asks c =
     let q = generate_of c.in_ok-parts.parts in
     let K = known_of c.args.known.now in
     let l = c.index.result.now in
-    let e : generate_parts c.args.form.now ≡ Some q = sym c.sized_parts.ensures ∙ c.in_ok-parts.ensures.parts in
+    let e : generate_parts c.args.form.now ≡ Some q = sym c.sized_parts.ensures ∙ c.in_ok-parts.ensures in
     let k : language_named K.program (text_of q.language) ≡ Some (language_in l) = ap (language_named K.program) (sym c.text.ensures) ∙ c.in-Some.ensures.some l c.index.ensures in
     let p = err_from_is_err_and c.from_residual-in_err-pat-in-Some.result c.from_residual-in_err-pat-in-Some.ensures.1 in
-    rw (p.1, p.2) (generate-fault K c.args.form.now q e c.in_ok-parts.ensures.built (language_in l) c.read_over-pat.result c.read_generating-numbers.result
+    rw (p.1, p.2) (generate-fault K c.args.form.now q e (language_in l) c.read_over-pat.result c.read_generating-numbers.result
     c.in_err-pat-in-Some.field-0.0 k (c.read_over-pat.ensures.reads l c.index.ensures) c.read_generating-numbers.ensures c.in_err-pat-in-Some.ensures.refused)
 
 pub returns-in_ok-pat-in-Some-clause-asks : goal.returns-in_ok-pat-in-Some-clause-asks
@@ -50,9 +50,9 @@ returns-in_ok-pat-in-Some-clause-asks c =
     let q = generate_of c.in_ok-parts.parts in
     let K = known_of c.args.known.now in
     let l = c.index.result.now in
-    let e : generate_parts c.args.form.now ≡ Some q = sym c.sized_parts.ensures ∙ c.in_ok-parts.ensures.parts in
+    let e : generate_parts c.args.form.now ≡ Some q = sym c.sized_parts.ensures ∙ c.in_ok-parts.ensures in
     let k : language_named K.program (text_of q.language) ≡ Some (language_in l) = ap (language_named K.program) (sym c.text.ensures) ∙ c.in-Some.ensures.some l c.index.ensures in
-    generate-asked K c.args.form.now q e c.in_ok-parts.ensures.built (language_in l) c.in_ok-pat-in-Some.pat c.in_ok-pat-in-Some.numbers c.in_ok-name-in-Some.name k
+    generate-asked K c.args.form.now q e (language_in l) c.in_ok-pat-in-Some.pat c.in_ok-pat-in-Some.numbers c.in_ok-name-in-Some.name k
     (subst (ReadsPattern (names_of (language_in l)) q.pattern) c.in_ok-pat-in-Some.ensures.read.0 (c.read_over-pat.ensures.reads l c.index.ensures))
     (subst (GenerateNumbers q) c.in_ok-pat-in-Some.ensures.read.1 c.read_generating-numbers.ensures)
     (c.in_ok-name-in-Some.ensures ∙ ap (λ (M : Language). M.name) c.language.ensures.value ∙ language_named-name K.program (text_of q.language) (language_in l) k)
@@ -60,15 +60,15 @@ returns-in_ok-pat-in-Some-clause-asks c =
 pub read_pattern-pat-requires : goal.read_pattern-pat-requires
 read_pattern-pat-requires c =
     let q = generate_of c.in_ok-parts.parts in
-    let e : generate_parts c.args.form.now ≡ Some q = sym c.sized_parts.ensures ∙ c.in_ok-parts.ensures.parts in
+    let e : generate_parts c.args.form.now ≡ Some q = sym c.sized_parts.ensures ∙ c.in_ok-parts.ensures in
     (items-readable c.args.form.now q (generate-items c.args.form.now q e) c.requires.readable).0
 
 pub returns-in_ok-unknown-in-None-clause-asks : goal.returns-in_ok-unknown-in-None-clause-asks
 returns-in_ok-unknown-in-None-clause-asks c =
     let q = generate_of c.in_ok-parts.parts in
     let K = known_of c.args.known.now in
-    let e : generate_parts c.args.form.now ≡ Some q = sym c.sized_parts.ensures ∙ c.in_ok-parts.ensures.parts in
+    let e : generate_parts c.args.form.now ≡ Some q = sym c.sized_parts.ensures ∙ c.in_ok-parts.ensures in
     let n : language_named K.program (text_of q.language) ≡ None = ap (language_named K.program) (sym c.text.ensures) ∙ c.in-None.ensures.none in
-    generate-unknown K c.args.form.now q e c.in_ok-parts.ensures.built (names_of (language_in c.in_ok-empty-in-None.empty)) c.in_ok-unknown-in-None.unknown
+    generate-unknown K c.args.form.now q e (names_of (language_in c.in_ok-empty-in-None.empty)) c.in_ok-unknown-in-None.unknown
     c.read_pattern-pat.result c.read_generating-numbers.result c.both-in-None.result c.first_fault.result n c.in_ok-empty-in-None.ensures c.in_ok-unknown-in-None.ensures
     c.read_pattern-pat.ensures.reads c.read_generating-numbers.ensures c.both-in-None.ensures.refused c.first_fault.ensures

@@ -48,4 +48,4 @@ returns c =
     let ss = judgement_stands S ns c.args.d.now (Some f) in
     let e : option_map refusal_of c.in_ok-refusal.refusal ≡ stands_refusal S ns ss =
     c.in_ok-refusal.ensures ∙ (λ i. form_refusal S ns (q i) (o i)) ∙ sym (rules-refused S ns c.args.d.now f) in
-    IfOk-weaker c.refuse_over.result _ _ (λ x h. h S ns ss e ∙ sym (judgement-refused S ns c.args.d.now f c.requires.built c.requires.form)) c.refuse_over.ensures
+    IfOk-weaker c.refuse_over.result _ _ (λ x h. h S ns ss e ∙ sym (judgement-refused S ns c.args.d.now f c.requires.form)) c.refuse_over.ensures

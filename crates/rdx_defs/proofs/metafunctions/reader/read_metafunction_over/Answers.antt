@@ -8,8 +8,6 @@ use Rattle.rdx_lang.specs.Valid.{is_valid_metafunction}
 use Rattle.rdx_patterns.specs.Nonterminals.{names_of}
 use Rattle.rdx_patterns.specs.Parts.{text_of}
 use Rattle.rdx_patterns.specs.Refusal.{refusal_of, unnamed}
-use Rattle.rdx_patterns.specs.Unbuilt.{unbuilt_at}
-use Rattle.rdx_patterns.specs.declared.shape.fault.DefKind.TheVariants.{Unbuilt}
 use Rattle.rdx_patterns.specs.Readable.{IsReadable}
 use Rattle.rdx_defs.specs.Inside.BareForms.{function_stands}
 use Rattle.rdx_defs.specs.Inside.FormOutlines.{clause_branches, contract_patterns, metafunction_outline}
@@ -70,9 +68,8 @@ returns-in-Some-2-clause-reads c =
     let o : outline_of c.in_ok-outline.outline ≡ metafunction_outline m (function_in m) = c.in_ok-outline.ensures ∙ ap (metafunction_outline m) k in
     let q : stands_of c.deref.result.now ≡ function_stands S m (function_in m) =
     ap stands_of c.deref.ensures.value ∙ c.in_ok-found.ensures ∙ ap (function_stands S m) k in
-    let u : unbuilt_at d ≡ None = ap (λ b. if b then Some (unnamed Unbuilt d) else None) (sym c.has_word_to_come.ensures ∙ c.if-has_word_to_come.false) in
     let n : c.args.names.now ≡ names_of L = c.requires.names in
-    metafunction-refused S (names_of L) d m u f
+    metafunction-refused S (names_of L) d m f
     ∙ sym (c.in_ok-refusal-2.ensures S (names_of L) (all_stands.function_stands S (names_of L) m (function_in m))
     (c.in_ok-refusal.ensures ∙ (λ i. form_refusal S (n i) (q i) (o i)) ∙ sym (function-refused S (names_of L) m))) ∙ ap (option_map refusal_of) c.in-Some-2.is
 
@@ -87,10 +84,9 @@ read_parts-requires-clause-branches c =
     let o : outline_of c.in_ok-outline.outline ≡ metafunction_outline m (function_in m) = c.in_ok-outline.ensures ∙ ap (metafunction_outline m) k in
     let q : stands_of c.deref.result.now ≡ function_stands S m (function_in m) =
     ap stands_of c.deref.ensures.value ∙ c.in_ok-found.ensures ∙ ap (function_stands S m) k in
-    let u : unbuilt_at d ≡ None = ap (λ b. if b then Some (unnamed Unbuilt d) else None) (sym c.has_word_to_come.ensures ∙ c.if-has_word_to_come.false) in
     let n : c.args.names.now ≡ names_of L = c.requires.names in
     let e : metafunction_refusal S (names_of L) d ≡ None =
-    metafunction-refused S (names_of L) d m u f
+    metafunction-refused S (names_of L) d m f
     ∙ sym (c.in_ok-refusal-2.ensures S (names_of L) (all_stands.function_stands S (names_of L) m (function_in m))
     (c.in_ok-refusal.ensures ∙ (λ i. form_refusal S (n i) (q i) (o i)) ∙ sym (function-refused S (names_of L) m))) ∙ ap (option_map refusal_of) c.in_default-2.is in
     let x = c.in-Some-function.name.now in
@@ -113,10 +109,9 @@ read_parts-requires-clause-contract c =
     let o : outline_of c.in_ok-outline.outline ≡ metafunction_outline m (function_in m) = c.in_ok-outline.ensures ∙ ap (metafunction_outline m) k in
     let q : stands_of c.deref.result.now ≡ function_stands S m (function_in m) =
     ap stands_of c.deref.ensures.value ∙ c.in_ok-found.ensures ∙ ap (function_stands S m) k in
-    let u : unbuilt_at d ≡ None = ap (λ b. if b then Some (unnamed Unbuilt d) else None) (sym c.has_word_to_come.ensures ∙ c.if-has_word_to_come.false) in
     let n : c.args.names.now ≡ names_of L = c.requires.names in
     let e : metafunction_refusal S (names_of L) d ≡ None =
-    metafunction-refused S (names_of L) d m u f
+    metafunction-refused S (names_of L) d m f
     ∙ sym (c.in_ok-refusal-2.ensures S (names_of L) (all_stands.function_stands S (names_of L) m (function_in m))
     (c.in_ok-refusal.ensures ∙ (λ i. form_refusal S (n i) (q i) (o i)) ∙ sym (function-refused S (names_of L) m))) ∙ ap (option_map refusal_of) c.in_default-2.is in
     let x = c.in-Some-function.name.now in
@@ -137,10 +132,9 @@ read_parts-requires-clause-language c =
     let o : outline_of c.in_ok-outline.outline ≡ metafunction_outline m (function_in m) = c.in_ok-outline.ensures ∙ ap (metafunction_outline m) k in
     let q : stands_of c.deref.result.now ≡ function_stands S m (function_in m) =
     ap stands_of c.deref.ensures.value ∙ c.in_ok-found.ensures ∙ ap (function_stands S m) k in
-    let u : unbuilt_at d ≡ None = ap (λ b. if b then Some (unnamed Unbuilt d) else None) (sym c.has_word_to_come.ensures ∙ c.if-has_word_to_come.false) in
     let n : c.args.names.now ≡ names_of L = c.requires.names in
     let e : metafunction_refusal S (names_of L) d ≡ None =
-    metafunction-refused S (names_of L) d m u f
+    metafunction-refused S (names_of L) d m f
     ∙ sym (c.in_ok-refusal-2.ensures S (names_of L) (all_stands.function_stands S (names_of L) m (function_in m))
     (c.in_ok-refusal.ensures ∙ (λ i. form_refusal S (n i) (q i) (o i)) ∙ sym (function-refused S (names_of L) m))) ∙ ap (option_map refusal_of) c.in_default-2.is in
     (metafunction-has IsReadable IsReadableTaken readable-inherited d m c.requires.readable f).language (metafunction-nameable S (names_of L) d m f e)
@@ -156,10 +150,9 @@ read_parts-requires-clause-name c =
     let o : outline_of c.in_ok-outline.outline ≡ metafunction_outline m (function_in m) = c.in_ok-outline.ensures ∙ ap (metafunction_outline m) k in
     let q : stands_of c.deref.result.now ≡ function_stands S m (function_in m) =
     ap stands_of c.deref.ensures.value ∙ c.in_ok-found.ensures ∙ ap (function_stands S m) k in
-    let u : unbuilt_at d ≡ None = ap (λ b. if b then Some (unnamed Unbuilt d) else None) (sym c.has_word_to_come.ensures ∙ c.if-has_word_to_come.false) in
     let n : c.args.names.now ≡ names_of L = c.requires.names in
     let e : metafunction_refusal S (names_of L) d ≡ None =
-    metafunction-refused S (names_of L) d m u f
+    metafunction-refused S (names_of L) d m f
     ∙ sym (c.in_ok-refusal-2.ensures S (names_of L) (all_stands.function_stands S (names_of L) m (function_in m))
     (c.in_ok-refusal.ensures ∙ (λ i. form_refusal S (n i) (q i) (o i)) ∙ sym (function-refused S (names_of L) m))) ∙ ap (option_map refusal_of) c.in_default-2.is in
     let x = c.in-Some-function.name.now in
@@ -178,10 +171,9 @@ unreachable-requires c =
     let o : outline_of c.in_ok-outline.outline ≡ metafunction_outline m (function_in m) = c.in_ok-outline.ensures ∙ ap (metafunction_outline m) k in
     let q : stands_of c.deref.result.now ≡ function_stands S m (function_in m) =
     ap stands_of c.deref.ensures.value ∙ c.in_ok-found.ensures ∙ ap (function_stands S m) k in
-    let u : unbuilt_at d ≡ None = ap (λ b. if b then Some (unnamed Unbuilt d) else None) (sym c.has_word_to_come.ensures ∙ c.if-has_word_to_come.false) in
     let n : c.args.names.now ≡ names_of L = c.requires.names in
     let e : metafunction_refusal S (names_of L) d ≡ None =
-    metafunction-refused S (names_of L) d m u f
+    metafunction-refused S (names_of L) d m f
     ∙ sym (c.in_ok-refusal-2.ensures S (names_of L) (all_stands.function_stands S (names_of L) m (function_in m))
     (c.in_ok-refusal.ensures ∙ (λ i. form_refusal S (n i) (q i) (o i)) ∙ sym (function-refused S (names_of L) m))) ∙ ap (option_map refusal_of) c.in_default-2.is in
     has-function S (names_of L) d m c.requires.readable f (metafunction-none S (names_of L) d m f e).1 (sym k ∙ ap (option_map (λ y. y.now)) c.in_default-function.is)
@@ -197,10 +189,9 @@ returns-clause-reads c =
     let o : outline_of c.in_ok-outline.outline ≡ metafunction_outline m (function_in m) = c.in_ok-outline.ensures ∙ ap (metafunction_outline m) k in
     let q : stands_of c.deref.result.now ≡ function_stands S m (function_in m) =
     ap stands_of c.deref.ensures.value ∙ c.in_ok-found.ensures ∙ ap (function_stands S m) k in
-    let u : unbuilt_at d ≡ None = ap (λ b. if b then Some (unnamed Unbuilt d) else None) (sym c.has_word_to_come.ensures ∙ c.if-has_word_to_come.false) in
     let n : c.args.names.now ≡ names_of L = c.requires.names in
     let e : metafunction_refusal S (names_of L) d ≡ None =
-    metafunction-refused S (names_of L) d m u f
+    metafunction-refused S (names_of L) d m f
     ∙ sym (c.in_ok-refusal-2.ensures S (names_of L) (all_stands.function_stands S (names_of L) m (function_in m))
     (c.in_ok-refusal.ensures ∙ (λ i. form_refusal S (n i) (q i) (o i)) ∙ sym (function-refused S (names_of L) m))) ∙ ap (option_map refusal_of) c.in_default-2.is in
     let x = c.in-Some-function.name.now in
@@ -222,10 +213,9 @@ returns-clause-valid c =
     let o : outline_of c.in_ok-outline.outline ≡ metafunction_outline m (function_in m) = c.in_ok-outline.ensures ∙ ap (metafunction_outline m) k in
     let q : stands_of c.deref.result.now ≡ function_stands S m (function_in m) =
     ap stands_of c.deref.ensures.value ∙ c.in_ok-found.ensures ∙ ap (function_stands S m) k in
-    let u : unbuilt_at d ≡ None = ap (λ b. if b then Some (unnamed Unbuilt d) else None) (sym c.has_word_to_come.ensures ∙ c.if-has_word_to_come.false) in
     let n : c.args.names.now ≡ names_of L = c.requires.names in
     let e : metafunction_refusal S (names_of L) d ≡ None =
-    metafunction-refused S (names_of L) d m u f
+    metafunction-refused S (names_of L) d m f
     ∙ sym (c.in_ok-refusal-2.ensures S (names_of L) (all_stands.function_stands S (names_of L) m (function_in m))
     (c.in_ok-refusal.ensures ∙ (λ i. form_refusal S (n i) (q i) (o i)) ∙ sym (function-refused S (names_of L) m))) ∙ ap (option_map refusal_of) c.in_default-2.is in
     let x = c.in-Some-function.name.now in

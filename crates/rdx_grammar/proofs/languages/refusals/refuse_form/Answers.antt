@@ -1,15 +1,14 @@
-use Rattle.std.proofs.Common.{◌≡◌, [], ◌∷◌, List, Option, Some, None, sym, ap, ◌∙◌, subst, if◌then◌else◌}
+use Rattle.std.proofs.Common.{◌≡◌, [], ◌∷◌, List, Option, Some, None, sym, ap, ◌∙◌, subst}
 use Rattle.std.specs.Prelude.{option_map, IfOk}
 use Rattle.rdx_grammar.specs.Checks.{bad_names}
 use Rattle.rdx_grammar.specs.Inside.BaseView.{base_in}
 use Rattle.rdx_grammar.specs.Inside.BoundView.{BindNames}
 use Rattle.rdx_grammar.specs.Inside.PartViews.{parts_of}
 use Rattle.rdx_grammar.specs.Inside.StandView.{stands_of}
-use Rattle.rdx_patterns.specs.Refusal.{Refusal, refusal_of, unnamed, named, first_refusal}
+use Rattle.rdx_patterns.specs.Refusal.{Refusal, refusal_of, named, first_refusal}
 use Rattle.rdx_grammar.specs.Refused.{shape_at, duplicate_at, bad_name_at, bad_pattern_at, depth_clash_at, names_over}
 use Rattle.rdx_grammar.specs.Stands.{Stand, form_stands}
-use Rattle.rdx_patterns.specs.Unbuilt.{unbuilt_at}
-use Rattle.rdx_patterns.specs.declared.shape.fault.DefKind.TheVariants.{BadName, Unbuilt}
+use Rattle.rdx_patterns.specs.declared.shape.fault.DefKind.TheVariants.{BadName}
 use Rattle.rdx_patterns.proofs.Firsts.{nothing, none_or, early_of, late_of}
 use Rattle.rdx_grammar.proofs.FormsRead.{form-names}
 use Rattle.rdx_grammar.proofs.NamedForms.{AreNamedIn-passed}
@@ -48,9 +47,7 @@ returns-in-Some c =
     let ns = names_over B g in
     let e : Some (refusal_of c.in-Some.refusal) ≡ early ss =
     sym (ap (option_map refusal_of) c.in-Some.is) ∙ c.in_ok-refusal.ensures ∙ ap early c.requires.stands in
-    let u : unbuilt_at c.args.form.now ≡ None =
-    ap (λ b. if b then Some (unnamed Unbuilt c.args.form.now) else None) (sym c.has_word_to_come.ensures ∙ c.if-has_word_to_come.false) in
-    early_of (unbuilt_at c.args.form.now) (shape_at ss) (duplicate_at ss) (bad_name_at ss) (bad_pattern_at B ns ss ∷ depth_clash_at ns ss ∷ []) (refusal_of c.in-Some.refusal) u e
+    early_of (shape_at ss) (duplicate_at ss) (bad_name_at ss) (bad_pattern_at B ns ss ∷ depth_clash_at ns ss ∷ []) (refusal_of c.in-Some.refusal) e
 
 pub returns : goal.returns
 returns c =
@@ -60,11 +57,9 @@ returns c =
     let ns = names_over B g in
     let r : stands_of c.args.found.now ≡ ss = c.requires.stands in
     let e : early ss ≡ None = ap early (sym r) ∙ sym c.in_ok-refusal.ensures ∙ ap (option_map refusal_of) c.in_default.is in
-    let u : unbuilt_at c.args.form.now ≡ None =
-    ap (λ b. if b then Some (unnamed Unbuilt c.args.form.now) else None) (sym c.has_word_to_come.ensures ∙ c.if-has_word_to_come.false) in
     let n0 : c.in_ok-all.all.items ≡ ns = c.in_ok-all.ensures in
     let n : c.in_ok-names.names ≡ ns = c.in_ok-names.ensures ∙ n0 in
     subst (λ (o : Option Refusal). IfOk c.refuse_late.result (λ r. option_map refusal_of r ≡ o))
     ((λ i. first_refusal (bad_pattern_at B (n i) (r i) ∷ depth_clash_at (n i) (r i) ∷ []))
-    ∙ sym (late_of (unbuilt_at c.args.form.now) (shape_at ss) (duplicate_at ss) (bad_name_at ss) (bad_pattern_at B ns ss ∷ depth_clash_at ns ss ∷ []) u e))
+    ∙ sym (late_of (shape_at ss) (duplicate_at ss) (bad_name_at ss) (bad_pattern_at B ns ss ∷ depth_clash_at ns ss ∷ []) e))
     c.refuse_late.ensures

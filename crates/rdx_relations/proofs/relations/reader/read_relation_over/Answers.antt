@@ -5,8 +5,6 @@ use Rattle.rdx_patterns.specs.Ends.{Gained}
 use Rattle.rdx_patterns.specs.Nonterminals.{names_of}
 use Rattle.rdx_patterns.specs.Readable.{IsReadable}
 use Rattle.rdx_patterns.specs.Refusal.{unnamed}
-use Rattle.rdx_patterns.specs.Unbuilt.{unbuilt_at}
-use Rattle.rdx_patterns.specs.declared.shape.fault.DefKind.TheVariants.{Unbuilt}
 use Rattle.rdx_relations.specs.Expansion.{used_shortcuts, expanded_by, expanded_cases, expanded_form}
 use Rattle.rdx_relations.specs.Inside.FormOutlines.{domain_patterns}
 use Rattle.rdx_relations.specs.Inside.FormViews.{relation_form_of}
@@ -51,14 +49,13 @@ returns-then-is_empty-clause-reads c =
     let d = c.args.form.now in
     let r = relation_form_of c.in-Some.parts in
     let f : relation_form d ≡ Some r = sym c.relation_form.ensures ∙ ap (option_map relation_form_of) c.in-Some.is in
-    let u : unbuilt_at d ≡ None = ap (λ b. if b then Some (unnamed Unbuilt d) else None) (sym c.has_word_to_come.ensures ∙ c.if-has_word_to_come.false) in
     let cut = c.cut_at_with-cut.ensures in
     let cs = c.cut_at_with-cut.result.cases.now in
     let ds = c.cut_at_with-cut.result.shortcuts.now in
     let n = no-data ds c.is_empty.result c.is_empty.ensures c.if-is_empty.true in
     let k = plain-form r cs cut.cases (sym cut.shortcuts ∙ n) in
     let p : RelationForm = record { language = r.language; domain = r.domain; cases = cs } in
-    expanded-reads S (names_of L) d r p ds u f k cut.shortcuts c.args.name.now c.read_expanded.result c.read_expanded.ensures.reads
+    expanded-reads S (names_of L) d r p ds f k cut.shortcuts c.args.name.now c.read_expanded.result c.read_expanded.ensures.reads
 
 pub returns-then-is_empty-clause-gains : goal.returns-then-is_empty-clause-gains
 returns-then-is_empty-clause-gains c =
@@ -108,14 +105,13 @@ returns-clause-reads c =
     let d = c.args.form.now in
     let r = relation_form_of c.in-Some.parts in
     let f : relation_form d ≡ Some r = sym c.relation_form.ensures ∙ ap (option_map relation_form_of) c.in-Some.is in
-    let u : unbuilt_at d ≡ None = ap (λ b. if b then Some (unnamed Unbuilt d) else None) (sym c.has_word_to_come.ensures ∙ c.if-has_word_to_come.false) in
     let cut = c.cut_at_with-cut.ensures in
     let ds = c.cut_at_with-cut.result.shortcuts.now in
     let p : RelationForm = record { language = r.language; domain = r.domain; cases = c.deref.result.now } in
     let made : c.deref.result.now ≡ expanded_cases r =
     c.deref.ensures.value ∙ c.in_ok-expanded.ensures.cases ∙ (λ i. map (λ e. expanded_by (used_shortcuts (cut.shortcuts i)) e (case_form e)) (cut.cases i)) in
     let k : p ≡ expanded_form r = (λ i. record { language = r.language; domain = r.domain; cases = made i }) in
-    expanded-reads S (names_of L) d r p ds u f k cut.shortcuts c.args.name.now c.read_expanded-2.result c.read_expanded-2.ensures.reads
+    expanded-reads S (names_of L) d r p ds f k cut.shortcuts c.args.name.now c.read_expanded-2.result c.read_expanded-2.ensures.reads
 
 pub returns-clause-gains : goal.returns-clause-gains
 returns-clause-gains c =
