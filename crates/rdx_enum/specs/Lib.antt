@@ -1,0 +1,4 @@
+pub mod Pool
+pub mod UpTo
+pub mod Laws
+pub mod Inside
