@@ -1,6 +1,8 @@
 pub mod Pieces
 pub mod Numbers
 pub mod Lines
+pub mod Lasts
+pub mod Listed
 pub mod Rows
 pub mod OneRow
 pub mod OneFile

@@ -5,7 +5,7 @@ use Rattle.rdx_cli.specs.Ends.{Takes, Transcribes}
 use Rattle.rdx_cli.specs.Laws.{OneFile, OneRow, OneTranscript, SaysOne}
 use Rattle.rdx_cli.specs.Transcript.{IsTranscript}
 use Rattle.rdx_cli.specs.declared.transcript.Verdict.{Verdict}
-use Rattle.rdx_cli.specs.Words.{ReadsAs, Row, run, why, step, workload, typeset, format}
+use Rattle.rdx_cli.specs.Words.{ReadsAs, Row, run, why, step, workload, typeset, format, terms}
 
 -- words other than `why` are a row with one transcript
 says_one : (words : List (List ℕ)) (row : Row) → ReadsAs words row → (words ≡ codes "why" ∷ [] → ⊥) → SaysOne row
@@ -15,6 +15,7 @@ says_one words (step cs) r n = tt
 says_one words (workload m) r n = tt
 says_one words typeset r n = tt
 says_one words format r n = tt
+says_one words (terms x k) r n = tt
 
 module _ (one_row : OneRow) (one_file : OneFile) (one_transcript : OneTranscript) where
   -- a row takes the same bytes of what a source has left, and leaves one rest
@@ -26,6 +27,7 @@ module _ (one_row : OneRow) (one_file : OneFile) (one_transcript : OneTranscript
   one_taken (workload n) all bytes other rest last a b = (a.1 ∙ sym b.1, a.0 ∙ sym b.0)
   one_taken typeset all bytes other rest last a b = one_file all bytes other rest last a b
   one_taken format all bytes other rest last a b = one_file all bytes other rest last a b
+  one_taken (terms x k) all bytes other rest last a b = one_file all bytes other rest last a b
 
   pub one_outcome : (words : List (List ℕ)) (all text other : List ℕ) (rest last : Option (List ℕ)) (verdict end : Verdict)
       → (words ≡ codes "why" ∷ [] → ⊥) → Transcribes words (Some all) rest text verdict → Transcribes words (Some all) last other end

@@ -4,10 +4,10 @@ use Rattle.std.specs.Option.{IfSome, IfNone, IsNone}
 use Rattle.std.specs.declared.option.Option.{Option}
 use Rattle.rdx_cli.specs.Ends.{Transcribes}
 use Rattle.rdx_cli.specs.Inside.Rows.{Reads, TakenBy, Writes}
-use Rattle.rdx_cli.specs.Words.{FitsNoRow, run, why, step, workload, typeset, format}
+use Rattle.rdx_cli.specs.Words.{FitsNoRow, run, why, step, workload, typeset, format, terms}
 use Rattle.rdx_cli.specs.declared.transcript.Verdict.{Verdict}
 use Rattle.rdx_cli.specs.declared.words.Row.{Row}
-use Rattle.rdx_cli.specs.declared.words.Row.TheVariants.{Run, Why, Step, Workload, Typeset, Format}
+use Rattle.rdx_cli.specs.declared.words.Row.TheVariants.{Run, Why, Step, Workload, Typeset, Format, Terms}
 
 -- words that are a row of the code fit one of the table
 pub some_row : (words : List (List ℕ)) (row : Row) → Reads words row → FitsNoRow words → ⊥
@@ -19,6 +19,7 @@ some_row words (Step choices) r f =
 some_row words (Workload n) r f = f (workload n) r
 some_row words Typeset r f = f typeset r
 some_row words Format r f = f format r
+some_row words (Terms x k) r f = f (terms x.now k) r
 
 -- so the words fit no row just where none was found
 pub none_fits : (words : List (List ℕ)) (found : Option Row) → IfSome found (λ row. Reads words row) → IfNone found (FitsNoRow words) →
@@ -43,3 +44,4 @@ transcribes words (Step choices) left rest bytes text verdict r t w =
 transcribes words (Workload n) left rest bytes text verdict r t w = record { row = workload n; bytes = bytes; words_are = r; taken = t; transcript = w }
 transcribes words Typeset left rest bytes text verdict r t w = record { row = typeset; bytes = bytes; words_are = r; taken = t; transcript = w }
 transcribes words Format left rest bytes text verdict r t w = record { row = format; bytes = bytes; words_are = r; taken = t; transcript = w }
+transcribes words (Terms x k) left rest bytes text verdict r t w = record { row = terms x.now k; bytes = bytes; words_are = r; taken = t; transcript = w }

@@ -3,7 +3,7 @@ use Rattle.std.specs.Prelude.{◌≡◌, ℕ, List, []}
 use Rattle.std.specs.declared.option.Option.{Option}
 use Rattle.rdx_base.specs.Putting.{Gains, GainsPrefix}
 use Rattle.rdx_cli.specs.Reading.{IsRead}
-use Rattle.rdx_cli.specs.Words.{Row, run, why, step, workload, typeset, format, ReadsAs}
+use Rattle.rdx_cli.specs.Words.{Row, run, why, step, workload, typeset, format, terms, ReadsAs}
 use Rattle.rdx_cli.specs.Transcript.{IsTranscript}
 use Rattle.rdx_cli.specs.declared.transcript.Verdict.{Verdict}
 use Rattle.rdx_cli.specs.declared.transcript.Verdict.TheVariants as verdict
@@ -58,6 +58,7 @@ Takes (step cs) left rest bytes = IsRead left rest bytes
 Takes (workload n) left rest bytes = (rest ≡ left) × (bytes ≡ [])
 Takes typeset left rest bytes = IsRead left rest bytes
 Takes format left rest bytes = IsRead left rest bytes
+Takes (terms x k) left rest bytes = IsRead left rest bytes
 
 -- the words have a row, a file was read where that asks for one, and this is what the row writes for it, with the verdict
 pub record Transcribes (words : List (List ℕ)) (left rest : Option (List ℕ)) (text : List ℕ) (verdict : Verdict) : Type 0 where

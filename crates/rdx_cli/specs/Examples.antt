@@ -3,7 +3,7 @@
 use Rattle.std.specs.Prelude.{ℕ, ◌<◌, List, [], ◌∷◌, length, codes}
 use Rattle.rdx_cli.specs.Transcript.{IsTranscript}
 use Rattle.rdx_cli.specs.declared.transcript.Verdict.TheVariants.{Done, Refused}
-use Rattle.rdx_cli.specs.Words.{run, step, workload, ReadsAs, FitsNoRow}
+use Rattle.rdx_cli.specs.Words.{run, step, workload, terms, ReadsAs, FitsNoRow}
 
 -- ---- files
 
@@ -44,6 +44,10 @@ StepAlone = ReadsAs (codes "step" ∷ []) (step [])
 abbrev pub MostTests : Type 0
 MostTests = ReadsAs (codes "workload" ∷ codes "2000" ∷ []) (workload 2000)
 
+-- the largest size up to which terms are listed: `terms n 40`
+abbrev pub LargestSize : Type 0
+LargestSize = ReadsAs (codes "terms" ∷ codes "n" ∷ codes "40" ∷ []) (terms (codes "n") 40)
+
 -- ---- words that are none
 
 -- no words at all
@@ -65,3 +69,19 @@ NoTests = FitsNoRow (codes "workload" ∷ codes "0" ∷ [])
 -- and 2,000 at most: `workload 2001`
 abbrev pub TooManyTests : Type 0
 TooManyTests = FitsNoRow (codes "workload" ∷ codes "2001" ∷ [])
+
+-- `hole` is no name: `terms hole 5`
+abbrev pub HoleIsNoName : Type 0
+HoleIsNoName = FitsNoRow (codes "terms" ∷ codes "hole" ∷ codes "5" ∷ [])
+
+-- the size is 40 at most: `terms n 41`
+abbrev pub TooLarge : Type 0
+TooLarge = FitsNoRow (codes "terms" ∷ codes "n" ∷ codes "41" ∷ [])
+
+-- it has no zero in front: `terms n 05`
+abbrev pub ZeroBeforeSize : Type 0
+ZeroBeforeSize = FitsNoRow (codes "terms" ∷ codes "n" ∷ codes "05" ∷ [])
+
+-- and it is 1 at least: `terms n 0`
+abbrev pub NoSize : Type 0
+NoSize = FitsNoRow (codes "terms" ∷ codes "n" ∷ codes "0" ∷ [])

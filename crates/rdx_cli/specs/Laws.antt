@@ -7,7 +7,7 @@ use Rattle.rdx_cli.specs.Ends.{Transcribes}
 use Rattle.rdx_cli.specs.Reading.{IsRead}
 use Rattle.rdx_cli.specs.Transcript.{IsTranscript}
 use Rattle.rdx_cli.specs.declared.transcript.Verdict.{Verdict}
-use Rattle.rdx_cli.specs.Words.{Row, run, why, step, workload, typeset, format, ReadsAs}
+use Rattle.rdx_cli.specs.Words.{Row, run, why, step, workload, typeset, format, terms, ReadsAs}
 
 -- words are one row of the table at most
 abbrev pub OneRow : Type 0
@@ -37,6 +37,7 @@ SaysOne (step cs) = Unit {0}
 SaysOne (workload n) = Unit {0}
 SaysOne typeset = Unit {0}
 SaysOne format = Unit {0}
+SaysOne (terms x k) = Unit {0}
 
 -- for each such row of the table a file has one transcript and one verdict at most
 abbrev pub OneTranscript : Type 0

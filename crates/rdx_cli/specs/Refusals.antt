@@ -50,6 +50,10 @@ refusal_line kind p name = place_text kind p ++ name_text name ++ codes "\n"
 abbrev pub read_line : ReadRefusal → List ℕ
 read_line r = refusal_line (read_name r.kind) r.place None
 
+-- the line that says that the last language of a file has not this nonterminal; it has no place
+abbrev pub nonterminal_line : List ℕ → List ℕ
+nonterminal_line x = codes "refused S12 NoNonterminal " ++ x ++ codes "\n"
+
 -- the line of a form that is refused
 abbrev pub form_line : Refusal → List ℕ
 form_line r = refusal_line (form_name r.kind) r.place r.name

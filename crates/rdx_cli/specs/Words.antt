@@ -1,10 +1,11 @@
 -- The table of words: which words of the command line ask for what.
-use Rattle.std.specs.Prelude.{◌≡◌, ◌<◌, ◌≤◌, ℕ, List, [], ◌∷◌, map, codes, decimal, string_bytes, String}
+use Rattle.std.specs.Prelude.{◌≡◌, ◌<◌, ◌≤◌, ℕ, IsTrue, List, [], ◌∷◌, map, codes, decimal, string_bytes, String}
 use Rattle.std.specs.declared.alloc.Global.{Global}
+use Rattle.rdx_term.specs.Spelling.{is_name}
 
 -- a row of the table: to run the file that is read; to run it and explain what is found by derivations; to run it so that walks go by these
--- choices; to run the workload with so many tests; or to
--- typeset the file that is read, or print its data in canonical text
+-- choices; to run the workload with so many tests; to typeset the file that is read, or print its data in canonical text; or to list all terms of this
+-- nonterminal of its last language up to a size
 pub data Row : Type 0 where
   run : Row
   why : Row
@@ -12,6 +13,7 @@ pub data Row : Type 0 where
   workload : ℕ → Row
   typeset : Row
   format : Row
+  terms : List ℕ → ℕ → Row
 
 -- the words as lists of bytes
 abbrev pub texts : List (String Global) → List (List ℕ)
@@ -33,6 +35,13 @@ pub record ReadsAsWorkload (words : List (List ℕ)) (n : ℕ) : Type 0 where
   pub some : 1 ≤ n
   pub few : n ≤ 2000
 
+-- the words are `terms`, this name, which is a symbol spelling other than `hole`, and this number, from 1 to 40, in decimal
+pub record ReadsAsTerms (words : List (List ℕ)) (x : List ℕ) (k : ℕ) : Type 0 where
+  pub words_are : words ≡ codes "terms" ∷ x ∷ decimal k ∷ []
+  pub name : IsTrue (is_name x)
+  pub some : 1 ≤ k
+  pub few : k ≤ 40
+
 -- these words are this row of the table
 abbrev pub ReadsAs : List (List ℕ) → Row → Type 0
 ReadsAs words run = words ≡ codes "run" ∷ []
@@ -41,6 +50,7 @@ ReadsAs words (step choices) = ReadsAsStep words choices
 ReadsAs words (workload n) = ReadsAsWorkload words n
 ReadsAs words typeset = words ≡ codes "typeset" ∷ []
 ReadsAs words format = words ≡ codes "fmt" ∷ []
+ReadsAs words (terms x k) = ReadsAsTerms words x k
 
 -- no row has these words
 abbrev pub FitsNoRow : List (List ℕ) → Type 0

@@ -23,6 +23,8 @@ pub fn one_transcript()
     rdx_query::laws::one_refusal();
     rdx_query::laws::never_both_text_and_refusal();
     rdx_query::laws::never_both_accepted_and_refused();
+    rdx_query::laws::one_meaning();
+    rdx_enum::laws::one_terms();
 }
 
 /// Where a source tells what it has left, words other than `why` ask for one text and one verdict at
@@ -43,6 +45,8 @@ pub fn some_transcript()
     rdx_query::laws::never_neither();
     rdx_query::laws::some_text_or_refusal();
     rdx_query::laws::each_text_is_explained();
+    rdx_query::laws::accepted_is_valid();
+    rdx_enum::laws::some_terms();
 }
 
 /// What is written for `why` is what a run writes, with derivations behind its lines, and the verdict
@@ -61,11 +65,16 @@ pub fn worked_examples()
     ensures long_file_is_refused { example.LongFileIsRefused }
     ensures step_alone { example.StepAlone }
     ensures most_tests { example.MostTests }
+    ensures largest_size { example.LargestSize }
     ensures no_words { example.NoWords }
     ensures words_behind_run { example.WordsBehindRun }
     ensures zero_in_front { example.ZeroInFront }
     ensures no_tests { example.NoTests }
     ensures too_many_tests { example.TooManyTests }
+    ensures hole_is_no_name { example.HoleIsNoName }
+    ensures too_large { example.TooLarge }
+    ensures zero_before_size { example.ZeroBeforeSize }
+    ensures no_size { example.NoSize }
 {
     rdx_sexp::laws::worked_examples();
     rdx_query::laws::worked_examples();

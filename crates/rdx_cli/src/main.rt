@@ -13,6 +13,7 @@ mod contents;
 pub mod laws;
 mod reading;
 mod refusals;
+mod terms;
 #[cfg(test)]
 mod tests;
 mod top;

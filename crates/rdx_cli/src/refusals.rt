@@ -84,6 +84,17 @@ pub fn read_line(alloc: Global, refusal: ReadRefusal) -> Result<Vec<u8>, NoMemor
     Ok(line)
 }
 
+/// The line that says that the last language of a file has not this nonterminal.
+pub fn nonterminal_line(alloc: Global, nt: &str) -> Result<Vec<u8>, NoMemory>
+    ensures { IfOk result (λ line. line.items ≡ refusals.nonterminal_line nt.now) }
+{
+    let mut line = Vec::new(alloc);
+    line.extend_from_slice(b"refused S12 NoNonterminal ")?;
+    line.extend_from_slice(nt.as_bytes())?;
+    line.push(b'\n')?;
+    Ok(line)
+}
+
 /// The line of a form that is refused.
 pub fn form_line(alloc: Global, refusal: &DefRefusal) -> Result<Vec<u8>, NoMemory>
     ensures { IfOk result (λ line. line.items ≡ refusals.form_line (refusal_of refusal.now)) }

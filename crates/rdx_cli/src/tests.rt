@@ -441,6 +441,74 @@ fn walks_go_by_the_choices(rt: HostRuntime) {
     }
 }
 
+const NUMBERS: &str = "(define-language N (n z (s n)))";
+
+const NO_Q: &str = "refused S12 NoNonterminal q\n";
+
+// Words, a file, and what is written: the terms of the last language alone, whatever its queries
+// would answer.
+const LISTED: [(&[&str], &str, Status, &str); 10] = [
+    (
+        &["terms", "n", "5"],
+        NUMBERS,
+        Status::Done,
+        "terms 3\n  z\n  (s z)\n  (s (s z))\n",
+    ),
+    (
+        &["terms", "n", "1"],
+        NUMBERS,
+        Status::Done,
+        "terms 1\n  z\n",
+    ),
+    (
+        &["terms", "p", "3"],
+        "(define-language P (p natural (p p)))",
+        Status::Done,
+        "terms 6\n  0\n  1\n  (0 0)\n  (0 1)\n  (1 0)\n  (1 1)\n",
+    ),
+    (
+        &["terms", "n", "3"],
+        "(define-language M (n 7)) (define-language N (n z (s n)))\n\
+         (redex-match M n (term 7))",
+        Status::Done,
+        "terms 2\n  z\n  (s z)\n",
+    ),
+    (
+        &["terms", "n", "3"],
+        "(define-language E (n (n n)))",
+        Status::Done,
+        "terms 0\n",
+    ),
+    (&["terms", "q", "5"], NUMBERS, Status::Refused, NO_Q),
+    (&["terms", "q", "5"], "", Status::Refused, NO_Q),
+    (
+        &["terms", "q", "5"],
+        "(define-language M (q 7)) (define-language N (n z (s n)))",
+        Status::Refused,
+        NO_Q,
+    ),
+    (
+        &["terms", "n", "5"],
+        "(define-language N (n z (s n))) (redex-match M n (term z))",
+        Status::Refused,
+        "refused S2 UnknownLanguage at 1:46 M\n",
+    ),
+    (
+        &["terms", "n", "5"],
+        "(]",
+        Status::Refused,
+        "refused F3 WrongClose at 1:2\n",
+    ),
+];
+
+#[test]
+fn terms_are_listed(rt: HostRuntime) {
+    for (words, file, status, text) in &LISTED {
+        let wanted = (*status, text.as_bytes());
+        run_on(&rt, words, file.as_bytes(), STEADY, STEADY, wanted);
+    }
+}
+
 // The first call of the source fails, and is still to come behind the run.
 #[test]
 fn the_workload_takes_nothing(rt: HostRuntime) {
@@ -456,7 +524,7 @@ fn the_workload_takes_nothing(rt: HostRuntime) {
 
 // ---- calls of the source and the sink
 
-const UNFIT: [&[&str]; 15] = [
+const UNFIT: [&[&str]; 26] = [
     &[],
     &[""],
     &["trace"],
@@ -472,6 +540,17 @@ const UNFIT: [&[&str]; 15] = [
     &["workload", "2001"],
     &["workload", "01"],
     &["workload", "1", "2"],
+    &["terms"],
+    &["terms", "n"],
+    &["terms", "5"],
+    &["terms", "5", "n"],
+    &["terms", "n", "0"],
+    &["terms", "n", "41"],
+    &["terms", "n", "05"],
+    &["terms", "n", "+5"],
+    &["terms", "hole", "5"],
+    &["terms", "(n)", "5"],
+    &["terms", "n", "5", "5"],
 ];
 
 #[test]

@@ -116,7 +116,8 @@ fn take_for<S: Source>(alloc: Global, row: &Row<'_>, source: &mut S) -> Result<V
         → Rose (S.faults source.old) (S.faults source.new) }
 {
     match row {
-        Row::Run | Row::Why | Row::Step(_) | Row::Typeset | Row::Format => read_file(alloc, source),
+        Row::Run | Row::Why | Row::Step(_) | Row::Typeset | Row::Format | Row::Terms(_, _) =>
+            read_file(alloc, source),
         Row::Workload(_) => Ok(Vec::new(alloc)),
     }
 }

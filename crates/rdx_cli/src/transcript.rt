@@ -5,6 +5,7 @@ ghost use Rattle.rdx_cli.specs.Transcript.{FormatWrites, TypesetWrites, Workload
 
 use crate::contents::{Contents, contents_of};
 use crate::refusals::form_line;
+use crate::terms::terms_transcript;
 use crate::words::{Row, numbers_in};
 use itoa::Buffer;
 use rdx_delta::HostTable;
@@ -54,6 +55,7 @@ pub fn transcript_of(
         Row::Workload(tests) => workload_transcript(alloc, *tests, host),
         Row::Typeset => typeset_transcript(alloc, bytes),
         Row::Format => format_transcript(alloc, bytes),
+        Row::Terms(nt, k) => terms_transcript(alloc, nt, *k, bytes),
     }
 }
 
@@ -153,8 +155,8 @@ fn answered(answers: Answered) -> Transcript
     }
 }
 
-// The transcript that is this text alone.
-fn written(text: Vec<u8>) -> Transcript
+/// The transcript that is this text alone.
+pub fn written(text: Vec<u8>) -> Transcript
     ensures text { result.text.items ≡ text.items }
     ensures verdict { result.verdict ≡ Verdict.Done }
 {
@@ -171,8 +173,8 @@ fn verdict_for(met: bool) -> Verdict
     if met { Verdict::Done } else { Verdict::Unmet }
 }
 
-// The transcript of a refusal, which is this line alone.
-fn refused(line: Vec<u8>) -> Transcript
+/// The transcript of a refusal, which is this line alone.
+pub fn refused(line: Vec<u8>) -> Transcript
     ensures text { result.text.items ≡ line.items }
     ensures verdict { result.verdict ≡ Verdict.Refused }
 {

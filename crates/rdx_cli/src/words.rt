@@ -1,10 +1,10 @@
 // The words of the command line.
-ghost use Rattle.std.specs.Prelude.{◌↔◌, ◌∷◌, ℕ, IfSome, IfNone, IfOk, IsNone, IsTrue};
-ghost use Rattle.rdx_cli.specs.Inside.Rows.{AreNumbers, AreSomeNumbers, IsNoNumber, IsNumber, AreTests, Reads};
+ghost use Rattle.std.specs.Prelude.{◌≤◌, ◌↔◌, ◌∷◌, ℕ, IfSome, IfNone, IfOk, IsNone, IsTrue};
+ghost use Rattle.rdx_cli.specs.Inside.Rows.{AreNumbers, AreSomeNumbers, IsCount, IsNoNumber, IsNumber, Reads};
 ghost use Rattle.rdx_cli.specs.Words.{FitsNoRow, texts};
 
 use itoa::Buffer;
-use rdx_term::NoMemory;
+use rdx_term::{NoMemory, is_spelling};
 use std::alloc::Global;
 
 /// What the words ask for.
@@ -22,6 +22,8 @@ pub enum Row<'a> {
     Typeset,
     /// To write the canonical text of its data.
     Format,
+    /// To write all terms of this nonterminal of its last language up to a size.
+    Terms(&'a str, u32),
 }
 
 // Whether this word is this number, of nine digits at most.
@@ -70,13 +72,14 @@ pub fn numbers_in(alloc: Global, words: &[String]) -> Result<Vec<u64>, NoMemory>
     Ok(numbers)
 }
 
-// How many tests this word asks for, if it does.
-fn tests_in(word: &str) -> Option<u32>
-    ensures some { IfSome result (λ n. AreTests word.now n) }
-    ensures none { IfNone result ((n : ℕ) → AreTests word.now n → ⊥) }
+// The number from 1 to `most` that this word is, if it is one.
+fn count_in(word: &str, most: u32) -> Option<u32>
+    requires { most ≤ 2000 }
+    ensures some { IfSome result (λ n. IsCount word.now most n) }
+    ensures none { IfNone result ((n : ℕ) → IsCount word.now most n → ⊥) }
 {
     match number_in(word) {
-        Some(number) if (1..=2_000).contains(&number) => Some(number),
+        Some(number) if (1..=most).contains(&number) => Some(number),
         Some(_) | None => None,
     }
 }
@@ -90,12 +93,18 @@ fn row_with<'a>(first: &str, others: &'a [String]) -> Option<Row<'a>>
         "run" if others.is_empty() => Some(Row::Run),
         "step" if are_numbers(others) => Some(Row::Step(others)),
         "workload" => match others {
-            [word] => Some(Row::Workload(tests_in(word.as_str())?)),
+            [word] => Some(Row::Workload(count_in(word.as_str(), 2_000)?)),
             _ => None,
         },
         "why" if others.is_empty() => Some(Row::Why),
         "typeset" if others.is_empty() => Some(Row::Typeset),
         "fmt" if others.is_empty() => Some(Row::Format),
+        "terms" => match others {
+            [nt, size] if is_spelling(nt.as_str()) => {
+                Some(Row::Terms(nt.as_str(), count_in(size.as_str(), 40)?))
+            }
+            _ => None,
+        },
         _ => None,
     }
 }

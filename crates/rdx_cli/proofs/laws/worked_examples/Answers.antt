@@ -40,3 +40,18 @@ returns-clause-no_tests c = words.no_tests
 
 pub returns-clause-too_many_tests : goal.returns-clause-too_many_tests
 returns-clause-too_many_tests c = words.too_many_tests
+
+pub returns-clause-largest_size : goal.returns-clause-largest_size
+returns-clause-largest_size c = words.largest_size
+
+pub returns-clause-hole_is_no_name : goal.returns-clause-hole_is_no_name
+returns-clause-hole_is_no_name c = words.hole_is_no_name
+
+pub returns-clause-too_large : goal.returns-clause-too_large
+returns-clause-too_large c = words.too_large
+
+pub returns-clause-zero_before_size : goal.returns-clause-zero_before_size
+returns-clause-zero_before_size c = words.zero_before_size
+
+pub returns-clause-no_size : goal.returns-clause-no_size
+returns-clause-no_size c = words.no_size

@@ -1,11 +1,12 @@
 use Rattle.std.proofs.Common.{◌≡◌, ◌<◌, ◌≤◌, sym, ◌∙◌, arith}
 use Rattle.std.proofs.lemmas.Grind.{common_steps}
 use Rattle.std.proofs.lemmas.Fmt.{decimal_injective}
-use Rattle.rdx_cli.proofs.words.tests_in.Goals as goal
+use Rattle.rdx_cli.proofs.words.count_in.Goals as goal
 
 pub returns-in-Some-2-clause-none : goal.returns-in-Some-2-clause-none
 returns-in-Some-2-clause-none c = λ n h.
-    let few : n ≤ 2000 = h.few in
+    let few : n ≤ c.args.most = h.few in
+    let most : c.args.most ≤ 2000 = c.requires in
     let some : 1 ≤ n = h.some in
     let is = c.in-Some.ensures.some in
     let small : c.in-Some.number < 1000000000 = is.small in
